@@ -1,0 +1,43 @@
+-- The work matrix: rows of bits in a list of bytes, lowest bit first. The bytes of a row, w, are a parameter.
+use Prim.Native.Nat.{ℕ, zero, suc, _+_, _*_, _/_, _%_}
+use mathlib.Core.Bool.{Bool, true, false, cond, not, _&&_, _||_}
+use mathlib.Core.List.{List, [], _∷_}
+use lib.Dec.{ltb}
+use lib.ListN.{length, getD}
+use Rattle.nodes.specs.Bit.{bit}
+use Rattle.nodes.specs.Row.{allBelow}
+use Rattle.solver.specs.System.{System}
+
+-- the bit of row i in column k
+unfoldable pub entryOf : ℕ → List ℕ → ℕ → ℕ → Bool
+entryOf w l i k = bit (getD l (i * w + k / 8) 0) (k % 8)
+
+-- the equations that the first `rows` rows hold
+abbrev pub systemOf : ℕ → List ℕ → ℕ → System
+systemOf w l rows = record { rows = rows; row = λ i. true; column = λ k. true; entry = entryOf w l }
+
+-- the right side of number `side`, behind the coefficient columns
+abbrev pub sideOf : ℕ → List ℕ → ℕ → ℕ → ℕ → Bool
+sideOf w l cols side i = entryOf w l i (cols + side)
+
+-- no row has a bit at or beyond column `width`
+abbrev pub nothingBeyond : ℕ → List ℕ → ℕ → ℕ → Bool
+nothingBeyond w l rows width = allBelow rows (λ i. allBelow (8 * w) (λ k. ltb k width || not (entryOf w l i k)))
+
+-- ---- a row of bits as w bytes
+abbrev pub one : Bool → ℕ
+one true = 1
+one false = 0
+
+-- the number whose digits at the k lowest places are f
+unfoldable pub digits : ℕ → (ℕ → Bool) → ℕ
+digits zero f = 0
+digits (suc k) f = one (f 0) + 2 * digits k (λ i. f (suc i))
+
+-- f 0, f 1, .. f (n - 1)
+unfoldable pub listOf : {A : Type 0} → ℕ → (ℕ → A) → List A
+listOf zero f = []
+listOf (suc n) f = f 0 ∷ listOf n (λ k. f (suc k))
+
+abbrev pub bytesOf : ℕ → (ℕ → Bool) → List ℕ
+bytesOf w x = listOf w (λ q. digits 8 (λ t. x (8 * q + t)))
