@@ -1,0 +1,5 @@
+pub mod Job
+pub mod Branch
+pub mod Search
+pub mod Planes
+pub mod Paulis

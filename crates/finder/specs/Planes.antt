@@ -1,0 +1,26 @@
+-- The search for planes (`find` of gflow.rs).
+use Prim.Native.Nat.{ℕ}
+use mathlib.Core.Bool.{Bool, true, false, not, _&&_, _||_}
+use mathlib.Core.Option.{Option}
+use Rattle.nodes.specs.Row.{anyBelow, allBelow}
+use Rattle.finder.specs.Job.{Job}
+use Rattle.finder.specs.Branch.{Context, tryNode}
+use Rattle.finder.specs.Search.{Progress, start, rounds, found, noNode}
+
+-- Columns: the outputs and solved nodes that are no inputs. Rows: the unsolved nodes.
+abbrev pub context : Job → (ℕ → Bool) → Context
+context j gone = record { column = λ k. gone k && not (j .input k); upper = λ v. not (gone v); lower = noNode }
+
+-- no column exists
+abbrev pub noColumn : Job → (ℕ → Bool) → Bool
+noColumn j gone = not (anyBelow (j .nodes) (context j gone .column))
+
+-- nothing is unsolved or no column exists
+abbrev pub stops : Job → Progress → Bool
+stops j s = allBelow (j .nodes) (s .solved) || noColumn j (s .solved)
+
+abbrev pub try : Job → (ℕ → Bool) → ℕ → Option (ℕ → Bool)
+try j gone u = tryNode j (context j gone) u
+
+abbrev pub find : Job → Option Progress
+find j = found (j .nodes) (rounds (stops j) (try j) (j .nodes) (j .nodes) 1 (start (j .output)))

@@ -1,0 +1,48 @@
+-- The search by rounds, over any way to try a node. All nodes of a round meet the sets as they stood when it began.
+use Prim.Native.Nat.{ℕ, zero, suc, _+_}
+use mathlib.Core.Bool.{Bool, true, false, cond, not, _&&_, _||_}
+use mathlib.Core.Option.{Option, none, some}
+use Rattle.nodes.specs.Row.{anyBelow, allBelow}
+use Rattle.solver.specs.System.{isSome}
+
+-- how far a search has come: the solved nodes, outputs among them, with their layers and sets
+pub record Progress : Type 0 where
+  pub solved : ℕ → Bool
+  pub layer : ℕ → ℕ
+  pub set : ℕ → ℕ → Bool
+
+abbrev pub noNode : ℕ → Bool
+noNode k = false
+
+abbrev pub orNone : Option (ℕ → Bool) → ℕ → Bool
+orNone none = noNode
+orNone (some x) = x
+
+-- outputs have layer 0
+abbrev pub start : (ℕ → Bool) → Progress
+start output = record { solved = output; layer = λ u. 0; set = λ u. noNode }
+
+-- u is solved in the round that begins with s
+abbrev pub solvedNow : (ℕ → Option (ℕ → Bool)) → Progress → ℕ → Bool
+solvedNow try s u = not (s .solved u) && isSome (try u)
+
+-- round r: solved nodes take the round as layer
+abbrev pub round : (ℕ → Option (ℕ → Bool)) → ℕ → Progress → Progress
+round try r s = record {
+  solved = λ u. s .solved u || solvedNow try s u;
+  layer = λ u. cond (solvedNow try s u) r (s .layer u);
+  set = λ u. cond (solvedNow try s u) (orNone (try u)) (s .set u);
+}
+
+-- Rounds from r on. A search ends where it `stops` or where a round solves nothing; that it never ends by the bound on
+-- their number is a law (rounds-end). `try gone u` tries u when the nodes `gone` are solved.
+unfoldable pub rounds : (Progress → Bool) → ((ℕ → Bool) → ℕ → Option (ℕ → Bool)) → ℕ → ℕ → ℕ → Progress → Progress
+rounds stops try n zero r s = s
+rounds stops try n (suc bound) r s =
+    let on = rounds stops try n bound (r + 1) (round (try (s .solved)) r s) in
+    let here = cond (anyBelow n (solvedNow (try (s .solved)) s)) on s in
+    cond (stops s) s here
+
+-- a node still unsolved at the end means no flow
+abbrev pub found : ℕ → Progress → Option Progress
+found n s = cond (allBelow n (s .solved)) (some s) none
