@@ -1,0 +1,9 @@
+pub mod Answer
+pub mod Records
+pub mod JobFile
+pub mod FlowFile
+pub mod Verdict
+pub mod Calls
+pub mod Programs
+pub mod Published
+pub mod Demand

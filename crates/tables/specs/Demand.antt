@@ -1,0 +1,54 @@
+-- Demand 3 as one proposition about the calls, over all jobs and all flows, both modes.
+use Prim.Native.Nat.{ℕ, _≤_, _<_}
+use mathlib.Core.Path.{_≡_}
+use mathlib.Core.Bool.{Bool, true, false, cond, not, _&&_, _||_}
+use mathlib.Core.List.{List, [], _∷_, _++_}
+use mathlib.Core.Logic.{_↔_, _⊎_}
+use lib.Dec.{T, eqb, leb}
+use lib.ListN.{getD, take}
+use Rattle.nodes.specs.Row.{anyBelow, allBelow, count}
+use Rattle.finder.specs.Job.{Job, planeYZ, isXorY, isYorZ}
+use Rattle.tables.specs.Answer.{Answer, gives}
+use Rattle.tables.specs.Records.{written, kindNoFlow}
+use Rattle.tables.specs.JobFile.{JobFile, readJob, jobOf, measuredOf, modePlanes}
+use Rattle.tables.specs.FlowFile.{FlowFile, readFlow}
+use Rattle.tables.specs.Calls.{findCall, verifyAsks}
+
+-- planes: some output is no input, or no node is measured in YZ
+abbrev pub planesPremise : Job → Bool
+planesPremise j =
+    anyBelow (j .nodes) (λ k. j .output k && not (j .input k)) || allBelow (j .nodes) (λ k. not (eqb (j .measured k) planeYZ))
+
+-- Paulis: two or more non-inputs are measured in X or Y, or no node at all in YZ, Y or Z
+abbrev pub paulisPremise : Job → Bool
+paulisPremise j =
+    leb 2 (count (j .nodes) (λ k. not (j .input k) && isXorY (j .measured k)))
+    || allBelow (j .nodes) (λ k. not (eqb (j .measured k) planeYZ || isYorZ (j .measured k)))
+
+abbrev pub premise : JobFile → Bool
+premise f = cond (eqb (measuredOf f .mode) modePlanes) (planesPremise (jobOf f)) (paulisPremise (jobOf f))
+
+-- a flow is accepted for a job: no question of the verifier, the writer's aside, is answered no
+abbrev pub Accepted : (job flow : List ℕ) → Type 0
+Accepted job flow = verifyAsks (job ++ flow) ≡ gives true
+
+-- the bytes are a flow file for n nodes, and nothing else
+abbrev pub FlowBytes : ℕ → List ℕ → FlowFile → Type 0
+FlowBytes n bytes g = (readFlow n bytes ≡ gives g) × (g .after ≡ [])
+
+-- a node's layer in a flow is its number in the layers record
+abbrev pub layerIn : FlowFile → ℕ → ℕ
+layerIn g u = getD (g .layers) u 0
+
+-- of a finder's call that gave `wrote` bytes for the job that file holds
+pub record DemandHolds (file : List ℕ) (job : JobFile) (wrote : List ℕ) : Type 0 where
+  pub flowOrNone : ((g : FlowFile) × FlowBytes (job .n) wrote g) ⊎ (wrote ≡ written kindNoFlow [])
+  pub accepts : (g : FlowFile) → FlowBytes (job .n) wrote g → Accepted file wrote
+  pub earliest : T (premise job) → (other : List ℕ) → Accepted file other
+      → (g h : FlowFile) × FlowBytes (job .n) wrote g × FlowBytes (job .n) other h × ((u : ℕ) → u < job .n → layerIn g u ≤ layerIn h u)
+  pub noFlow : T (premise job) → (wrote ≡ written kindNoFlow [] ↔ ((other : List ℕ) → Accepted file other → ⊥))
+
+-- Wherever no question refuses the finder's call, 20 included: the bytes written are the first `k` of the result buffer.
+abbrev pub Demand3 : Type 0
+Demand3 = (file work out : List ℕ) (k : ℕ) → findCall file work out .answer ≡ gives k
+    → (job : JobFile) × (readJob file ≡ gives job) × DemandHolds file job (take k (findCall file work out .out))

@@ -1,0 +1,32 @@
+-- The two programs: what each writes for the bytes of its standard input.
+use Prim.Native.Nat.{ℕ, _*_, _+_}
+use mathlib.Core.List.{List, [], _∷_}
+use lib.ListN.{take}
+use Rattle.tables.specs.Answer.{Refusal, Answer, gives, refuses}
+use Rattle.tables.specs.Records.{written, headBytes, kindAccepted, kindRefusal}
+use Rattle.tables.specs.JobFile.{JobFile, mostNodes}
+use Rattle.tables.specs.Calls.{workBytes, zeros, foundBytes, findAsks, verifyAsks}
+
+-- each judges the first 65,536 bytes
+abbrev pub judgedBytes : ℕ
+judgedBytes = 65536
+
+-- 001F: refusal number, a, b
+abbrev pub refusalBytes : Refusal → List ℕ
+refusalBytes r = written kindRefusal (r .number ∷ r .a ∷ r .b ∷ [])
+
+abbrev pub findOutput : Answer JobFile → List ℕ
+findOutput (gives f) = foundBytes f
+findOutput (refuses r) = refusalBytes r
+
+-- a flow file, 0013 or 001F
+unfoldable pub findProgram : List ℕ → List ℕ
+findProgram input = findOutput (findAsks (take judgedBytes input) (zeros workBytes))
+
+abbrev pub verifyOutput : {A : Type 0} → Answer A → List ℕ
+verifyOutput (gives b) = written kindAccepted []
+verifyOutput (refuses r) = refusalBytes r
+
+-- 0014 or 001F
+unfoldable pub verifyProgram : List ℕ → List ℕ
+verifyProgram input = verifyOutput (verifyAsks (take judgedBytes input))
