@@ -1,2 +1,2 @@
-pub mod Base
 pub mod System
+pub mod Reduced
