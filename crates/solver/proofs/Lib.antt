@@ -1,2 +1,3 @@
 pub mod System
 pub mod Reduced
+pub mod Elimination

@@ -12,7 +12,19 @@ use Rattle.nodes.specs.Row.{parity, dot, anyBelow, lowest}
 use Rattle.solver.specs.System.{System, sum, Solves, Dependent, Avoids, Answer, isSome, solve, pivot}
 use Rattle.solver.specs.Reduced.{lead, Reduced, contradicts, leads, readOff}
 use Rattle.nodes.proofs.Logic.{
-  is-true, is-false, from-true, both-ways, dec, and-l, and-r, and-in, eqb-no, eqb-yes, beq-eq, and-none, and-all, 
+  is-true,
+  is-false,
+  from-true,
+  both-ways,
+  dec,
+  and-l,
+  and-r,
+  and-in,
+  eqb-no,
+  eqb-yes,
+  beq-eq,
+  and-none,
+  and-all,
 }
 use Rattle.nodes.proofs.Row.{parity-ext, parity-none, parity-one, any-in, any-out, any-ext, ltb-yes}
 use Rattle.nodes.proofs.Members.{lowest-le, lowest-none, lowest-here, lowest-unique}

@@ -11,7 +11,24 @@ use Rattle.nodes.specs.Bit.{_⊕_}
 use Rattle.nodes.specs.Row.{parity, allBelow}
 use Rattle.solver.specs.System.{System, sum, Solves, Dependent, Avoids, Answer, isSome, firstOf, taking, emptySum, solve, pivot}
 use Rattle.nodes.proofs.Logic.{
-  is-true, is-false, from-true, dec, and-l, and-r, and-in, not-in, not-out, eqb-no, eqb-yes, beq-eq, and-none, ⊕-none, ⊕-self, ⊕-eq, ⊕-comm, ⊕-assoc,
+  is-true,
+  is-false,
+  from-true,
+  dec,
+  and-l,
+  and-r,
+  and-in,
+  not-in,
+  not-out,
+  eqb-no,
+  eqb-yes,
+  beq-eq,
+  and-none,
+  ⊕-none,
+  ⊕-self,
+  ⊕-eq,
+  ⊕-comm,
+  ⊕-assoc,
 }
 use Rattle.nodes.proofs.Row.{parity-ext, parity-⊕, all-in, all-out}
 
