@@ -1,18 +1,16 @@
 -- A system and its packed matrix have the same answer, and the same pivots: row v stands there in row count v, column k in
 -- column count k.
-use Prim.Native.Nat.{ℕ, zero, suc, _+_, _≤_, _<_}
-use mathlib.Core.Path.{_≡_, refl, sym, ap, ap₂, _∙_}
-use mathlib.Core.Bool.{Bool, true, false, cond, not, _&&_}
+use Prim.Native.Nat.{ℕ, _≤_, _<_}
+use mathlib.Core.Path.{_≡_, sym, ap, ap₂, _∙_}
+use mathlib.Core.Bool.{Bool, _&&_}
 use mathlib.Core.Option.{Option, none, some}
-use mathlib.Core.Logic.{_⊎_, inl, inr, _≢_}
+use mathlib.Core.Logic.{_⊎_, inl, inr}
 use native.Mathlib.Omega.{arith}
 use native.Mathlib.Nat.{le-refl}
-use lib.Dec.{T, eqb, ltb, ltb→lt}
-use lib.ListN.{getD}
-use Rattle.nodes.specs.Bit.{_⊕_}
-use Rattle.nodes.specs.Row.{parity, dot, count, members}
-use Rattle.solver.specs.System.{System, sum, Solves, Dependent, Avoids, Answer, solve, pivot}
-use Rattle.solver.specs.Packed.{rowAt, columnAt, packedMatrix, packedSide, spread, spreadAll}
+use lib.Dec.{T, ltb, ltb→lt}
+use Rattle.nodes.specs.Row.{dot, count}
+use Rattle.solver.specs.System.{System, sum, Solves, Dependent, solve, pivot}
+use Rattle.solver.specs.Packed.{packedMatrix, packedSide, spread, spreadAll}
 use Rattle.nodes.proofs.Logic.{is-true, is-false, dec, and-l, and-r, beq-eq}
 use Rattle.nodes.proofs.Row.{parity-ext, ltb-yes}
 use Rattle.nodes.proofs.Count.{rank-lt, rank-sur, rank-sum, ranked, ranked-at}
@@ -64,7 +62,7 @@ module _ (s : System) (n : ℕ) (m : ℕ → ℕ → Bool)
   depends-back k l t (x, q) = (spread s n x, from-small k (λ i. s .entry i k) (λ i. m i (count k (s .column))) x (omega arith) (λ v g r. agrees v k g l r t) q)
 
   -- a column at hand is a pivot in both or in none
-  pub spread-pivot : (k : ℕ) → k < n → T (s .column k) → pivot s k ≡ pivot small (count k (s .column))
+  pub spread-pivot : (k : ℕ) → k < n → T (s .column k) → pivot s k ≡ pivot (plain (count (s .rows) (s .row)) m) (count k (s .column))
   spread-pivot k l t =
       beq-eq (pivot s k) (pivot small (count k (s .column)))
       (λ p. pivot-in small (count k (s .column)) tt (λ d. pivot-out s k p .1 (depends-back k l t d)))
