@@ -92,6 +92,7 @@ packed-entry s n v k l h t u = ap₂ (s .entry) (members-at (s .rows) (s .row) 0
 pub packed-side : (s : System) (b : ℕ → Bool) (v : ℕ) → v < s .rows → T (s .row v) → packedSide s b (count v (s .row)) ≡ b v
 packed-side s b v l t = ap b (members-at (s .rows) (s .row) 0 v l t)
 
+-- so the system is solved by its packed matrix, and what is found put back at the columns of the system
 pub packed-answer : (s : System) (n : ℕ) (b : ℕ → Bool)
     → solve s n b ≡ spreadAll s n (solve (plain (count (s .rows) (s .row)) (packedMatrix s n)) (count n (s .column)) (packedSide s b))
 packed-answer s n b = spread-answer s n (packedMatrix s n) (packed-entry s n) b (packedSide s b) (packed-side s b)

@@ -28,7 +28,7 @@ pub reduced-fewer : (r k n : ℕ) (m : ℕ → ℕ → Bool) → k ≤ n → Red
 reduced-fewer r k n m h red i q a b d l = let e : lead m n i ≡ lead m k i = lead-more m k n i h l in rw e at (red i q a b d (rw e (omega arith)))
 
 module _ (r n : ℕ) (m : ℕ → ℕ → Bool) (red : Reduced r n m) (d : ℕ → Bool) where
-  -- the row that begins at a column, where two rows may not
+  -- a column that is read off is where a row begins that asks for 1
   begins : (k : ℕ) → T (leads r n m d k) → (i : ℕ) × (i < r) × T (d i) × (lead m n i ≡ k)
   begins k t =
       let (i, l, h) = any-out r (λ i. d i && eqb (lead m n i) k) (and-r (ltb k n) (anyBelow r (λ i. d i && eqb (lead m n i) k)) t) in
@@ -97,9 +97,11 @@ module _ (r n : ℕ) (m : ℕ → ℕ → Bool) (red : Reduced r n m) (d : ℕ �
       avoid j (y, q) (i, l, u, a) h =
           both-ways (m i j) (rw a at (lowest-here n (m i) (rw a h))) (sym (q i l tt) ∙ parity-none j (λ k. m i k && y k) (λ k g. rw (lowest-none n (m i) k (rw a g))))
 
+  -- what is read off is the answer, or that there is none
   pub read-off : readOff r n m d ≡ solve (plain r m) n d
   read-off = sym (solve-is (plain r m) n d (readOff r n m d) (read-right (contradicts r n m d) refl))
 
+-- a column is a pivot exactly if some row begins there
 pub pivots-lead : (r n : ℕ) (m : ℕ → ℕ → Bool) → Reduced r n m → (k : ℕ) → k < n → pivot (plain r m) k ≡ anyBelow r (λ i. eqb (lead m n i) k)
 pivots-lead r n m red k l =
     ap (λ o. not (isSome o)) (sym (read-off r k m (reduced-fewer r k n m (omega arith) red) (λ i. m i k)))
