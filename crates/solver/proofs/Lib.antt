@@ -1,2 +1,4 @@
 pub mod System
 pub mod Reduced
+pub mod Elimination
+pub mod Packed

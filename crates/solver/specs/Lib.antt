@@ -1,3 +1,4 @@
 pub mod System
 pub mod Reduced
 pub mod WorkMatrix
+pub mod Packed
