@@ -5,7 +5,7 @@ use mathlib.Core.Option.{Option, none, some}
 use lib.Dec.{eqb, ltb}
 use Rattle.nodes.specs.Bit.{_⊕_}
 use Rattle.nodes.specs.Row.{anyBelow}
-use Rattle.finder.specs.Job.{Job, odd, planeXY, planeYZ, planeXZ, pauliX, pauliY, pauliZ, isXorY, isYorZ}
+use Rattle.finder.specs.Job.{Job, odd, own, pauliY, isXorY, isYorZ}
 use Rattle.tables.specs.Answer.{Refusal}
 use Rattle.tables.specs.JobFile.{modeCausal, modePauli}
 use Rattle.tables.specs.FlowFile.{Flow}
@@ -27,16 +27,6 @@ eachFrom i (suc k) f = let rest = eachFrom (i + 1) k f in f i next rest
 
 abbrev pub each : ℕ → (ℕ → Option Refusal) → Option Refusal
 each n f = eachFrom 0 n f
-
--- a node's own measurement, from whether it is in its set and in Odd
-unfoldable pub own : ℕ → Bool → Bool → Bool
-own m s o =
-    cond (eqb m planeXY) (not s && o)
-    (cond (eqb m planeYZ) (s && not o)
-    (cond (eqb m planeXZ) (s && o)
-    (cond (eqb m pauliX) o
-    (cond (eqb m pauliY) (s ⊕ o)
-    (cond (eqb m pauliZ) s false)))))
 
 module _ (j : Job) (f : Flow) where
   -- ---- questions on sets

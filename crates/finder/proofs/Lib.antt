@@ -1,0 +1,3 @@
+pub mod Branch
+pub mod Search
+pub mod Conditions

@@ -1,0 +1,303 @@
+-- The search by rounds: it ends by its own rule, what it solves was solved by a try at its layer, and no layering is earlier.
+use Prim.Native.Nat.{ℕ, zero, suc, _+_, _≤_, _<_, zero-le}
+use mathlib.Core.Path.{_≡_, refl, sym, ap, _∙_}
+use mathlib.Core.Bool.{Bool, true, false, cond, not, _&&_, _||_}
+use mathlib.Core.Logic.{_⊎_, inl, inr, _≢_}
+use mathlib.Core.Option.{Option, none, some, Option·some-injective, Option·none-ne-some}
+use native.Mathlib.Omega.{arith}
+use native.Mathlib.Nat.{not-suc-le-zero, le-step, lt-suc-self, le-of-suc-le-suc}
+use native.Mathlib.Numerals.{add-one}
+use lib.Dec.{T, ltb, ltb→lt, lt→ltb}
+use Rattle.nodes.specs.Row.{anyBelow, allBelow, count}
+use Rattle.nodes.proofs.Logic.{is-true, is-false, from-true, from-false, dec, and-l, and-r, and-in, or-l, or-r, or-out, or-none, not-in, not-out, cond-t, cond-f, beq-eq, le-or-lt, and-none}
+use Rattle.nodes.proofs.Row.{any-in, any-out, any-none, ltb-yes, ltb-no}
+use Rattle.nodes.proofs.Count.{Within, count-le, count-pos, grows}
+use Rattle.solver.specs.System.{isSome}
+use Rattle.finder.specs.Search.{Progress, noNode, orNone, start, solvedNow, round, rounds}
+
+abbrev pub never : Progress → Bool
+never s = false
+
+some-of : (o : Option (ℕ → Bool)) → T (isSome o) → o ≡ some (orNone o)
+some-of none t = absurd t
+some-of (some x) t = refl
+
+fresh-open : (try : ℕ → Option (ℕ → Bool)) (s : Progress) (u : ℕ) → T (s .solved u) → T (solvedNow try s u) → ⊥
+fresh-open try s u t f = not-out (s .solved u) (and-l (not (s .solved u)) (isSome (try u)) f) t
+
+-- ---- how a search goes on
+module _ (stops : Progress → Bool) (try : (ℕ → Bool) → ℕ → Option (ℕ → Bool)) (n : ℕ) where
+  abbrev after : ℕ → Progress → Progress
+  after r s = round (try (s .solved)) r s
+
+  -- it ended where it stops or where a round solves nothing
+  abbrev pub Ended : Progress → Type 0
+  Ended s = T (stops s) ⊎ (anyBelow n (solvedNow (try (s .solved)) s) ≡ false)
+
+  -- one step: an end, or a round and the rest
+  pub rounds-step : (k r : ℕ) (s : Progress) → (Ended s × (rounds stops try n (suc k) r s ≡ s))
+      ⊎ (T (anyBelow n (solvedNow (try (s .solved)) s)) × (rounds stops try n (suc k) r s ≡ rounds stops try n k (r + 1) (after r s)))
+  unfolding rounds
+  rounds-step k r s = go (dec (stops s)) (dec (anyBelow n (solvedNow (try (s .solved)) s)))
+    where
+      go : T (stops s) ⊎ (T (stops s) → ⊥) → T (anyBelow n (solvedNow (try (s .solved)) s)) ⊎ (T (anyBelow n (solvedNow (try (s .solved)) s)) → ⊥)
+          → (Ended s × (cond (stops s) s (cond (anyBelow n (solvedNow (try (s .solved)) s)) (rounds stops try n k (r + 1) (after r s)) s) ≡ s))
+          ⊎ (T (anyBelow n (solvedNow (try (s .solved)) s))
+          × (cond (stops s) s (cond (anyBelow n (solvedNow (try (s .solved)) s)) (rounds stops try n k (r + 1) (after r s)) s) ≡ rounds stops try n k (r + 1) (after r s)))
+      go (inl t) d = inl (inl t, rw (is-true (stops s) t))
+      go (inr f) (inl t) = inr (t, rw (is-false (stops s) f, is-true (anyBelow n (solvedNow (try (s .solved)) s)) t))
+      go (inr f) (inr g) =
+          inl (inr (is-false (anyBelow n (solvedNow (try (s .solved)) s)) g), rw (is-false (stops s) f, is-false (anyBelow n (solvedNow (try (s .solved)) s)) g))
+
+  -- a round that solves some node leaves fewer unsolved
+  pub fewer : (r : ℕ) (s : Progress) → T (anyBelow n (solvedNow (try (s .solved)) s)) → count n (λ u. not (after r s .solved u)) < count n (λ u. not (s .solved u))
+  fewer r s t = go (grows n (λ u. not (after r s .solved u)) (λ u. not (s .solved u)) less)
+    where
+      less : Within n (λ u. not (after r s .solved u)) (λ u. not (s .solved u))
+      less v l a = not-in (s .solved v) (λ b. not-out (after r s .solved v) a (or-l (s .solved v) (solvedNow (try (s .solved)) s v) b))
+
+      go : (count n (λ u. not (after r s .solved u)) < count n (λ u. not (s .solved u)))
+          ⊎ ((count n (λ u. not (after r s .solved u)) ≡ count n (λ u. not (s .solved u))) × Within n (λ u. not (s .solved u)) (λ u. not (after r s .solved u)))
+          → count n (λ u. not (after r s .solved u)) < count n (λ u. not (s .solved u))
+      go (inl a) = a
+      go (inr (e, w)) =
+          let (u, l, f) = any-out n (solvedNow (try (s .solved)) s) t in
+          absurd (not-out (after r s .solved u) (w u l (and-l (not (s .solved u)) (isSome (try (s .solved) u)) f)) (or-r (s .solved u) (solvedNow (try (s .solved)) s u) f))
+
+  none-left : (s : Progress) → count n (λ u. not (s .solved u)) ≤ 0 → (u : ℕ) → u < n → T (s .solved u)
+  none-left s c u l = go (dec (s .solved u))
+    where
+      none-of : (a : ℕ) → 0 < a → a ≤ 0 → ⊥
+      none-of a p q = omega arith
+
+      go : T (s .solved u) ⊎ (T (s .solved u) → ⊥) → T (s .solved u)
+      go (inl t) = t
+      go (inr f) = absurd (none-of (count n (λ u. not (s .solved u))) (count-pos n (λ u. not (s .solved u)) u l (not-in (s .solved u) f)) c)
+
+  -- the bound on rounds is never what ends a search
+  pub rounds-end : (k r : ℕ) (s : Progress) → count n (λ u. not (s .solved u)) ≤ k → Ended (rounds stops try n k r s)
+  unfolding rounds
+  rounds-end zero r s c = inr (any-none n (solvedNow (try (s .solved)) s) (λ u l t. fresh-open (try (s .solved)) s u (none-left s c u l) t))
+  rounds-end (suc k) r s c = go (rounds-step k r s) (rounds-end k)
+    where
+      go : (Ended s × (rounds stops try n (suc k) r s ≡ s))
+          ⊎ (T (anyBelow n (solvedNow (try (s .solved)) s)) × (rounds stops try n (suc k) r s ≡ rounds stops try n k (r + 1) (after r s)))
+          → ((r : ℕ) (s : Progress) → count n (λ u. not (s .solved u)) ≤ k → Ended (rounds stops try n k r s)) → Ended (rounds stops try n (suc k) r s)
+      go (inl (e, p)) ih = rw p e
+      go (inr (t, p)) ih = let l = fewer r s t in rw p (ih (r + 1) (after r s) (omega arith))
+
+-- A search that stops is a search whose tries give nothing there.
+pub rounds-pass : (stops : Progress → Bool) (try pass : (ℕ → Bool) → ℕ → Option (ℕ → Bool)) (n : ℕ)
+    → ((s : Progress) → T (stops s) → anyBelow n (solvedNow (pass (s .solved)) s) ≡ false)
+    → ((s : Progress) → (T (stops s) → ⊥) → pass (s .solved) ≡ try (s .solved))
+    → (k r : ℕ) (s : Progress) → rounds stops try n k r s ≡ rounds never pass n k r s
+unfolding rounds
+rounds-pass stops try pass n idle same zero r s = refl
+rounds-pass stops try pass n idle same (suc k) r s = go (dec (stops s)) (rounds-pass stops try pass n idle same k)
+  where
+    go : T (stops s) ⊎ (T (stops s) → ⊥) → ((r : ℕ) (s : Progress) → rounds stops try n k r s ≡ rounds never pass n k r s)
+        → cond (stops s) s (cond (anyBelow n (solvedNow (try (s .solved)) s)) (rounds stops try n k (r + 1) (round (try (s .solved)) r s)) s)
+        ≡ cond (anyBelow n (solvedNow (pass (s .solved)) s)) (rounds never pass n k (r + 1) (round (pass (s .solved)) r s)) s
+    go (inl t) ih = rw (is-true (stops s) t, idle s t)
+    go (inr f) ih = rw (is-false (stops s) f, same s f, ih (r + 1) (round (try (s .solved)) r s))
+
+-- ---- what is solved was solved by a try
+module _ (n : ℕ) (output : ℕ → Bool) (try : (ℕ → Bool) → ℕ → Option (ℕ → Bool)) where
+  -- u's set is what a try gave it when just the solved nodes of smaller layers were gone
+  pub record Tried (s : Progress) (u : ℕ) : Type 0 where
+    pub gone : ℕ → Bool
+    pub earlier : (v : ℕ) → v < n → gone v ≡ (s .solved v && ltb (s .layer v) (s .layer u))
+    pub gave : try gone u ≡ some (s .set u)
+
+  -- the progress before round r
+  pub record Searched (r : ℕ) (s : Progress) : Type 0 where
+    pub outputs : (u : ℕ) → T (output u) → T (s .solved u)
+    pub output-layer : (u : ℕ) → T (output u) → s .layer u ≡ 0
+    pub output-set : (u : ℕ) → T (output u) → s .set u ≡ noNode
+    pub below : (u : ℕ) → u < n → T (s .solved u) → s .layer u < r
+    pub tried : (u : ℕ) → u < n → (T (output u) → ⊥) → T (s .solved u) → Tried s u
+
+  -- round r, in which the nodes that are gone are those of smaller layers
+  module _ (gone : ℕ → Bool) (r : ℕ) (s : Progress) (g : Searched (suc r) s) (past : (v : ℕ) → v < n → gone v ≡ (s .solved v && ltb (s .layer v) r)) where
+    abbrev next : Progress
+    next = round (try gone) r s
+
+    kept-layer : (u : ℕ) → T (s .solved u) → next .layer u ≡ s .layer u
+    kept-layer u t = cond-f (solvedNow (try gone) s u) r (s .layer u) (fresh-open (try gone) s u t)
+
+    kept-set : (u : ℕ) → T (s .solved u) → next .set u ≡ s .set u
+    kept-set u t = cond-f (solvedNow (try gone) s u) (orNone (try gone u)) (s .set u) (fresh-open (try gone) s u t)
+
+    new-layer : (u : ℕ) → T (solvedNow (try gone) s u) → next .layer u ≡ r
+    new-layer u f = cond-t (solvedNow (try gone) s u) r (s .layer u) f
+
+    new-set : (u : ℕ) → T (solvedNow (try gone) s u) → next .set u ≡ orNone (try gone u)
+    new-set u f = cond-t (solvedNow (try gone) s u) (orNone (try gone u)) (s .set u) f
+
+    still : (v : ℕ) → T (s .solved v) → T (next .solved v)
+    still v t = or-l (s .solved v) (solvedNow (try gone) s v) t
+
+    -- nodes of layers below l, which is at most r, are as they were
+    same-past : (l v : ℕ) → l ≤ r → (next .solved v && ltb (next .layer v) l) ≡ (s .solved v && ltb (s .layer v) l)
+    same-past l v h = go (dec (s .solved v)) (dec (solvedNow (try gone) s v))
+      where
+        go : T (s .solved v) ⊎ (T (s .solved v) → ⊥) → T (solvedNow (try gone) s v) ⊎ (T (solvedNow (try gone) s v) → ⊥)
+            → (next .solved v && ltb (next .layer v) l) ≡ (s .solved v && ltb (s .layer v) l)
+        go (inl t) d = rw (kept-layer v t, is-true (s .solved v) t)
+        go (inr f) (inl q) = rw (new-layer v q, ltb-no r l h, and-none (next .solved v), is-false (s .solved v) f)
+        go (inr f) (inr m) = rw (is-false (solvedNow (try gone) s v) m, is-false (s .solved v) f)
+
+    pub step : Searched (suc r) next
+    step = record {
+      outputs = λ u o. still u (g .outputs u o);
+      output-layer = λ u o. kept-layer u (g .outputs u o) ∙ g .output-layer u o;
+      output-set = λ u o. kept-set u (g .outputs u o) ∙ g .output-set u o;
+      below = λ u l t. below′ u l (or-out (s .solved u) (solvedNow (try gone) s u) t);
+      tried = λ u l o t. tried′ u l o (or-out (s .solved u) (solvedNow (try gone) s u) t);
+    }
+      where
+        below′ : (u : ℕ) → u < n → T (s .solved u) ⊎ T (solvedNow (try gone) s u) → next .layer u < suc r
+        below′ u l (inl t) = rw (kept-layer u t) (g .below u l t)
+        below′ u l (inr f) = rw (new-layer u f) (lt-suc-self r)
+
+        tried′ : (u : ℕ) → u < n → (T (output u) → ⊥) → T (s .solved u) ⊎ T (solvedNow (try gone) s u) → Tried next u
+        tried′ u l o (inl t) =
+            let p = g .tried u l o t in record {
+              gone = p .gone;
+              earlier = λ v m. p .earlier v m ∙ sym (ap (λ (q : ℕ). next .solved v && ltb (next .layer v) q) (kept-layer u t) ∙ same-past (s .layer u) v (le-of-suc-le-suc (g .below u l t)));
+              gave = p .gave ∙ ap some (sym (kept-set u t));
+            }
+        tried′ u l o (inr f) = record {
+          gone = gone;
+          earlier = λ v m. past v m ∙ sym (ap (λ (q : ℕ). next .solved v && ltb (next .layer v) q) (new-layer u f) ∙ same-past r v (omega arith));
+          gave = some-of (try gone u) (and-r (not (s .solved u)) (isSome (try gone u)) f) ∙ ap some (sym (new-set u f));
+        }
+
+  pub searched-start : Searched 1 (start output)
+  searched-start = record {
+    outputs = λ u o. o;
+    output-layer = λ u o. refl;
+    output-set = λ u o. refl;
+    below = λ u l t. lt-suc-self 0;
+    tried = λ u l o t. absurd (o t);
+  }
+
+  later-bound : (r : ℕ) (s : Progress) → Searched r s → Searched (suc r) s
+  later-bound r s g = record { outputs = g .outputs; output-layer = g .output-layer; output-set = g .output-set; below = λ u l t. le-step (g .below u l t); tried = g .tried }
+
+  all-past : (r : ℕ) (s : Progress) → Searched r s → (v : ℕ) → v < n → s .solved v ≡ (s .solved v && ltb (s .layer v) r)
+  all-past r s g v l = beq-eq (s .solved v) (s .solved v && ltb (s .layer v) r) (λ t. and-in (s .solved v) (ltb (s .layer v) r) t (lt→ltb (s .layer v) r (g .below v l t))) (λ t. and-l (s .solved v) (ltb (s .layer v) r) t)
+
+  -- k rounds from r on: the layers stay below r + k
+  pub searched : (stops : Progress → Bool) (k r : ℕ) (s : Progress) → Searched r s → Searched (r + k) (rounds stops try n k r s)
+  unfolding rounds
+  searched stops zero r s g = rw (nothing r) g
+    where
+      nothing : (r : ℕ) → r + 0 ≡ r
+      nothing r = omega arith
+  searched stops (suc k) r s g = go (rounds-step stops try n k r s) (searched stops k)
+    where
+      more : (r k : ℕ) → r ≤ k → (s : Progress) → Searched r s → Searched k s
+      more r k h s g = record { outputs = g .outputs; output-layer = g .output-layer; output-set = g .output-set; below = λ u l t. le-trans′ (s .layer u) r k (g .below u l t) h; tried = g .tried }
+        where
+          le-trans′ : (a r k : ℕ) → a < r → r ≤ k → a < k
+          le-trans′ a r k p q = omega arith
+
+      suc-one : (r : ℕ) → suc r ≡ r + 1
+      suc-one r = omega arith
+
+      shift : (r k : ℕ) → r + 1 + k ≡ r + suc k
+      shift r k = omega arith
+
+      go : (Ended stops try n s × (rounds stops try n (suc k) r s ≡ s))
+          ⊎ (T (anyBelow n (solvedNow (try (s .solved)) s)) × (rounds stops try n (suc k) r s ≡ rounds stops try n k (r + 1) (round (try (s .solved)) r s)))
+          → ((r : ℕ) (s : Progress) → Searched r s → Searched (r + k) (rounds stops try n k r s)) → Searched (r + suc k) (rounds stops try n (suc k) r s)
+      go (inl (e, p)) ih = rw p (more r (r + suc k) (omega arith) s g)
+      go (inr (t, p)) ih =
+          rw (p, ← shift r k) (ih (r + 1) (round (try (s .solved)) r s) (rw (← suc-one r) (step (s .solved) r s (later-bound r s g) (all-past r s g))))
+
+-- ---- no layering is earlier: over any question Ok of a node's set that depends on which nodes are later
+module _
+    (n : ℕ)
+    (output : ℕ → Bool)
+    (try : (ℕ → Bool) → ℕ → Option (ℕ → Bool))
+    (Ok : (ℕ → Bool) → (ℕ → Bool) → ℕ → Type 0)
+    (more : (s t : ℕ → Bool) → Within n s t → (x : ℕ → Bool) (u : ℕ) → Ok s x u → Ok t x u)
+    (complete : (gone x : ℕ → Bool) (u : ℕ) → u < n → (T (output u) → ⊥) → (T (gone u) → ⊥) → Ok gone x u → T (isSome (try gone u)))
+    (layer : ℕ → ℕ)
+    (set : ℕ → ℕ → Bool)
+    (flow : (u : ℕ) → u < n → (T (output u) → ⊥) → Ok (λ v. ltb (layer v) (layer u)) (set u) u)
+  where
+    -- before round r: every node of a smaller layer is solved, and no solved node is late
+    pub record Early (r : ℕ) (s : Progress) : Type 0 where
+      pub outputs : (u : ℕ) → u < n → T (output u) → T (s .solved u)
+      pub solved : (u : ℕ) → u < n → layer u < r → T (s .solved u)
+      pub early : (u : ℕ) → u < n → T (s .solved u) → s .layer u ≤ layer u
+
+    -- all are solved, and none is late
+    pub record Earliest (s : Progress) : Type 0 where
+      pub all : (u : ℕ) → u < n → T (s .solved u)
+      pub early : (u : ℕ) → u < n → s .layer u ≤ layer u
+
+    -- an unsolved node all of whose smaller layers are gone is solved
+    pub can : (gone : ℕ → Bool) (s : Progress) (u : ℕ) → u < n → (T (output u) → T (s .solved u)) → (T (gone u) → ⊥) → Within n (λ v. ltb (layer v) (layer u)) gone → (T (s .solved u) → ⊥) → T (solvedNow (try gone) s u)
+    can gone s u l outs q w f =
+        and-in (not (s .solved u)) (isSome (try gone u)) (not-in (s .solved u) f)
+        (complete gone (set u) u l (λ o. f (outs o)) q (more (λ v. ltb (layer v) (layer u)) gone w (set u) u (flow u l (λ o. f (outs o)))))
+
+    pub step-early : (gone : ℕ → Bool) (r : ℕ) (s : Progress) → Early r s → ((v : ℕ) → v < n → layer v < r → T (gone v)) → ((v : ℕ) → T (gone v) → T (s .solved v)) → Early (suc r) (round (try gone) r s)
+    step-early gone r s b past within = record {
+      outputs = λ u l o. or-l (s .solved u) (solvedNow (try gone) s u) (b .outputs u l o);
+      solved = λ u l h. solved′ u l h (dec (s .solved u));
+      early = λ u l t. early′ u l (dec (solvedNow (try gone) s u)) (or-out (s .solved u) (solvedNow (try gone) s u) t) (le-or-lt r (layer u));
+    }
+      where
+        solved′ : (u : ℕ) → u < n → layer u < suc r → T (s .solved u) ⊎ (T (s .solved u) → ⊥) → T (s .solved u || solvedNow (try gone) s u)
+        solved′ u l h (inl t) = or-l (s .solved u) (solvedNow (try gone) s u) t
+        solved′ u l h (inr f) =
+            or-r (s .solved u) (solvedNow (try gone) s u)
+            (can gone s u l (b .outputs u l) (λ q. f (within u q)) (λ v m d. let e : layer v < layer u = ltb→lt (layer v) (layer u) d in past v m (omega arith)) f)
+
+        early′ : (u : ℕ) → u < n → T (solvedNow (try gone) s u) ⊎ (T (solvedNow (try gone) s u) → ⊥) → T (s .solved u) ⊎ T (solvedNow (try gone) s u) → (r ≤ layer u) ⊎ (layer u < r)
+            → cond (solvedNow (try gone) s u) r (s .layer u) ≤ layer u
+        early′ u l (inl f) q (inl h) = rw (cond-t (solvedNow (try gone) s u) r (s .layer u) f) h
+        early′ u l (inl f) q (inr h) = absurd (fresh-open (try gone) s u (b .solved u l h) f)
+        early′ u l (inr m) (inl t) h = rw (cond-f (solvedNow (try gone) s u) r (s .layer u) m) (b .early u l t)
+        early′ u l (inr m) (inr f) h = absurd (m f)
+
+    -- a round that solves nothing is a fixpoint: by induction on a bound for the layer, all is solved
+    fixpoint : (r : ℕ) (s : Progress) → Early r s → (T (anyBelow n (solvedNow (try (s .solved)) s)) → ⊥) → (m u : ℕ) → u < n → layer u < m → T (s .solved u)
+    fixpoint r s b f zero u l h = absurd (not-suc-le-zero h)
+    fixpoint r s b f (suc m) u l h = go (dec (s .solved u)) (fixpoint r s b f m)
+      where
+        go : T (s .solved u) ⊎ (T (s .solved u) → ⊥) → ((v : ℕ) → v < n → layer v < m → T (s .solved v)) → T (s .solved u)
+        go (inl t) ih = t
+        go (inr g) ih =
+            absurd
+            (f (any-in n (solvedNow (try (s .solved)) s) u l
+            (can (s .solved) s u l (b .outputs u l) g (λ v k d. let e : layer v < layer u = ltb→lt (layer v) (layer u) d in ih v k (omega arith)) g)))
+
+    earliest-end : (r : ℕ) (s : Progress) → Early r s → anyBelow n (solvedNow (try (s .solved)) s) ≡ false → Earliest s
+    earliest-end r s b e =
+        let all′ : (u : ℕ) → u < n → T (s .solved u) = λ u l. fixpoint r s b (from-false (anyBelow n (solvedNow (try (s .solved)) s)) e) (suc (layer u)) u l (lt-suc-self (layer u)) in
+        record { all = all′; early = λ u l. b .early u l (all′ u l) }
+
+    pub earliest : (k r : ℕ) (s : Progress) → Early r s → count n (λ u. not (s .solved u)) ≤ k → Earliest (rounds never try n k r s)
+    unfolding rounds
+    earliest zero r s b c = earliest-end r s b (any-none n (solvedNow (try (s .solved)) s) (λ u l t. fresh-open (try (s .solved)) s u (none-left never try n s c u l) t))
+    earliest (suc k) r s b c = go (rounds-step never try n k r s) (earliest k)
+      where
+        suc-one : (r : ℕ) → suc r ≡ r + 1
+        suc-one r = omega arith
+
+        ended : Ended never try n s → anyBelow n (solvedNow (try (s .solved)) s) ≡ false
+        ended (inl t) = absurd t
+        ended (inr e) = e
+
+        go : (Ended never try n s × (rounds never try n (suc k) r s ≡ s))
+            ⊎ (T (anyBelow n (solvedNow (try (s .solved)) s)) × (rounds never try n (suc k) r s ≡ rounds never try n k (r + 1) (round (try (s .solved)) r s)))
+            → ((r : ℕ) (s : Progress) → Early r s → count n (λ u. not (s .solved u)) ≤ k → Earliest (rounds never try n k r s)) → Earliest (rounds never try n (suc k) r s)
+        go (inl (e, p)) ih = rw p (earliest-end r s b (ended e))
+        go (inr (t, p)) ih =
+            let l = fewer never try n r s t in
+            rw p (ih (r + 1) (round (try (s .solved)) r s) (rw (← suc-one r) (step-early (s .solved) r s b (b .solved) (λ v q. q))) (omega arith))
