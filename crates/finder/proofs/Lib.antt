@@ -1,3 +1,5 @@
 pub mod Branch
-pub mod Search
+pub mod Table
 pub mod Conditions
+pub mod Tries
+pub mod Search

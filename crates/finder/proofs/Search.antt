@@ -1,6 +1,6 @@
 -- The search by rounds: it ends by its own rule, what it solves was solved by a try at its layer, and no layering is earlier.
 use Prim.Native.Nat.{ℕ, zero, suc, _+_, _≤_, _<_, zero-le}
-use mathlib.Core.Path.{_≡_, refl, sym, ap, _∙_}
+use mathlib.Core.Path.{_≡_, refl, sym, ap, ap₂, _∙_, fun-ext}
 use mathlib.Core.Bool.{Bool, true, false, cond, not, _&&_, _||_}
 use mathlib.Core.Logic.{_⊎_, inl, inr, _≢_}
 use mathlib.Core.Option.{Option, none, some, Option·some-injective, Option·none-ne-some}
@@ -86,10 +86,25 @@ module _ (stops : Progress → Bool) (try : (ℕ → Bool) → ℕ → Option (�
       go (inl (e, p)) ih = rw p e
       go (inr (t, p)) ih = let l = fewer r s t in rw p (ih (r + 1) (after r s) (omega arith))
 
+-- only the tries of unsolved nodes count
+pub now-ext : (f g : ℕ → Option (ℕ → Bool)) (s : Progress) → ((u : ℕ) → (T (s .solved u) → ⊥) → f u ≡ g u) → solvedNow f s ≡ solvedNow g s
+now-ext f g s h = fun-ext (λ u. go u (dec (s .solved u)))
+  where
+    go : (u : ℕ) → T (s .solved u) ⊎ (T (s .solved u) → ⊥) → solvedNow f s u ≡ solvedNow g s u
+    go u (inl t) = rw (is-true (s .solved u) t)
+    go u (inr m) = rw (h u m)
+
+pub round-ext : (f g : ℕ → Option (ℕ → Bool)) (r : ℕ) (s : Progress) → ((u : ℕ) → (T (s .solved u) → ⊥) → f u ≡ g u) → round f r s ≡ round g r s
+round-ext f g r s h = ap₂ (λ (q : ℕ → Bool) (z : ℕ → ℕ → Bool). record { solved = λ u. s .solved u || q u; layer = λ u. cond (q u) r (s .layer u); set = z }) (now-ext f g s h) (fun-ext (λ u. go u (dec (s .solved u))))
+  where
+    go : (u : ℕ) → T (s .solved u) ⊎ (T (s .solved u) → ⊥) → cond (solvedNow f s u) (orNone (f u)) (s .set u) ≡ cond (solvedNow g s u) (orNone (g u)) (s .set u)
+    go u (inl t) = rw (is-true (s .solved u) t)
+    go u (inr m) = rw (h u m)
+
 -- A search that stops is a search whose tries give nothing there.
 pub rounds-pass : (stops : Progress → Bool) (try pass : (ℕ → Bool) → ℕ → Option (ℕ → Bool)) (n : ℕ)
     → ((s : Progress) → T (stops s) → anyBelow n (solvedNow (pass (s .solved)) s) ≡ false)
-    → ((s : Progress) → (T (stops s) → ⊥) → pass (s .solved) ≡ try (s .solved))
+    → ((s : Progress) → (T (stops s) → ⊥) → (u : ℕ) → (T (s .solved u) → ⊥) → pass (s .solved) u ≡ try (s .solved) u)
     → (k r : ℕ) (s : Progress) → rounds stops try n k r s ≡ rounds never pass n k r s
 unfolding rounds
 rounds-pass stops try pass n idle same zero r s = refl
@@ -99,26 +114,33 @@ rounds-pass stops try pass n idle same (suc k) r s = go (dec (stops s)) (rounds-
         → cond (stops s) s (cond (anyBelow n (solvedNow (try (s .solved)) s)) (rounds stops try n k (r + 1) (round (try (s .solved)) r s)) s)
         ≡ cond (anyBelow n (solvedNow (pass (s .solved)) s)) (rounds never pass n k (r + 1) (round (pass (s .solved)) r s)) s
     go (inl t) ih = rw (is-true (stops s) t, idle s t)
-    go (inr f) ih = rw (is-false (stops s) f, same s f, ih (r + 1) (round (try (s .solved)) r s))
+    go (inr f) ih =
+        rw (
+          is-false (stops s) f,
+          now-ext (pass (s .solved)) (try (s .solved)) s (same s f),
+          round-ext (pass (s .solved)) (try (s .solved)) r s (same s f),
+          ih (r + 1) (round (try (s .solved)) r s),
+        )
 
 -- ---- what is solved was solved by a try
-module _ (n : ℕ) (output : ℕ → Bool) (try : (ℕ → Bool) → ℕ → Option (ℕ → Bool)) where
+module _ (n : ℕ) (output : ℕ → Bool) (try : (ℕ → Bool) → ℕ → Option (ℕ → Bool)) (first : ℕ) where
   -- u's set is what a try gave it when just the solved nodes of smaller layers were gone
   pub record Tried (s : Progress) (u : ℕ) : Type 0 where
     pub gone : ℕ → Bool
     pub earlier : (v : ℕ) → v < n → gone v ≡ (s .solved v && ltb (s .layer v) (s .layer u))
     pub gave : try gone u ≡ some (s .set u)
 
-  -- the progress before round r
+  -- the progress before round r, where `first` was the first round
   pub record Searched (r : ℕ) (s : Progress) : Type 0 where
     pub outputs : (u : ℕ) → T (output u) → T (s .solved u)
     pub output-layer : (u : ℕ) → T (output u) → s .layer u ≡ 0
     pub output-set : (u : ℕ) → T (output u) → s .set u ≡ noNode
     pub below : (u : ℕ) → u < n → T (s .solved u) → s .layer u < r
+    pub above : (u : ℕ) → u < n → (T (output u) → ⊥) → T (s .solved u) → first ≤ s .layer u
     pub tried : (u : ℕ) → u < n → (T (output u) → ⊥) → T (s .solved u) → Tried s u
 
   -- round r, in which the nodes that are gone are those of smaller layers
-  module _ (gone : ℕ → Bool) (r : ℕ) (s : Progress) (g : Searched (suc r) s) (past : (v : ℕ) → v < n → gone v ≡ (s .solved v && ltb (s .layer v) r)) where
+  module _ (gone : ℕ → Bool) (r : ℕ) (from : first ≤ r) (s : Progress) (g : Searched (suc r) s) (past : (v : ℕ) → v < n → gone v ≡ (s .solved v && ltb (s .layer v) r)) where
     abbrev next : Progress
     next = round (try gone) r s
 
@@ -153,12 +175,17 @@ module _ (n : ℕ) (output : ℕ → Bool) (try : (ℕ → Bool) → ℕ → Opt
       output-layer = λ u o. kept-layer u (g .outputs u o) ∙ g .output-layer u o;
       output-set = λ u o. kept-set u (g .outputs u o) ∙ g .output-set u o;
       below = λ u l t. below′ u l (or-out (s .solved u) (solvedNow (try gone) s u) t);
+      above = λ u l o t. above′ u l o (or-out (s .solved u) (solvedNow (try gone) s u) t);
       tried = λ u l o t. tried′ u l o (or-out (s .solved u) (solvedNow (try gone) s u) t);
     }
       where
         below′ : (u : ℕ) → u < n → T (s .solved u) ⊎ T (solvedNow (try gone) s u) → next .layer u < suc r
         below′ u l (inl t) = rw (kept-layer u t) (g .below u l t)
         below′ u l (inr f) = rw (new-layer u f) (lt-suc-self r)
+
+        above′ : (u : ℕ) → u < n → (T (output u) → ⊥) → T (s .solved u) ⊎ T (solvedNow (try gone) s u) → first ≤ next .layer u
+        above′ u l o (inl t) = rw (kept-layer u t) (g .above u l o t)
+        above′ u l o (inr f) = rw (new-layer u f) from
 
         tried′ : (u : ℕ) → u < n → (T (output u) → ⊥) → T (s .solved u) ⊎ T (solvedNow (try gone) s u) → Tried next u
         tried′ u l o (inl t) =
@@ -179,26 +206,27 @@ module _ (n : ℕ) (output : ℕ → Bool) (try : (ℕ → Bool) → ℕ → Opt
     output-layer = λ u o. refl;
     output-set = λ u o. refl;
     below = λ u l t. lt-suc-self 0;
+    above = λ u l o t. absurd (o t);
     tried = λ u l o t. absurd (o t);
   }
 
   later-bound : (r : ℕ) (s : Progress) → Searched r s → Searched (suc r) s
-  later-bound r s g = record { outputs = g .outputs; output-layer = g .output-layer; output-set = g .output-set; below = λ u l t. le-step (g .below u l t); tried = g .tried }
+  later-bound r s g = record { outputs = g .outputs; output-layer = g .output-layer; output-set = g .output-set; below = λ u l t. le-step (g .below u l t); above = g .above; tried = g .tried }
 
   all-past : (r : ℕ) (s : Progress) → Searched r s → (v : ℕ) → v < n → s .solved v ≡ (s .solved v && ltb (s .layer v) r)
   all-past r s g v l = beq-eq (s .solved v) (s .solved v && ltb (s .layer v) r) (λ t. and-in (s .solved v) (ltb (s .layer v) r) t (lt→ltb (s .layer v) r (g .below v l t))) (λ t. and-l (s .solved v) (ltb (s .layer v) r) t)
 
   -- k rounds from r on: the layers stay below r + k
-  pub searched : (stops : Progress → Bool) (k r : ℕ) (s : Progress) → Searched r s → Searched (r + k) (rounds stops try n k r s)
+  pub searched : (stops : Progress → Bool) (k r : ℕ) → first ≤ r → (s : Progress) → Searched r s → Searched (r + k) (rounds stops try n k r s)
   unfolding rounds
-  searched stops zero r s g = rw (nothing r) g
+  searched stops zero r from s g = rw (nothing r) g
     where
       nothing : (r : ℕ) → r + 0 ≡ r
       nothing r = omega arith
-  searched stops (suc k) r s g = go (rounds-step stops try n k r s) (searched stops k)
+  searched stops (suc k) r from s g = go (rounds-step stops try n k r s) (searched stops k)
     where
       more : (r k : ℕ) → r ≤ k → (s : Progress) → Searched r s → Searched k s
-      more r k h s g = record { outputs = g .outputs; output-layer = g .output-layer; output-set = g .output-set; below = λ u l t. le-trans′ (s .layer u) r k (g .below u l t) h; tried = g .tried }
+      more r k h s g = record { outputs = g .outputs; output-layer = g .output-layer; output-set = g .output-set; below = λ u l t. le-trans′ (s .layer u) r k (g .below u l t) h; above = g .above; tried = g .tried }
         where
           le-trans′ : (a r k : ℕ) → a < r → r ≤ k → a < k
           le-trans′ a r k p q = omega arith
@@ -211,10 +239,10 @@ module _ (n : ℕ) (output : ℕ → Bool) (try : (ℕ → Bool) → ℕ → Opt
 
       go : (Ended stops try n s × (rounds stops try n (suc k) r s ≡ s))
           ⊎ (T (anyBelow n (solvedNow (try (s .solved)) s)) × (rounds stops try n (suc k) r s ≡ rounds stops try n k (r + 1) (round (try (s .solved)) r s)))
-          → ((r : ℕ) (s : Progress) → Searched r s → Searched (r + k) (rounds stops try n k r s)) → Searched (r + suc k) (rounds stops try n (suc k) r s)
+          → ((r : ℕ) → first ≤ r → (s : Progress) → Searched r s → Searched (r + k) (rounds stops try n k r s)) → Searched (r + suc k) (rounds stops try n (suc k) r s)
       go (inl (e, p)) ih = rw p (more r (r + suc k) (omega arith) s g)
       go (inr (t, p)) ih =
-          rw (p, ← shift r k) (ih (r + 1) (round (try (s .solved)) r s) (rw (← suc-one r) (step (s .solved) r s (later-bound r s g) (all-past r s g))))
+          rw (p, ← shift r k) (ih (r + 1) (omega arith) (round (try (s .solved)) r s) (rw (← suc-one r) (step (s .solved) r from s (later-bound r s g) (all-past r s g))))
 
 -- ---- no layering is earlier: over any question Ok of a node's set that depends on which nodes are later
 module _
@@ -223,7 +251,9 @@ module _
     (try : (ℕ → Bool) → ℕ → Option (ℕ → Bool))
     (Ok : (ℕ → Bool) → (ℕ → Bool) → ℕ → Type 0)
     (more : (s t : ℕ → Bool) → Within n s t → (x : ℕ → Bool) (u : ℕ) → Ok s x u → Ok t x u)
-    (complete : (gone x : ℕ → Bool) (u : ℕ) → u < n → (T (output u) → ⊥) → (T (gone u) → ⊥) → Ok gone x u → T (isSome (try gone u)))
+    (Gone : (ℕ → Bool) → Type 0)
+    (all-gone : (gone : ℕ → Bool) → ((v : ℕ) → v < n → T (output v) → T (gone v)) → Gone gone)
+    (complete : (gone x : ℕ → Bool) (u : ℕ) → u < n → (T (output u) → ⊥) → Gone gone → Ok gone x u → T (isSome (try gone u)))
     (layer : ℕ → ℕ)
     (set : ℕ → ℕ → Bool)
     (flow : (u : ℕ) → u < n → (T (output u) → ⊥) → Ok (λ v. ltb (layer v) (layer u)) (set u) u)
@@ -240,13 +270,13 @@ module _
       pub early : (u : ℕ) → u < n → s .layer u ≤ layer u
 
     -- an unsolved node all of whose smaller layers are gone is solved
-    pub can : (gone : ℕ → Bool) (s : Progress) (u : ℕ) → u < n → (T (output u) → T (s .solved u)) → (T (gone u) → ⊥) → Within n (λ v. ltb (layer v) (layer u)) gone → (T (s .solved u) → ⊥) → T (solvedNow (try gone) s u)
+    pub can : (gone : ℕ → Bool) (s : Progress) (u : ℕ) → u < n → (T (output u) → T (s .solved u)) → Gone gone → Within n (λ v. ltb (layer v) (layer u)) gone → (T (s .solved u) → ⊥) → T (solvedNow (try gone) s u)
     can gone s u l outs q w f =
         and-in (not (s .solved u)) (isSome (try gone u)) (not-in (s .solved u) f)
         (complete gone (set u) u l (λ o. f (outs o)) q (more (λ v. ltb (layer v) (layer u)) gone w (set u) u (flow u l (λ o. f (outs o)))))
 
-    pub step-early : (gone : ℕ → Bool) (r : ℕ) (s : Progress) → Early r s → ((v : ℕ) → v < n → layer v < r → T (gone v)) → ((v : ℕ) → T (gone v) → T (s .solved v)) → Early (suc r) (round (try gone) r s)
-    step-early gone r s b past within = record {
+    pub step-early : (gone : ℕ → Bool) (r : ℕ) (s : Progress) → Early r s → ((v : ℕ) → v < n → layer v < r → T (gone v)) → Gone gone → Early (suc r) (round (try gone) r s)
+    step-early gone r s b past ready = record {
       outputs = λ u l o. or-l (s .solved u) (solvedNow (try gone) s u) (b .outputs u l o);
       solved = λ u l h. solved′ u l h (dec (s .solved u));
       early = λ u l t. early′ u l (dec (solvedNow (try gone) s u)) (or-out (s .solved u) (solvedNow (try gone) s u) t) (le-or-lt r (layer u));
@@ -256,7 +286,7 @@ module _
         solved′ u l h (inl t) = or-l (s .solved u) (solvedNow (try gone) s u) t
         solved′ u l h (inr f) =
             or-r (s .solved u) (solvedNow (try gone) s u)
-            (can gone s u l (b .outputs u l) (λ q. f (within u q)) (λ v m d. let e : layer v < layer u = ltb→lt (layer v) (layer u) d in past v m (omega arith)) f)
+            (can gone s u l (b .outputs u l) ready (λ v m d. let e : layer v < layer u = ltb→lt (layer v) (layer u) d in past v m (omega arith)) f)
 
         early′ : (u : ℕ) → u < n → T (solvedNow (try gone) s u) ⊎ (T (solvedNow (try gone) s u) → ⊥) → T (s .solved u) ⊎ T (solvedNow (try gone) s u) → (r ≤ layer u) ⊎ (layer u < r)
             → cond (solvedNow (try gone) s u) r (s .layer u) ≤ layer u
@@ -275,7 +305,7 @@ module _
         go (inr g) ih =
             absurd
             (f (any-in n (solvedNow (try (s .solved)) s) u l
-            (can (s .solved) s u l (b .outputs u l) g (λ v k d. let e : layer v < layer u = ltb→lt (layer v) (layer u) d in ih v k (omega arith)) g)))
+            (can (s .solved) s u l (b .outputs u l) (all-gone (s .solved) (b .outputs)) (λ v k d. let e : layer v < layer u = ltb→lt (layer v) (layer u) d in ih v k (omega arith)) g)))
 
     earliest-end : (r : ℕ) (s : Progress) → Early r s → anyBelow n (solvedNow (try (s .solved)) s) ≡ false → Earliest s
     earliest-end r s b e =
@@ -300,4 +330,4 @@ module _
         go (inl (e, p)) ih = rw p (earliest-end r s b (ended e))
         go (inr (t, p)) ih =
             let l = fewer never try n r s t in
-            rw p (ih (r + 1) (round (try (s .solved)) r s) (rw (← suc-one r) (step-early (s .solved) r s b (b .solved) (λ v q. q))) (omega arith))
+            rw p (ih (r + 1) (round (try (s .solved)) r s) (rw (← suc-one r) (step-early (s .solved) r s b (b .solved) (all-gone (s .solved) (b .outputs)))) (omega arith))

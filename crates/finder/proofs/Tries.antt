@@ -1,0 +1,255 @@
+-- The tries of both searches: one context for planes and Paulis. What a try gives is right, and what is right is found.
+use Prim.Native.Nat.{ℕ, zero, suc, _+_, _≤_, _<_}
+use mathlib.Core.Path.{_≡_, refl, sym, ap, _∙_, subst, fun-ext}
+use mathlib.Core.Bool.{Bool, true, false, cond, not, _&&_, _||_}
+use mathlib.Core.Logic.{_⊎_, inl, inr, _≢_}
+use mathlib.Core.Option.{Option, none, some, Option·some-injective, Option·none-ne-some}
+use mathlib.Core.List.{List, [], _∷_, _++_}
+use native.Mathlib.Omega.{arith}
+use lib.Dec.{T, eqb, ltb, eqb→eq, eqb-refl}
+use Rattle.nodes.specs.Row.{parity, anyBelow}
+use Rattle.nodes.proofs.Logic.{is-true, is-false, from-true, dec, and-l, and-r, and-in, or-l, or-r, or-out, not-in, not-out, eqb-no, eqb-yes, and-none, and-all, or-none, cond-t, cond-f, beq-eq}
+use Rattle.nodes.proofs.Row.{parity-none, any-in, any-out, any-ext}
+use Rattle.solver.specs.System.{Answer, solve, isSome, firstOf}
+use Rattle.solver.proofs.System.{solve-answer}
+use Rattle.finder.specs.Job.{Job, odd, own, isXorY, isYorZ, planeXY, planeYZ, planeXZ, pauliX, pauliY, pauliZ}
+use Rattle.finder.specs.Branch.{Context, inSet, inOdd, branches, systemAt, sideAt, withNode, tryBranch, firstSolvable, tryNode}
+use Rattle.finder.specs.Search.{noNode}
+use Rattle.finder.specs.Planes as Planes
+use Rattle.finder.specs.Paulis as Paulis
+use Rattle.finder.proofs.Branch.{Fits, fits-some, some-fits}
+use Rattle.finder.proofs.Table.{listed, branch-own, branchOf, own-branch}
+use Rattle.finder.proofs.Conditions.{Ok}
+
+-- ---- one context: with Paulis the excused nodes are columns from the start and leave the rows
+abbrev pub contextAt : Job → Bool → (ℕ → Bool) → ℕ → Context
+contextAt j pauli gone u = record {
+  column = λ k. ((gone k || (pauli && isXorY (j .measured k))) && not (j .input k)) && not (eqb k u);
+  upper = λ v. (not (gone v) && not (pauli && isYorZ (j .measured v))) || eqb v u;
+  lower = λ v. (not (gone v) && (pauli && eqb (j .measured v) pauliY)) && not (eqb v u);
+}
+
+abbrev pub noColumnAt : Job → Bool → (ℕ → Bool) → ℕ → Bool
+noColumnAt j pauli gone u = not (anyBelow (j .nodes) (contextAt j pauli gone u .column))
+
+abbrev pub tryAt : Job → Bool → (ℕ → Bool) → ℕ → Option (ℕ → Bool)
+tryAt j pauli gone u = let tried = tryNode j (contextAt j pauli gone u) u in cond (noColumnAt j pauli gone u) none tried
+
+pub paulis-try : (j : Job) → Paulis.try j ≡ tryAt j true
+paulis-try j = refl
+
+-- for a node that is not gone, the planes' context is this one
+pub planes-context : (j : Job) (gone : ℕ → Bool) (u : ℕ) → (T (gone u) → ⊥) → contextAt j false gone u ≡ Planes.context j gone
+planes-context j gone u f = make (fun-ext (λ k. column′ k (dec (eqb k u)))) (fun-ext (λ v. upper′ v (dec (eqb v u)))) (fun-ext (λ v. lower′ (not (gone v)) (eqb v u)))
+  where
+    make : {a a′ b b′ c c′ : ℕ → Bool} → a ≡ a′ → b ≡ b′ → c ≡ c′ → _≡_ {A = Context} (record { column = a; upper = b; lower = c }) (record { column = a′; upper = b′; lower = c′ })
+    make p q r = rw (p, q, r)
+
+    column′ : (k : ℕ) → T (eqb k u) ⊎ (T (eqb k u) → ⊥) → ((gone k || false) && not (j .input k)) && not (eqb k u) ≡ gone k && not (j .input k)
+    column′ k (inl t) = rw (eqb→eq k u t, is-false (gone u) f)
+    column′ k (inr d) = rw (is-false (eqb k u) d, or-none (gone k), and-all (gone k && not (j .input k)))
+
+    upper′ : (v : ℕ) → T (eqb v u) ⊎ (T (eqb v u) → ⊥) → (not (gone v) && true) || eqb v u ≡ not (gone v)
+    upper′ v (inl t) = rw (eqb→eq v u t, is-false (gone u) f)
+    upper′ v (inr d) = rw (is-false (eqb v u) d, and-all (not (gone v)), or-none (not (gone v)))
+
+    lower′ : (a b : Bool) → (a && false) && not b ≡ false
+    lower′ true b = refl
+    lower′ false b = refl
+
+-- ---- the first solvable branch
+module _ (j : Job) (c : Context) (u : ℕ) where
+  pub first-some : (bs : List ℕ) (b : ℕ) → T (listed bs b) → T (isSome (tryBranch j c u b)) → T (isSome (firstSolvable j c u bs))
+  unfolding listed firstSolvable
+  first-some [] b h t = absurd h
+  first-some (a ∷ bs) b h t = go (tryBranch j c u a) refl (or-out (eqb a b) (listed bs b) h) (first-some bs b)
+    where
+      go : (o : Option (ℕ → Bool)) → tryBranch j c u a ≡ o → T (eqb a b) ⊎ T (listed bs b) → (T (listed bs b) → T (isSome (tryBranch j c u b)) → T (isSome (firstSolvable j c u bs)))
+          → T (isSome (firstOf o (firstSolvable j c u bs)))
+      go (some x) e q ih = tt
+      go none e (inl q) ih = absurd (rw (← eqb→eq a b q, e) at t)
+      go none e (inr q) ih = ih q t
+
+  -- the branch that gave the set: the branches before it in the row gave none
+  pub record FirstOf (bs : List ℕ) (set : ℕ → Bool) : Type 0 where
+    pub earlier : List ℕ
+    pub branch : ℕ
+    pub later : List ℕ
+    pub row : bs ≡ earlier ++ (branch ∷ later)
+    pub unsolvable : (b : ℕ) → T (listed earlier b) → tryBranch j c u b ≡ none
+    pub gave : tryBranch j c u branch ≡ some set
+
+  pub first-of : (bs : List ℕ) (set : ℕ → Bool) → firstSolvable j c u bs ≡ some set → FirstOf bs set
+  unfolding listed firstSolvable
+  first-of [] set e = absurd (Option·none-ne-some _ e)
+  first-of (a ∷ bs) set e = go (tryBranch j c u a) refl e (first-of bs set)
+    where
+      go : (o : Option (ℕ → Bool)) → tryBranch j c u a ≡ o → firstOf o (firstSolvable j c u bs) ≡ some set → (firstSolvable j c u bs ≡ some set → FirstOf bs set) → FirstOf (a ∷ bs) set
+      go (some x) p e ih = record { earlier = []; branch = a; later = bs; row = refl; unsolvable = λ b t. absurd t; gave = p ∙ e }
+      go none p e ih =
+          let f = ih e in record {
+            earlier = a ∷ f .earlier;
+            branch = f .branch;
+            later = f .later;
+            row = ap (λ (l : List ℕ). a ∷ l) (f .row);
+            unsolvable = λ b t. by b (or-out (eqb a b) (listed (f .earlier) b) t) (f .unsolvable b);
+            gave = f .gave;
+          }
+        where
+          by : (b : ℕ) → T (eqb a b) ⊎ T (listed (ih e .earlier) b) → (T (listed (ih e .earlier) b) → tryBranch j c u b ≡ none) → tryBranch j c u b ≡ none
+          by b (inl q) f = rw (← eqb→eq a b q) p
+          by b (inr q) f = f q
+
+-- ---- what a try gives is right
+-- a list with b in it
+pub listed-in : (l : List ℕ) (b : ℕ) (r : List ℕ) → T (listed (l ++ (b ∷ r)) b)
+unfolding listed
+listed-in [] b r = or-l (eqb b b) (listed r b) (eqb-refl b)
+listed-in (a ∷ l) b r = or-r (eqb a b) (listed (l ++ (b ∷ r)) b) (listed-in l b r)
+
+-- the answer of the solver behind a branch's set
+pub branch-answer : (j : Job) (c : Context) (u b : ℕ) (set : ℕ → Bool) → tryBranch j c u b ≡ some set
+    → (x : ℕ → Bool) × Answer (systemAt j c) (j .nodes) (sideAt j u b) x × (set ≡ (λ k. x k || inSet b && eqb k u))
+branch-answer j c u b set e = go (solve (systemAt j c) (j .nodes) (sideAt j u b)) (solve-answer (systemAt j c) (j .nodes) (sideAt j u b)) e
+  where
+    go : (o : Option (ℕ → Bool)) → ((x : ℕ → Bool) → o ≡ some x → Answer (systemAt j c) (j .nodes) (sideAt j u b) x) → withNode (inSet b) u o ≡ some set
+        → (x : ℕ → Bool) × Answer (systemAt j c) (j .nodes) (sideAt j u b) x × (set ≡ (λ k. x k || inSet b && eqb k u))
+    go none f e = absurd (Option·none-ne-some _ e)
+    go (some x) f e = (x, f x refl, sym (Option·some-injective _ _ e))
+
+module _ (j : Job) (pauli : Bool) (gone : ℕ → Bool) (u : ℕ) where
+  abbrev here : Context
+  here = contextAt j pauli gone u
+
+  abbrev entering : ℕ → Bool
+  entering k = gone k || (pauli && isXorY (j .measured k))
+
+  no-column-u : T (here .column u) → ⊥
+  no-column-u t = not-out (eqb u u) (and-r (entering u && not (j .input u)) (not (eqb u u)) t) (eqb-refl u)
+
+  no-lower-u : T (here .lower u) → ⊥
+  no-lower-u t = not-out (eqb u u) (and-r (not (gone u) && (pauli && eqb (j .measured u) pauliY)) (not (eqb u u)) t) (eqb-refl u)
+
+  is-u : (k : ℕ) → T (eqb k u) → k ≡ u
+  is-u k t = eqb→eq k u t
+
+  -- a set that fits a branch of u's measurement is right
+  pub fits-ok : (b : ℕ) → T (own (j .measured u) (inSet b) (inOdd b)) → u < j .nodes → (set : ℕ → Bool) → Fits j here u b set → Ok j pauli gone set u
+  fits-ok b t h set f = record {
+    inputs = λ k l a i. input′ k (f .taken k l a) i;
+    members = λ k l a. member′ k (f .taken k l a);
+    odds = λ k l a. odd′ k l a (dec (eqb k u)) (dec (gone k)) (dec (pauli && isYorZ (j .measured k)));
+    ys = λ k l a. y′ k l a (dec (eqb k u)) (dec (gone k));
+    owns = rw (f .self, f .ups u h (or-r (not (gone u) && not (pauli && isYorZ (j .measured u))) (eqb u u) (eqb-refl u)), eqb-yes u) t;
+  }
+    where
+      input′ : (k : ℕ) → (k ≡ u) ⊎ T (here .column k) → T (j .input k) → k ≡ u
+      input′ k (inl e) i = e
+      input′ k (inr q) i = absurd (not-out (j .input k) (and-r (entering k) (not (j .input k)) (and-l (entering k && not (j .input k)) (not (eqb k u)) q)) i)
+
+      member′ : (k : ℕ) → (k ≡ u) ⊎ T (here .column k) → (k ≡ u) ⊎ (T (gone k) ⊎ T (pauli && isXorY (j .measured k)))
+      member′ k (inl e) = inl e
+      member′ k (inr q) = inr (or-out (gone k) (pauli && isXorY (j .measured k)) (and-l (entering k) (not (j .input k)) (and-l (entering k && not (j .input k)) (not (eqb k u)) q)))
+
+      odd′ : (k : ℕ) → k < j .nodes → T (odd j set k) → T (eqb k u) ⊎ (T (eqb k u) → ⊥) → T (gone k) ⊎ (T (gone k) → ⊥) → T (pauli && isYorZ (j .measured k)) ⊎ (T (pauli && isYorZ (j .measured k)) → ⊥)
+          → (k ≡ u) ⊎ (T (gone k) ⊎ T (pauli && isYorZ (j .measured k)))
+      odd′ k l a (inl e) g y = inl (is-u k e)
+      odd′ k l a (inr d) (inl g) y = inr (inl g)
+      odd′ k l a (inr d) (inr g) (inl y) = inr (inr y)
+      odd′ k l a (inr d) (inr g) (inr y) =
+          absurd
+          (d (and-l (eqb k u) (inOdd b)
+          (rw (f .ups k l
+          (or-l (not (gone k) && not (pauli && isYorZ (j .measured k))) (eqb k u)
+          (and-in (not (gone k)) (not (pauli && isYorZ (j .measured k))) (not-in (gone k) g) (not-in (pauli && isYorZ (j .measured k)) y)))) at a)))
+
+      y′ : (k : ℕ) → k < j .nodes → T (pauli && eqb (j .measured k) pauliY) → T (eqb k u) ⊎ (T (eqb k u) → ⊥) → T (gone k) ⊎ (T (gone k) → ⊥) → (k ≡ u) ⊎ (T (gone k) ⊎ (odd j set k ≡ set k))
+      y′ k l a (inl e) g = inl (is-u k e)
+      y′ k l a (inr d) (inl g) = inr (inl g)
+      y′ k l a (inr d) (inr g) =
+          inr (inr (f .lows k l (and-in (not (gone k) && (pauli && eqb (j .measured k) pauliY)) (not (eqb k u)) (and-in (not (gone k)) (pauli && eqb (j .measured k) pauliY) (not-in (gone k) g) a) (not-in (eqb k u) d))))
+
+  -- a right set fits the branch of its pair
+  pub ok-fits : (b : ℕ) (set : ℕ → Bool) → Ok j pauli gone set u → set u ≡ inSet b → odd j set u ≡ inOdd b → Fits j here u b set
+  ok-fits b set ok s o = record { taken = taken′; ups = λ v l t. ups′ v l t (dec (eqb v u)); lows = lows′; self = s }
+    where
+      taken′ : (k : ℕ) → k < j .nodes → T (set k) → (k ≡ u) ⊎ T (here .column k)
+      taken′ k l t = go (dec (eqb k u)) (ok .members k l t)
+        where
+          column′ : (T (eqb k u) → ⊥) → T (entering k) → T (here .column k)
+          column′ d a =
+              and-in (entering k && not (j .input k)) (not (eqb k u))
+              (and-in (entering k) (not (j .input k)) a (not-in (j .input k) (λ i. d (rw (ok .inputs k l t i) (eqb-refl u)))))
+              (not-in (eqb k u) d)
+
+          go : T (eqb k u) ⊎ (T (eqb k u) → ⊥) → (k ≡ u) ⊎ (T (gone k) ⊎ T (pauli && isXorY (j .measured k))) → (k ≡ u) ⊎ T (here .column k)
+          go (inl e) q = inl (is-u k e)
+          go (inr d) (inl e) = inl e
+          go (inr d) (inr (inl g)) = inr (column′ d (or-l (gone k) (pauli && isXorY (j .measured k)) g))
+          go (inr d) (inr (inr m)) = inr (column′ d (or-r (gone k) (pauli && isXorY (j .measured k)) m))
+
+      ups′ : (v : ℕ) → v < j .nodes → T (here .upper v) → T (eqb v u) ⊎ (T (eqb v u) → ⊥) → odd j set v ≡ eqb v u && inOdd b
+      ups′ v l t (inl e) = rw (is-u v e, eqb-yes u) o
+      ups′ v l t (inr d) = rw (is-false (eqb v u) d) (is-false (odd j set v) (λ a. by (ok .odds v l a)))
+        where
+          asked : T (not (gone v) && not (pauli && isYorZ (j .measured v)))
+          asked = rw (is-false (eqb v u) d, or-none (not (gone v) && not (pauli && isYorZ (j .measured v)))) at t
+
+          by : (v ≡ u) ⊎ (T (gone v) ⊎ T (pauli && isYorZ (j .measured v))) → ⊥
+          by (inl e) = d (rw e (eqb-refl u))
+          by (inr (inl g)) = not-out (gone v) (and-l (not (gone v)) (not (pauli && isYorZ (j .measured v))) asked) g
+          by (inr (inr m)) = not-out (pauli && isYorZ (j .measured v)) (and-r (not (gone v)) (not (pauli && isYorZ (j .measured v))) asked) m
+
+      lows′ : (v : ℕ) → v < j .nodes → T (here .lower v) → odd j set v ≡ set v
+      lows′ v l t = by (ok .ys v l (and-r (not (gone v)) (pauli && eqb (j .measured v) pauliY) asked))
+        where
+          asked : T (not (gone v) && (pauli && eqb (j .measured v) pauliY))
+          asked = and-l (not (gone v) && (pauli && eqb (j .measured v) pauliY)) (not (eqb v u)) t
+
+          by : (v ≡ u) ⊎ (T (gone v) ⊎ (odd j set v ≡ set v)) → odd j set v ≡ set v
+          by (inl e) = absurd (not-out (eqb v u) (and-r (not (gone v) && (pauli && eqb (j .measured v) pauliY)) (not (eqb v u)) t) (rw e (eqb-refl u)))
+          by (inr (inl g)) = absurd (not-out (gone v) (and-l (not (gone v)) (pauli && eqb (j .measured v) pauliY) asked) g)
+          by (inr (inr e)) = e
+
+  passed-over : (set : ℕ → Bool) → tryAt j pauli gone u ≡ some set → tryNode j here u ≡ some set
+  passed-over set e = go (noColumnAt j pauli gone u) e
+    where
+      go : (c : Bool) → cond c none (tryNode j here u) ≡ some set → tryNode j here u ≡ some set
+      go true e = absurd (Option·none-ne-some _ e)
+      go false e = e
+
+  pub try-first : (set : ℕ → Bool) → tryAt j pauli gone u ≡ some set → FirstOf j here u (branches (j .measured u)) set
+  try-first set e = first-of j here u (branches (j .measured u)) set (passed-over set e)
+
+  pub try-sound : u < j .nodes → j .measured u < 7 → (set : ℕ → Bool) → tryAt j pauli gone u ≡ some set → Ok j pauli gone set u
+  try-sound h m set e =
+      let f = try-first set e in
+      let (x, a, w) = branch-answer j here u (f .branch) set (f .gave) in
+      fits-ok (f .branch) (branch-own (j .measured u) (f .branch) m (rw (f .row) (listed-in (f .earlier) (f .branch) (f .later)))) h set
+      (subst (λ (z : ℕ → Bool). Fits j here u (f .branch) z) (sym w) (some-fits j here u (f .branch) h no-lower-u no-column-u x a))
+
+  -- where a column is left, a node with a right set is solved
+  pub try-complete : u < j .nodes → j .measured u < 7 → T (anyBelow (j .nodes) (here .column)) → (set : ℕ → Bool) → Ok j pauli gone set u → T (isSome (tryAt j pauli gone u))
+  try-complete h m q set ok =
+      let (l, s, o) = own-branch (j .measured u) (set u) (odd j set u) m (ok .owns) in
+      rw (is-true (anyBelow (j .nodes) (here .column)) q)
+      (first-some j here u (branches (j .measured u)) (branchOf (set u) (odd j set u)) l
+      (fits-some j here u (branchOf (set u) (odd j set u)) h no-lower-u set (ok-fits (branchOf (set u) (odd j set u)) set ok s o)))
+
+  -- Where no column is left, only YZ, Y and Z can be right: a node in Odd of its set has a member as neighbour, which is a
+  -- column, since no node is its own neighbour.
+  pub needs-column : j .measured u < 7 → j .edge u u ≡ false → (set : ℕ → Bool) → Ok j pauli gone set u → T (odd j set u) → T (anyBelow (j .nodes) (here .column))
+  needs-column m e set ok t = go (dec (anyBelow (j .nodes) (λ k. j .edge k u && set k)))
+    where
+      go : T (anyBelow (j .nodes) (λ k. j .edge k u && set k)) ⊎ (T (anyBelow (j .nodes) (λ k. j .edge k u && set k)) → ⊥) → T (anyBelow (j .nodes) (here .column))
+      go (inr f) = absurd (rw (parity-none (j .nodes) (λ k. j .edge k u && set k) (λ k l. is-false (j .edge k u && set k) (λ a. f (any-in (j .nodes) (λ k. j .edge k u && set k) k l a)))) at t)
+      go (inl q) =
+          let (k, l, a) = any-out (j .nodes) (λ k. j .edge k u && set k) q in
+          any-in (j .nodes) (here .column) k l (by k l (and-l (j .edge k u) (set k) a) (and-r (j .edge k u) (set k) a))
+        where
+          by : (k : ℕ) → k < j .nodes → T (j .edge k u) → T (set k) → T (here .column k)
+          by k l a b = from (ok-fits (branchOf (set u) (odd j set u)) set ok (own-branch (j .measured u) (set u) (odd j set u) m (ok .owns) .1) (own-branch (j .measured u) (set u) (odd j set u) m (ok .owns) .2) .taken k l b)
+            where
+              from : (k ≡ u) ⊎ T (here .column k) → T (here .column k)
+              from (inl p) = absurd (rw (p, e) at a)
+              from (inr c) = c
