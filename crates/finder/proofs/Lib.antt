@@ -3,3 +3,5 @@ pub mod Table
 pub mod Conditions
 pub mod Tries
 pub mod Search
+pub mod Premise
+pub mod Flows

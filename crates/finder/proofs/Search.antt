@@ -22,7 +22,7 @@ some-of : (o : Option (ℕ → Bool)) → T (isSome o) → o ≡ some (orNone o)
 some-of none t = absurd t
 some-of (some x) t = refl
 
-fresh-open : (try : ℕ → Option (ℕ → Bool)) (s : Progress) (u : ℕ) → T (s .solved u) → T (solvedNow try s u) → ⊥
+pub fresh-open : (try : ℕ → Option (ℕ → Bool)) (s : Progress) (u : ℕ) → T (s .solved u) → T (solvedNow try s u) → ⊥
 fresh-open try s u t f = not-out (s .solved u) (and-l (not (s .solved u)) (isSome (try u)) f) t
 
 -- ---- how a search goes on

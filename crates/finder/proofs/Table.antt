@@ -9,9 +9,9 @@ use native.Mathlib.Omega.{arith}
 use lib.Dec.{T, eqb, eqb→eq, eqb-refl}
 use Rattle.nodes.specs.Bit.{_⊕_}
 use Rattle.nodes.specs.Row.{allBelow}
-use Rattle.nodes.proofs.Logic.{and-l, and-r, or-l, or-r, or-out, dec, is-true, is-false}
+use Rattle.nodes.proofs.Logic.{and-l, and-r, or-l, or-r, or-out, not-out, dec, is-true, is-false}
 use Rattle.nodes.proofs.Row.{all-out}
-use Rattle.finder.specs.Job.{own, planeXY, planeYZ, planeXZ}
+use Rattle.finder.specs.Job.{own, isYorZ, planeXY, planeYZ, planeXZ}
 use Rattle.finder.specs.Branch.{branchTable, branches, inSet, inOdd}
 
 -- the elements that pass
@@ -102,3 +102,28 @@ own-branch m s o l t = go (own m s o) (listed (branches m) (branchOf s o)) (not 
     go true true false d f g t q = absurd q
     go true false c d f g t q = absurd q
     go false b c d f g t q = absurd t
+
+-- a measurement other than YZ, Y and Z asks for the node in Odd
+abbrev alone : ℕ → Bool
+alone m = eqb m planeYZ || isYorZ m
+
+odd-test : T (allBelow 7 (λ m. alone m || not (own m true false) && not (own m false false)))
+unfolding allBelow own
+odd-test = tt
+
+pub needs-odd : (m : ℕ) (s o : Bool) → m < 7 → (T (eqb m planeYZ || isYorZ m) → ⊥) → T (own m s o) → T o
+needs-odd m s true l f t = tt
+needs-odd m s false l f t = go s (or-out (alone m) (not (own m true false) && not (own m false false)) (all-out 7 (λ m. alone m || not (own m true false) && not (own m false false)) odd-test m l)) t
+  where
+    go : (s : Bool) → T (alone m) ⊎ T (not (own m true false) && not (own m false false)) → T (own m s false) → ⊥
+    go s (inl q) t = f q
+    go true (inr q) t = not-out (own m true false) (and-l (not (own m true false)) (not (own m false false)) q) t
+    go false (inr q) t = not-out (own m false false) (and-r (not (own m true false)) (not (own m false false)) q) t
+
+-- a right set has a member or an odd neighbour
+none-test : T (allBelow 7 (λ m. not (own m false false)))
+unfolding allBelow own
+none-test = tt
+
+pub needs-one : (m : ℕ) → m < 7 → T (own m false false) → ⊥
+needs-one m l = not-out (own m false false) (all-out 7 (λ m. not (own m false false)) none-test m l)

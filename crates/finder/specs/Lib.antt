@@ -3,3 +3,4 @@ pub mod Branch
 pub mod Search
 pub mod Planes
 pub mod Paulis
+pub mod Premise

@@ -1,29 +1,17 @@
 -- Demand 3 as one proposition about the calls, over all jobs and all flows, both modes.
 use Prim.Native.Nat.{ℕ, _≤_, _<_}
 use mathlib.Core.Path.{_≡_}
-use mathlib.Core.Bool.{Bool, true, false, cond, not, _&&_, _||_}
+use mathlib.Core.Bool.{Bool, cond}
 use mathlib.Core.List.{List, [], _∷_, _++_}
 use mathlib.Core.Logic.{_↔_, _⊎_}
-use lib.Dec.{T, eqb, leb}
+use lib.Dec.{T, eqb}
 use lib.ListN.{getD, take}
-use Rattle.nodes.specs.Row.{anyBelow, allBelow, count}
-use Rattle.finder.specs.Job.{Job, planeYZ, isXorY, isYorZ}
+use Rattle.finder.specs.Premise.{planesPremise, paulisPremise}
 use Rattle.tables.specs.Answer.{Answer, gives}
 use Rattle.tables.specs.Records.{written, kindNoFlow}
 use Rattle.tables.specs.JobFile.{JobFile, readJob, jobOf, measuredOf, modePlanes}
 use Rattle.tables.specs.FlowFile.{FlowFile, readFlow}
 use Rattle.tables.specs.Calls.{findCall, verifyAsks}
-
--- planes: some output is no input, or no node is measured in YZ
-abbrev pub planesPremise : Job → Bool
-planesPremise j =
-    anyBelow (j .nodes) (λ k. j .output k && not (j .input k)) || allBelow (j .nodes) (λ k. not (eqb (j .measured k) planeYZ))
-
--- Paulis: two or more non-inputs are measured in X or Y, or no node at all in YZ, Y or Z
-abbrev pub paulisPremise : Job → Bool
-paulisPremise j =
-    leb 2 (count (j .nodes) (λ k. not (j .input k) && isXorY (j .measured k)))
-    || allBelow (j .nodes) (λ k. not (eqb (j .measured k) planeYZ || isYorZ (j .measured k)))
 
 abbrev pub premise : JobFile → Bool
 premise f = cond (eqb (measuredOf f .mode) modePlanes) (planesPremise (jobOf f)) (paulisPremise (jobOf f))

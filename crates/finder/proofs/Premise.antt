@@ -1,0 +1,89 @@
+-- What joins the premises to 'no column': a node with a right set has a column, so it is never passed over or given up.
+use Prim.Native.Nat.{ℕ, zero, suc, _+_, _≤_, _<_}
+use mathlib.Core.Path.{_≡_, refl, sym, ap, _∙_}
+use mathlib.Core.Bool.{Bool, true, false, cond, not, _&&_, _||_}
+use mathlib.Core.Logic.{_⊎_, inl, inr, _≢_}
+use native.Mathlib.Omega.{arith}
+use lib.Dec.{T, eqb, leb, eqb→eq, eqb-refl, leb→le}
+use Rattle.nodes.specs.Row.{anyBelow, allBelow, count}
+use Rattle.nodes.proofs.Logic.{is-true, is-false, dec, and-l, and-r, and-in, or-l, or-r, or-out, not-in, not-out}
+use Rattle.nodes.proofs.Row.{any-in, any-out, all-out}
+use Rattle.nodes.proofs.Count.{rank-sur}
+use Rattle.finder.specs.Job.{Job, odd, isXorY, isYorZ, planeYZ}
+use Rattle.finder.specs.Premise.{planesPremise, paulisPremise}
+use Rattle.finder.proofs.Table.{needs-odd}
+use Rattle.finder.proofs.Conditions.{Ok}
+use Rattle.finder.proofs.Tries.{contextAt, needs-column}
+
+abbrev pub premiseAt : Job → Bool → Bool
+premiseAt j true = paulisPremise j
+premiseAt j false = planesPremise j
+
+-- what a round's start has of the outputs: all of them for planes
+abbrev pub Gone : Job → Bool → (ℕ → Bool) → Type 0
+Gone j true gone = Unit {0}
+Gone j false gone = (v : ℕ) → v < j .nodes → T (j .output v) → T (gone v)
+
+pub all-gone : (j : Job) (pauli : Bool) (gone : ℕ → Bool) → ((v : ℕ) → v < j .nodes → T (j .output v) → T (gone v)) → Gone j pauli gone
+all-gone j true gone h = tt
+all-gone j false gone h = h
+
+-- of two members one is not u
+other : (n : ℕ) (s : ℕ → Bool) → 2 ≤ count n s → (u : ℕ) → (k : ℕ) × (k < n) × T (s k) × (T (eqb k u) → ⊥)
+other n s h u =
+    let (v, l, t, e) = rank-sur n s 0 (omega arith) in
+    let (w, m, q, f) = rank-sur n s 1 (omega arith) in
+    go v l t e w m q f (dec (eqb v u)) (dec (eqb w u))
+  where
+    go : (v : ℕ) → v < n → T (s v) → count v s ≡ 0 → (w : ℕ) → w < n → T (s w) → count w s ≡ 1 → T (eqb v u) ⊎ (T (eqb v u) → ⊥) → T (eqb w u) ⊎ (T (eqb w u) → ⊥) → (k : ℕ) × (k < n) × T (s k) × (T (eqb k u) → ⊥)
+    go v l t e w m q f (inr d) b = (v, l, t, d)
+    go v l t e w m q f (inl a) (inr d) = (w, m, q, d)
+    go v l t e w m q f (inl a) (inl b) = absurd (apart (count v s) (count w s) e f (ap (λ (x : ℕ). count x s) (eqb→eq v u a ∙ sym (eqb→eq w u b))))
+      where
+        apart : (a b : ℕ) → a ≡ 0 → b ≡ 1 → a ≡ b → ⊥
+        apart a b p q r = omega arith
+
+module _ (j : Job) (u : ℕ) (h : u < j .nodes) (measured : j .measured u < 7) (loopless : j .edge u u ≡ false) (no-output : T (j .output u) → ⊥) where
+  abbrev Column : Bool → (ℕ → Bool) → Type 0
+  Column pauli gone = T (anyBelow (j .nodes) (contextAt j pauli gone u .column))
+
+  -- a measurement that asks for the node in Odd needs a column
+  by-odd : (pauli : Bool) (gone set : ℕ → Bool) → Ok j pauli gone set u → (T (eqb (j .measured u) planeYZ || isYorZ (j .measured u)) → ⊥) → Column pauli gone
+  by-odd pauli gone set ok f = needs-column j pauli gone u measured loopless set ok (needs-odd (j .measured u) (set u) (odd j set u) measured f (ok .owns))
+
+  planes-column : (gone set : ℕ → Bool) → (j .measured u ≤ 3) → T (planesPremise j) → Gone j false gone → Ok j false gone set u → Column false gone
+  planes-column gone set low p g ok = go (or-out (anyBelow (j .nodes) (λ k. j .output k && not (j .input k))) (allBelow (j .nodes) (λ k. not (eqb (j .measured k) planeYZ))) p)
+    where
+      go : T (anyBelow (j .nodes) (λ k. j .output k && not (j .input k))) ⊎ T (allBelow (j .nodes) (λ k. not (eqb (j .measured k) planeYZ))) → Column false gone
+      go (inl t) =
+          let (k, l, a) = any-out (j .nodes) (λ k. j .output k && not (j .input k)) t in
+          any-in (j .nodes) (contextAt j false gone u .column) k l
+          (and-in ((gone k || false) && not (j .input k)) (not (eqb k u))
+          (and-in (gone k || false) (not (j .input k)) (or-l (gone k) false (g k l (and-l (j .output k) (not (j .input k)) a))) (and-r (j .output k) (not (j .input k)) a))
+          (not-in (eqb k u) (λ e. no-output (rw (eqb→eq k u e) at (and-l (j .output k) (not (j .input k)) a)))))
+      go (inr t) = by-odd false gone set ok (λ q. by (or-out (eqb (j .measured u) planeYZ) (isYorZ (j .measured u)) q))
+        where
+          by : T (eqb (j .measured u) planeYZ) ⊎ T (isYorZ (j .measured u)) → ⊥
+          by (inl q) = not-out (eqb (j .measured u) planeYZ) (all-out (j .nodes) (λ k. not (eqb (j .measured k) planeYZ)) t u h) q
+          by (inr q) = high (j .measured u) low (or-out (eqb (j .measured u) 5) (eqb (j .measured u) 6) q)
+            where
+              high : (m : ℕ) → m ≤ 3 → T (eqb m 5) ⊎ T (eqb m 6) → ⊥
+              high m l (inl q) = let e : m ≡ 5 = eqb→eq m 5 q in omega arith
+              high m l (inr q) = let e : m ≡ 6 = eqb→eq m 6 q in omega arith
+
+  paulis-column : (gone set : ℕ → Bool) → T (paulisPremise j) → Ok j true gone set u → Column true gone
+  paulis-column gone set p ok = go (or-out (leb 2 (count (j .nodes) (λ k. not (j .input k) && isXorY (j .measured k)))) (allBelow (j .nodes) (λ k. not (eqb (j .measured k) planeYZ || isYorZ (j .measured k)))) p)
+    where
+      go : T (leb 2 (count (j .nodes) (λ k. not (j .input k) && isXorY (j .measured k)))) ⊎ T (allBelow (j .nodes) (λ k. not (eqb (j .measured k) planeYZ || isYorZ (j .measured k)))) → Column true gone
+      go (inl t) =
+          let (k, l, a, d) = other (j .nodes) (λ k. not (j .input k) && isXorY (j .measured k)) (leb→le 2 (count (j .nodes) (λ k. not (j .input k) && isXorY (j .measured k))) t) u in
+          any-in (j .nodes) (contextAt j true gone u .column) k l
+          (and-in ((gone k || isXorY (j .measured k)) && not (j .input k)) (not (eqb k u))
+          (and-in (gone k || isXorY (j .measured k)) (not (j .input k)) (or-r (gone k) (isXorY (j .measured k)) (and-r (not (j .input k)) (isXorY (j .measured k)) a)) (and-l (not (j .input k)) (isXorY (j .measured k)) a))
+          (not-in (eqb k u) d))
+      go (inr t) = by-odd true gone set ok (not-out (eqb (j .measured u) planeYZ || isYorZ (j .measured u)) (all-out (j .nodes) (λ k. not (eqb (j .measured k) planeYZ || isYorZ (j .measured k))) t u h))
+
+  -- under the premise a node with a right set has a column
+  pub column-left : (pauli : Bool) → (pauli ≡ false → j .measured u ≤ 3) → T (premiseAt j pauli) → (gone set : ℕ → Bool) → Gone j pauli gone → Ok j pauli gone set u → Column pauli gone
+  column-left true low p gone set g ok = paulis-column gone set p ok
+  column-left false low p gone set g ok = planes-column gone set (low refl) p g ok
