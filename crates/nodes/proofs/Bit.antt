@@ -11,7 +11,7 @@ use borrow.Author.Tests.{eq-eqb, ne-eqb}
 use native.Mathlib.Decide.{ℕ-discrete}
 use lib.Dec.{T, eqb, ltb, lit<, eqb→eq, eqb-refl, eqb·suc-zero}
 use lib.Pow.{pow-pos, split, pow-lt, pow-mono, pow-add, shr-shr, shr-lt, high, low, ones-split, ones-lt}
-use lib.Bits.{bitAnd, bitOr, bitXor, and-shr, or-shr, xor-shr, and-mod, or-mod, xor-mod, and-mask, xor-add-and, xor-comm, and-block, and-zero-r}
+use lib.Bits.{bitAnd, bitOr, bitXor, and-shr, or-shr, xor-shr, and-mod, or-mod, xor-mod, and-mask, xor-add-and, and-block, and-zero-r}
 use Rattle.nodes.specs.Bit.{bit, isOne, _⊕_}
 use Rattle.nodes.specs.Row.{anyBelow, allBelow}
 use Rattle.nodes.proofs.Logic.{is-true, is-false, from-false, beq-eq, dec, not-out, lt-or-ge, ⊕-all, ⊕-self, ⊕-eq}

@@ -1,9 +1,9 @@
 -- Tests as facts, and the algebra of the sum mod 2.
-use Prim.Native.Nat.{ℕ, zero, suc, _≤_, _<_}
+use Prim.Native.Nat.{ℕ, _≤_, _<_}
 use mathlib.Core.Path.{_≡_, refl, sym, ap, _∙_}
 use mathlib.Core.Bool.{Bool, true, false, cond, not, _&&_, _||_, false≢true}
 use mathlib.Core.Logic.{_⊎_, inl, inr, _≢_}
-use lib.Dec.{T, eqb, leb, ltb, eqb→eq, eqb-refl, leb→le, nleb→lt}
+use lib.Dec.{T, eqb, leb, eqb→eq, eqb-refl, leb→le, nleb→lt}
 use Rattle.nodes.specs.Bit.{_⊕_}
 
 pub is-true : (b : Bool) → T b → b ≡ true

@@ -1,17 +1,17 @@
 -- The least member of a set, and its members as a list.
 use Prim.Native.Nat.{ℕ, zero, suc, _+_, _-_, _≤_, _<_}
 use mathlib.Core.Path.{_≡_, refl, sym, ap, ap₂, _∙_, subst}
-use mathlib.Core.Bool.{Bool, true, false, cond, not, _&&_, _||_}
+use mathlib.Core.Bool.{Bool, true, false, cond, _&&_}
 use mathlib.Core.List.{List, [], _∷_, _++_, append-nil}
-use mathlib.Core.Logic.{_⊎_, inl, inr, _≢_}
+use mathlib.Core.Logic.{_⊎_, inl, inr}
 use native.Mathlib.Omega.{arith}
-use native.Mathlib.Nat.{not-suc-le-zero, le-step, lt-suc-self, eq-or-lt-of-le, le-of-suc-le-suc, le-refl, add-zero, add-suc, zero-add}
-use lib.Dec.{T, eqb, ltb}
+use native.Mathlib.Nat.{not-suc-le-zero, le-step, lt-suc-self, eq-or-lt-of-le, le-of-suc-le-suc, le-refl, add-zero, zero-add}
+use lib.Dec.{T, ltb}
 use lib.ListN.{length, getD, length-append, List·getD-append}
 use Rattle.nodes.specs.Row.{parity, count, anyBelow, lowestFrom, lowest, membersFrom, members}
 use Rattle.nodes.proofs.Logic.{is-true, is-false, from-true, from-false, both-ways, dec, le-or-lt, lt-or-ge}
 use Rattle.nodes.proofs.Row.{parity-ext, any-in, any-none, ltb-yes, ltb-no}
-use Rattle.nodes.proofs.Count.{count-at, count-not, count-mono, rank-lt, rank-sur, rank-lt-out, rank-sum}
+use Rattle.nodes.proofs.Count.{count-at, count-not, rank-lt, rank-sur, rank-lt-out, rank-sum}
 
 -- ---- the least member
 pub from-ge : (k n : ℕ) (s : ℕ → Bool) → k ≤ lowestFrom k n s

@@ -1,7 +1,7 @@
 -- What is counted and found word by word is so of the members, for lists of words of any length.
-use Prim.Native.Nat.{ℕ, zero, suc, _+_, _-_, _*_, _^_, _≤_, _<_}
+use Prim.Native.Nat.{ℕ, suc, _+_, _-_, _*_, _^_, _≤_, _<_}
 use mathlib.Core.Path.{_≡_, refl, sym, ap, ap₂, _∙_}
-use mathlib.Core.Bool.{Bool, true, false, not, _&&_, _||_}
+use mathlib.Core.Bool.{Bool, true, false, not, _&&_}
 use mathlib.Core.List.{List, [], _∷_}
 use mathlib.Core.Logic.{_⊎_, inl, inr, _≢_}
 use native.Mathlib.Omega.{arith}
@@ -60,6 +60,10 @@ sameOf [] vs = true
 sameOf (u ∷ us) [] = true
 sameOf (u ∷ us) (v ∷ vs) = eqb u v && sameOf us vs
 
+-- the two differ at k
+abbrev differs : List ℕ → List ℕ → ℕ → Bool
+differs us vs k = memberOf us k ⊕ memberOf vs k
+
 pub member-same : (us vs : List ℕ) → length us ≡ length vs → Words us → Words vs → sameOf us vs ≡ allBelow (length us * wordBits) (λ k. not (memberOf us k ⊕ memberOf vs k))
 unfolding allBelow
 member-same [] vs e hu hv = refl
@@ -67,11 +71,13 @@ member-same (u ∷ us) [] e hu hv = absurd (omega arith)
 member-same (u ∷ us) (v ∷ vs) e hu hv =
     ap₂ _&&_
     (bit-same wordBits u v (hu 0) (hv 0)
-    ∙ all-ext wordBits (λ k. not (bit u k ⊕ bit v k)) (λ k. not (memberOf (u ∷ us) k ⊕ memberOf (v ∷ vs) k)) (λ k l. ap₂ (λ (a b : Bool). not (a ⊕ b)) (sym (member-head u us k l)) (sym (member-head v vs k l))))
+    ∙ all-ext wordBits (λ k. not (bit u k ⊕ bit v k)) (λ k. not (differs (u ∷ us) (v ∷ vs) k))
+    (λ k l. ap₂ (λ (a b : Bool). not (a ⊕ b)) (sym (member-head u us k l)) (sym (member-head v vs k l))))
     (member-same us vs (omega arith) (words-tail u us hu) (words-tail v vs hv)
-    ∙ all-ext (length us * wordBits) (λ k. not (memberOf us k ⊕ memberOf vs k)) (λ k. not (memberOf (u ∷ us) (wordBits + k) ⊕ memberOf (v ∷ vs) (wordBits + k))) (λ k l. ap₂ (λ (a b : Bool). not (a ⊕ b)) (sym (member-tail u us k)) (sym (member-tail v vs k))))
-    ∙ sym (all-split wordBits (length us * wordBits) (λ k. not (memberOf (u ∷ us) k ⊕ memberOf (v ∷ vs) k)))
-    ∙ ap (λ (n : ℕ). allBelow n (λ k. not (memberOf (u ∷ us) k ⊕ memberOf (v ∷ vs) k))) (sym (places (length us)))
+    ∙ all-ext (length us * wordBits) (λ k. not (differs us vs k)) (λ k. not (differs (u ∷ us) (v ∷ vs) (wordBits + k)))
+    (λ k l. ap₂ (λ (a b : Bool). not (a ⊕ b)) (sym (member-tail u us k)) (sym (member-tail v vs k))))
+    ∙ sym (all-split wordBits (length us * wordBits) (λ k. not (differs (u ∷ us) (v ∷ vs) k)))
+    ∙ ap (λ (n : ℕ). allBelow n (λ k. not (differs (u ∷ us) (v ∷ vs) k))) (sym (places (length us)))
 
 -- ---- the least
 module _ (w : ℕ) (ws : List ℕ) where

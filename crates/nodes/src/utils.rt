@@ -35,10 +35,16 @@ impl NodeSet {
         ensures { λ r. ⌜ member r ≡ (λ u. ltb u n && leb u highest) ⌝ }
     {
         if n < WORD_BITS as usize {
-            return NodeSet { low: mask(n as u8) - 1, high: 0 };
+            return NodeSet {
+                low: mask(n as u8) - 1,
+                high: 0,
+            };
         }
         if n <= NodeSet::HIGHEST as usize {
-            return NodeSet { low: !0, high: mask(n as u8) - 1 };
+            return NodeSet {
+                low: !0,
+                high: mask(n as u8) - 1,
+            };
         }
         NodeSet { low: !0, high: !0 }
     }

@@ -5,18 +5,13 @@ use Rattle.nodes.proofs.NodeSet.{in-word}
 use borrow.Author.Needs.{needs}
 use Rattle.nodes.proofs.utils.mask.Statement.{statement}
 use Rattle.nodes.proofs.utils.mask.Tie as tie
-use Rattle.nodes.proofs.utils.mask.Reads as reads
-use Rattle.nodes.proofs.utils.mask.Lts as lts
 
--- src/utils.rt:16:11
 cast-result : tie.Need-cast-result
 cast-result c = search needs
 
--- src/utils.rt:16:5
 shl-result : tie.Need-shl-result
 shl-result c = search needs
 
--- src/utils.rt:13:1
 returns : tie.Need-returns
 returns c = one-shl wordBits (c .args .v % wordBits) (in-word (c .args .v))
 

@@ -1,4 +1,4 @@
-use mathlib.Core.Path.{_≡_, refl, sym, ap, ap₂, _∙_, fun-ext}
+use mathlib.Core.Path.{sym, ap, _∙_}
 use native.Mathlib.Omega.{arith}
 use Prim.Native.Nat.{ℕ, _+_}
 use native.Mathlib.Nat.{add-zero}
@@ -9,24 +9,20 @@ use Rattle.nodes.proofs.NodeSetCount.{member-count}
 use borrow.Author.Needs.{needs}
 use Rattle.nodes.proofs.utils.NodeSet.count.Statement.{statement}
 use Rattle.nodes.proofs.utils.NodeSet.count.Tie as tie
-use Rattle.nodes.proofs.utils.NodeSet.count.Reads as reads
-use Rattle.nodes.proofs.utils.NodeSet.count.Lts as lts
 
--- src/utils.rt:139:9
 cast-result : tie.Need-cast-result
 cast-result c = omega (arith, ones-le wordBits (c .before .args .self .low) (search needs))
 
--- src/utils.rt:139:46
 cast-result-2 : tie.Need-cast-result-2
 cast-result-2 c = omega (arith, ones-le wordBits (c .before .before .args .self .high) (search needs))
 
--- src/utils.rt:139:9
 add-result : tie.Need-add-result
-add-result c = let s = c .before .before .args .self in omega (arith, ones-le wordBits (s .low) (search needs), ones-le wordBits (s .high) (search needs))
+add-result c =
+    let s = c .before .before .args .self in omega (arith, ones-le wordBits (s .low) (search needs), ones-le wordBits (s .high) (search needs))
 
--- src/utils.rt:136:5
 returns : tie.Need-returns
-returns c = let s = c .before .before .args .self in
+returns c =
+    let s = c .before .before .args .self in
     ap (λ (x : ℕ). ones (s .low) + x) (sym (add-zero (ones (s .high)))) ∙ member-count (wordsOf s) (words-of s (search needs) (search needs))
 
 pub count-spec : {M : Type 1} → statement M

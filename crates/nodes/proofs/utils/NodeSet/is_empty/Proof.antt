@@ -1,5 +1,5 @@
-use mathlib.Core.Path.{_≡_, refl, sym, ap, ap₂, _∙_, fun-ext}
-use mathlib.Core.Bool.{Bool, true, false, not, _&&_, _||_}
+use mathlib.Core.Path.{sym, ap, _∙_}
+use mathlib.Core.Bool.{Bool, true, _&&_}
 use lib.Dec.{eqb}
 use borrow.Author.Tests.{eq-eqb, ne-eqb}
 use Rattle.nodes.specs.NodeSet.{wordsOf}
@@ -9,17 +9,15 @@ use Rattle.nodes.proofs.NodeSetCount.{member-none}
 use borrow.Author.Needs.{needs}
 use Rattle.nodes.proofs.utils.NodeSet.is_empty.Statement.{statement}
 use Rattle.nodes.proofs.utils.NodeSet.is_empty.Tie as tie
-use Rattle.nodes.proofs.utils.NodeSet.is_empty.Reads as reads
-use Rattle.nodes.proofs.utils.NodeSet.is_empty.Lts as lts
 
--- src/utils.rt:122:13
 returns : tie.Need-returns
-returns c = let s = c .before .before .args .self in
+returns c =
+    let s = c .before .before .args .self in
     sym (ap (λ (b : Bool). b && (eqb (s .high) 0 && true)) (ne-eqb (s .low) 0 (c .if1 .taken))) ∙ member-none (wordsOf s) (words-of s (search needs) (search needs))
 
--- src/utils.rt:118:5
 returns-2 : tie.Need-returns-2
-returns-2 c = let s = c .before .before .before .args .self in
+returns-2 c =
+    let s = c .before .before .before .args .self in
     sym (and-all (eqb (s .high) 0)) ∙ sym (ap (λ (b : Bool). b && (eqb (s .high) 0 && true)) (eq-eqb (s .low) 0 (c .before .if1 .left)))
     ∙ member-none (wordsOf s) (words-of s (search needs) (search needs))
 

@@ -1,4 +1,4 @@
-use mathlib.Core.Path.{_≡_, refl, sym, ap, ap₂, _∙_, fun-ext}
+use mathlib.Core.Path.{sym, ap, _∙_}
 use mathlib.Core.List.{[], _∷_}
 use native.Mathlib.Omega.{arith}
 use Prim.Native.Nat.{ℕ, _+_}
@@ -9,29 +9,24 @@ use Rattle.nodes.proofs.NodeSetCount.{lowest-word, lowest-in-head, lowe
 use borrow.Author.Needs.{needs}
 use Rattle.nodes.proofs.utils.NodeSet.lowest.Statement.{statement}
 use Rattle.nodes.proofs.utils.NodeSet.lowest.Tie as tie
-use Rattle.nodes.proofs.utils.NodeSet.lowest.Reads as reads
-use Rattle.nodes.proofs.utils.NodeSet.lowest.Lts as lts
 
--- src/utils.rt:147:20
 cast-result : tie.Need-cast-result
 cast-result c = omega (arith, trailing-le wordBits (c .before .before .before .args .self .low))
 
--- src/utils.rt:147:13
 returns : tie.Need-returns
-returns c = let s = c .before .before .before .args .self in
+returns c =
+    let s = c .before .before .before .args .self in
     trailing-lowest wordBits (s .low) ∙ sym (lowest-in-head (s .low) (s .high ∷ []) (search needs) (c .before .if1 .taken))
 
--- src/utils.rt:149:21
 cast-result-2 : tie.Need-cast-result-2
 cast-result-2 c = omega (arith, trailing-le wordBits (c .before .before .before .args .self .high))
 
--- src/utils.rt:149:9
 add-result : tie.Need-add-result
 add-result c = omega (arith, trailing-le wordBits (c .before .before .before .args .self .high))
 
--- src/utils.rt:143:5
 returns-2 : tie.Need-returns-2
-returns-2 c = let s = c .before .before .before .args .self in
+returns-2 c =
+    let s = c .before .before .before .args .self in
     ap (λ (x : ℕ). wordBits + x) (trailing-lowest wordBits (s .high) ∙ sym (lowest-word (s .high) [])) ∙ sym (lowest-in-tail (s .low) (s .high ∷ []) (c .before .if1 .left))
 
 pub lowest-spec : {M : Type 1} → statement M

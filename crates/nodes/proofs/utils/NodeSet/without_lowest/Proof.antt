@@ -6,31 +6,27 @@ use Rattle.nodes.proofs.NodeSetCount.{drop-nil, drop-in-head, drop-in-t
 use borrow.Author.Needs.{needs}
 use Rattle.nodes.proofs.utils.NodeSet.without_lowest.Statement.{statement}
 use Rattle.nodes.proofs.utils.NodeSet.without_lowest.Tie as tie
-use Rattle.nodes.proofs.utils.NodeSet.without_lowest.Reads as reads
-use Rattle.nodes.proofs.utils.NodeSet.without_lowest.Lts as lts
 
--- src/utils.rt:157:25
 sub-self : tie.Need-sub-self
 sub-self c = search needs
 
--- src/utils.rt:159:26
 sub-self-2 : tie.Need-sub-self-2
 sub-self-2 c = search needs
 
--- src/utils.rt:153:5
 returns : tie.Need-returns
-returns c = let s = c .before .before .before .before .args .self in
+returns c =
+    let s = c .before .before .before .before .args .self in
     fun-ext (drop-in-head (s .low) (s .high ∷ []) (search needs) (c .before .before .if1 .taken))
 
--- src/utils.rt:153:5
 returns-2 : tie.Need-returns-2
-returns-2 c = let s = c .before .before .before .before .before .before .args .self in
+returns-2 c =
+    let s = c .before .before .before .before .before .before .args .self in
     fun-ext (drop-in-tail (s .low) (s .high ∷ []) (c .before .before .before .before .if1 .left) (bitAnd (s .high) (s .high - 1) ∷ [])
-        (drop-in-head (s .high) [] (search needs) (c .before .before .if2 .taken)))
+    (drop-in-head (s .high) [] (search needs) (c .before .before .if2 .taken)))
 
--- src/utils.rt:153:5
 returns-3 : tie.Need-returns-3
-returns-3 c = let s = c .before .before .before .before .args .self in
+returns-3 c =
+    let s = c .before .before .before .before .args .self in
     fun-ext (drop-in-tail (s .low) (s .high ∷ []) (c .before .before .if1 .left) (s .high ∷ []) (drop-in-tail (s .high) [] (c .if2 .left) [] drop-nil))
 
 pub without-lowest-spec : {M : Type 1} → statement M
