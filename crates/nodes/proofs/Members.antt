@@ -130,6 +130,9 @@ lowest-suc n s = ap (λ (x : ℕ). cond (s 0) 0 x) (from-suc 0 n s)
 pub lowest-front : (m n : ℕ) (s : ℕ → Bool) → lowest m s < m → lowest (m + n) s ≡ lowest m s
 lowest-front m n s h = lowest-unique (m + n) s (lowest m s) (omega arith) (lowest-none m s) (λ l. lowest-here m s h)
 
+pub lowest-past : (n w : ℕ) (s : ℕ → Bool) → n ≤ w → lowest n s < n → lowest w s ≡ lowest n s
+lowest-past n w s h l = let e : w ≡ n + (w - n) = omega arith in ap (λ (x : ℕ). lowest x s) e ∙ lowest-front n (w - n) s l
+
 pub lowest-back : (m n : ℕ) (s : ℕ → Bool) → ((k : ℕ) → k < m → s k ≡ false) → lowest (m + n) s ≡ m + lowest n (λ k. s (m + k))
 lowest-back m n s f =
     let b = lowest-le n (λ k. s (m + k)) in
@@ -228,3 +231,15 @@ members-parity n s f d =
     go : (k : ℕ) → k < n → T (s k) ⊎ (T (s k) → ⊥) → s k && f k ≡ s k && f (getD (members n s) (count k s) d)
     go k l (inl t) = ap (λ (x : ℕ). s k && f x) (sym (members-at n s d k l t))
     go k l (inr q) = ap (λ (b : Bool). b && f k) (is-false (s k) q) ∙ sym (ap (λ (b : Bool). b && f (getD (members n s) (count k s) d)) (is-false (s k) q))
+
+-- a set with nothing from n on has its list within n
+pub members-past : (n w : ℕ) (s : ℕ → Bool) → n ≤ w → ((k : ℕ) → n ≤ k → s k ≡ false) → members w s ≡ members n s
+members-past n zero s h z = ap (λ (x : ℕ). members x s) (nothing n h)
+  where
+    nothing : (n : ℕ) → n ≤ 0 → 0 ≡ n
+    nothing n h = omega arith
+members-past n (suc w) s h z = go (eq-or-lt-of-le h) (members-past n w s)
+  where
+    go : (n ≡ suc w) ⊎ (n < suc w) → (n ≤ w → ((k : ℕ) → n ≤ k → s k ≡ false) → members w s ≡ members n s) → members (suc w) s ≡ members n s
+    go (inl e) ih = ap (λ (x : ℕ). members x s) (sym e)
+    go (inr l) ih = members-out w s (from-false (s w) (z w (omega arith))) ∙ ih (omega arith) z
