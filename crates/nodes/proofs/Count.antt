@@ -38,6 +38,9 @@ unfolding count
 count-none zero s h = refl
 count-none (suc n) s h = count-not n s (h n (lt-suc-self n)) ∙ count-none n s (λ k l. h k (le-step l))
 
+pub count-empty : (n : ℕ) (s : ℕ → Bool) → (T (anyBelow n s) → ⊥) → count n s ≡ 0
+count-empty n s f = count-none n s (λ k l t. f (any-in n s k l t))
+
 pub count-all : (n : ℕ) (s : ℕ → Bool) → ((k : ℕ) → k < n → T (s k)) → count n s ≡ n
 unfolding count
 count-all zero s h = refl

@@ -6,7 +6,7 @@ use mathlib.Core.List.{List, [], _∷_, _++_, append-nil}
 use mathlib.Core.Logic.{_⊎_, inl, inr}
 use native.Mathlib.Omega.{arith}
 use native.Mathlib.Nat.{not-suc-le-zero, le-step, lt-suc-self, eq-or-lt-of-le, le-of-suc-le-suc, le-refl, add-zero, zero-add}
-use lib.Dec.{T, ltb}
+use lib.Dec.{T, ltb, ltb→lt}
 use lib.ListN.{length, getD, length-append, List·getD-append}
 use Rattle.nodes.specs.Row.{parity, count, anyBelow, lowestFrom, lowest, membersFrom, members}
 use Rattle.nodes.proofs.Logic.{is-true, is-false, from-true, from-false, both-ways, dec, le-or-lt, lt-or-ge}
@@ -107,6 +107,12 @@ any-lowest n s = go (le-or-lt n (lowest n s))
     go : (n ≤ lowest n s) ⊎ (lowest n s < n) → anyBelow n s ≡ ltb (lowest n s) n
     go (inl h) = any-none n s (λ k l. from-false (s k) (lowest-none n s k (omega arith))) ∙ sym (ltb-no (lowest n s) n h)
     go (inr h) = is-true (anyBelow n s) (any-in n s (lowest n s) h (from-true (s (lowest n s)) (lowest-here n s h))) ∙ sym (ltb-yes (lowest n s) n h)
+
+pub lowest-some : (n : ℕ) (s : ℕ → Bool) → T (anyBelow n s) → lowest n s < n
+lowest-some n s t = ltb→lt (lowest n s) n (from-true (ltb (lowest n s) n) (sym (any-lowest n s) ∙ is-true (anyBelow n s) t))
+
+pub lowest-member : (n : ℕ) (s : ℕ → Bool) → T (anyBelow n s) → T (s (lowest n s))
+lowest-member n s t = from-true (s (lowest n s)) (lowest-here n s (lowest-some n s t))
 
 -- from the number 0, and the rest
 from-suc : (k n : ℕ) (s : ℕ → Bool) → lowestFrom (suc k) n s ≡ suc (lowestFrom k n (λ i. s (suc i)))

@@ -13,6 +13,7 @@ use Rattle.nodes.specs.Row.{parity, anyBelow, allBelow, count, lowestFro
 use Rattle.nodes.proofs.Logic.{is-true, beq-eq, and-l, and-r, and-in, or-l, or-r, or-out, eqb-no, eqb-yes, and-none, and-all, ⊕-none}
 use Rattle.nodes.proofs.Row.{parity-ext, parity-⊕, parity-one, any-in, any-out, all-in, all-out}
 use Rattle.nodes.proofs.Count.{count-ext}
+use Rattle.nodes.proofs.Members.{lowest-some, lowest-member}
 
 -- s without v
 abbrev pub removed : (ℕ → Bool) → ℕ → ℕ → Bool
@@ -42,6 +43,10 @@ count-remove (suc n) s v h t = go (eq-or-lt-of-le (le-of-suc-le-suc h)) (count-r
         out : (b : Bool) → cond b (suc (suc (count n (removed s v)))) (suc (count n (removed s v))) ≡ suc (cond b (suc (count n (removed s v))) (count n (removed s v)))
         out true = refl
         out false = refl
+
+-- one visit: the least is taken out
+pub count-lowest : (n : ℕ) (s : ℕ → Bool) → T (anyBelow n s) → count n s ≡ suc (count n (removed s (lowest n s)))
+count-lowest n s t = count-remove n s (lowest n s) (lowest-some n s t) (lowest-member n s t)
 
 -- a sum over the set
 pub parity-remove : (n : ℕ) (s f : ℕ → Bool) (v : ℕ) → v < n → T (s v) → parity n (λ k. s k && f k) ≡ f v ⊕ parity n (λ k. removed s v k && f k)
