@@ -15,12 +15,13 @@ use Rattle.finder.specs.Job.{Job, odd, own, isXorY, isYorZ, planeXY, planeYZ, p
 use Rattle.finder.proofs.Conditions.{Ok}
 use Rattle.finder.proofs.Flows.{earlierThan}
 use Rattle.finder.proofs.Table.{needs-one}
+use Rattle.tables.specs.Answer.{Refusal}
 use Rattle.tables.specs.JobFile.{modeCausal, modePlanes, modePauli}
 use Rattle.tables.specs.FlowFile.{Flow}
 use Rattle.tables.specs.Verdict as Q
 use Rattle.tables.specs.Verdict.{ask, _next_, each}
 use Rattle.tables.specs.Published.{StrictOrder, Measured, CausalFlow, PlaneConditions, PauliConditions, byLayer, NoOtherInputs, OutputsAtZero, OthersAboveZero, Domain, CausalAccepted, PlanesAccepted, PaulisAccepted}
-use Rattle.tables.proofs.Questions.{ask-in, ask-out, next-in, next-l, next-r, each-in, each-out, late-in, late-out}
+use Rattle.tables.proofs.Questions.{ask-in, ask-out, next-in, next-l, next-r, each-in, each-out, when-in, when-out, late-in, late-out}
 use Rattle.tables.proofs.Verdict.{Preliminary, verify-in, verify-preliminary, verify-nodes, node-in, node-out}
 
 pub by-layer : (layer : ℕ → ℕ) → StrictOrder (byLayer layer)
@@ -306,3 +307,124 @@ module _ (j : Job) (f : Flow) (r : Readable j f) where
       verify-in j f modePauli
       (preliminary modePauli (a .domain) (a .outputs) (λ q. absurd (q refl)) (a .inputs) (λ i s. some-member i s (paulis-ok (a .conditions) (a .inputs) i s .owns)))
       (λ i s. node-in j f modePauli i (paulis-ok (a .conditions) (a .inputs) i s))
+
+  -- ---- causal flow, where each entry has one member
+  module _ (single : (u : ℕ) → T (f .entry u) → (k : ℕ) × (k < j .nodes) × ((v : ℕ) → f .set u v ≡ eqb v k)) where
+    -- f(i)
+    abbrev successor : ℕ → ℕ
+    successor i = lowest (j .nodes) (f .set i)
+
+    the-member : (i : ℕ) → T (f .entry i) → (successor i < j .nodes) × ((v : ℕ) → f .set i v ≡ eqb v (successor i))
+    the-member i t = go (single i t)
+      where
+        go : (k : ℕ) × (k < j .nodes) × ((v : ℕ) → f .set i v ≡ eqb v k) → (successor i < j .nodes) × ((v : ℕ) → f .set i v ≡ eqb v (successor i))
+        go (k, l, e) =
+            let q : successor i ≡ k = lowest-unique (j .nodes) (f .set i) k (omega arith) (λ v m. e v ∙ eqb-no v k (omega arith)) (λ m. e k ∙ eqb-yes k) in
+            (rw q l, λ v. e v ∙ ap (eqb v) (sym q))
+
+    abbrev neighboursAsk : ℕ → ℕ → Option Refusal
+    neighboursAsk i k = each (j .nodes) (Q.neighbourAsk j f i k)
+
+    causal-in : (i k : ℕ) → f .layer k < f .layer i → ((v : ℕ) → v < j .nodes → T (j .edge k v) → v ≢ i → f .layer v < f .layer i) → T (j .edge k i) → Q.causalAsk j f i k ≡ none
+    unfolding Q.causalAsk
+    causal-in i k a b c =
+        next-in (Q.successorAsk j f i k) (neighboursAsk i k next Q.adjacentAsk j f i k) (ask-in (Q.later j f i k) 18 i k (lt-later i k a))
+        (next-in (neighboursAsk i k) (Q.adjacentAsk j f i k)
+        (each-in (j .nodes) (Q.neighbourAsk j f i k)
+        (λ v l. ask-in (not (j .edge k v) || eqb v i || Q.later j f i v || false) 18 i v
+        (late-in (j .edge k v) (eqb v i) (Q.later j f i v) false (λ t. by v l t (dec (eqb v i))))))
+        (ask-in (j .edge k i) 18 i k c))
+      where
+        by : (v : ℕ) → v < j .nodes → T (j .edge k v) → T (eqb v i) ⊎ (T (eqb v i) → ⊥) → T (eqb v i) ⊎ (T (Q.later j f i v) ⊎ ⊥)
+        by v l t (inl q) = inl q
+        by v l t (inr d) = inr (inl (lt-later i v (b v l t (λ e. d (rw e (eqb-refl i))))))
+
+    module _ (i k : ℕ) (e : Q.causalAsk j f i k ≡ none) where
+      asked : (Q.successorAsk j f i k next neighboursAsk i k next Q.adjacentAsk j f i k) ≡ none
+      unfolding Q.causalAsk
+      asked = e
+
+      after-successor : (neighboursAsk i k next Q.adjacentAsk j f i k) ≡ none
+      after-successor = next-r (Q.successorAsk j f i k) (neighboursAsk i k next Q.adjacentAsk j f i k) asked
+
+      successor-later : f .layer k < f .layer i
+      successor-later = later-lt i k (ask-out (Q.later j f i k) 18 i k (next-l (Q.successorAsk j f i k) (neighboursAsk i k next Q.adjacentAsk j f i k) asked))
+
+      neighbour-later : (v : ℕ) → v < j .nodes → T (j .edge k v) → v ≢ i → f .layer v < f .layer i
+      neighbour-later v l t d =
+          by
+          (late-out (j .edge k v) (eqb v i) (Q.later j f i v) false
+          (ask-out (not (j .edge k v) || eqb v i || Q.later j f i v || false) 18 i v (each-out (j .nodes) (Q.neighbourAsk j f i k) (next-l (neighboursAsk i k) (Q.adjacentAsk j f i k) after-successor) v l)) t)
+        where
+          by : T (eqb v i) ⊎ (T (Q.later j f i v) ⊎ ⊥) → f .layer v < f .layer i
+          by (inl q) = absurd (d (eqb→eq v i q))
+          by (inr (inl q)) = later-lt i v q
+          by (inr (inr q)) = absurd q
+
+      is-adjacent : T (j .edge k i)
+      is-adjacent = ask-out (j .edge k i) 18 i k (next-r (neighboursAsk i k) (Q.adjacentAsk j f i k) after-successor)
+
+    -- Danos and Kashefi: the same for causal flow; here no node's own input is excepted, since f(i) is later than i
+    pub causal-accepts : Q.verify j f modeCausal ≡ none → CausalAccepted j f
+    causal-accepts e = record {
+      domain = preliminary-domain modeCausal asked-first;
+      outputs = asked-first .outputs;
+      others = asked-first .others (λ q. one-three q);
+      flow = (
+        successor,
+        record {
+          order = by-layer (f .layer);
+          node = λ i s. the-member i (has-entry i s) .0;
+          noInput = λ i s t. self (f .layer) i (successor i) (asked-first .inputs i (successor i) (s .0) (the-member i (has-entry i s) .0) (in-set i s) t) (successor-later i (successor i) (causal i s));
+          adjacent = λ i s. is-adjacent i (successor i) (causal i s);
+          successor = λ i s. successor-later i (successor i) (causal i s);
+          neighbours = λ i k s l t d. neighbour-later i (successor i) (causal i s) k l t d;
+        },
+        λ i k s l. the-member i (has-entry i s) .1 k,
+      );
+    }
+      where
+        one-three : modeCausal ≡ modePauli → ⊥
+        one-three q = omega arith
+
+        asked-first : Preliminary j f modeCausal
+        asked-first = verify-preliminary j f modeCausal e
+
+        has-entry : (i : ℕ) → Measured j i → T (f .entry i)
+        has-entry i s = preliminary-domain modeCausal asked-first i (s .0) .1 (s .1)
+
+        in-set : (i : ℕ) → Measured j i → T (f .set i (successor i))
+        in-set i s = rw (the-member i (has-entry i s) .1 (successor i)) (eqb-refl (successor i))
+
+        self : (layer : ℕ → ℕ) (i k : ℕ) → k ≡ i → layer k < layer i → ⊥
+        self layer i k q l = not-below (layer i) (rw q at l)
+          where
+            not-below : (a : ℕ) → a < a → ⊥
+            not-below a l = omega arith
+
+        causal : (i : ℕ) → Measured j i → Q.causalAsk j f i (successor i) ≡ none
+        causal i s =
+            when-out (f .set i (successor i)) (Q.causalAsk j f i (successor i))
+            (each-out (j .nodes) (λ k. cond (f .set i k) (Q.causalAsk j f i k) none) (verify-nodes j f modeCausal e i s) (successor i) (the-member i (has-entry i s) .0)) (in-set i s)
+
+    pub accepts-causal : CausalAccepted j f → Q.verify j f modeCausal ≡ none
+    accepts-causal a =
+        verify-in j f modeCausal
+        (preliminary modeCausal (a .domain) (a .outputs) (λ q. a .others)
+        (λ i k s l t q. absurd (c .noInput i s (rw (← is-f i k s l t) q)))
+        (λ i s. any-in (j .nodes) (f .set i) (g i) (c .node i s) (rw (w i (g i) s (c .node i s)) (eqb-refl (g i)))))
+        (λ i s. each-in (j .nodes) (λ k. cond (f .set i k) (Q.causalAsk j f i k) none)
+        (λ k l. when-in (f .set i k) (Q.causalAsk j f i k)
+        (λ t. rw (is-f i k s l t) (causal-in i (g i) (c .successor i s) (λ v m q d. c .neighbours i v s m q d) (c .adjacent i s)))))
+      where
+        g : ℕ → ℕ
+        g = a .flow .0
+
+        c : CausalFlow j (byLayer (f .layer)) (a .flow .0)
+        c = a .flow .1
+
+        w : (i k : ℕ) → Measured j i → k < j .nodes → f .set i k ≡ eqb k (a .flow .0 i)
+        w = a .flow .2
+
+        is-f : (i k : ℕ) → Measured j i → k < j .nodes → T (f .set i k) → k ≡ a .flow .0 i
+        is-f i k s l t = eqb→eq k (a .flow .0 i) (rw (w i k s l) at t)

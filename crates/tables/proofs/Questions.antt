@@ -133,3 +133,12 @@ beq-in true true f g = f tt tt
 beq-in true false f g = tt
 beq-in false true f g = tt
 beq-in false false f g = g (λ x. x)
+
+-- a question that is asked only where c is true
+pub when-in : (c : Bool) (p : Option Refusal) → (T c → p ≡ none) → cond c p none ≡ none
+when-in true p h = h tt
+when-in false p h = refl
+
+pub when-out : (c : Bool) (p : Option Refusal) → cond c p none ≡ none → T c → p ≡ none
+when-out true p e t = e
+when-out false p e t = absurd t
