@@ -2,7 +2,7 @@
 use Prim.Native.Nat.{ℕ, zero, suc, _+_, _*_, _%_, _≤_, _<_, zero-le}
 use mathlib.Core.Path.{_≡_, refl, sym, ap, ap₂, _∙_}
 use mathlib.Core.Bool.{Bool, true, false, cond, not, _&&_, _||_}
-use mathlib.Core.Logic.{_⊎_, inl, inr}
+use mathlib.Core.Logic.{_⊎_, inl, inr, _↔_}
 use mathlib.Core.List.{List, [], _∷_, _++_, append-assoc}
 use native.Mathlib.Omega.{arith}
 use native.Mathlib.Nat.{not-suc-le-zero, le-of-suc-le-suc}
@@ -15,7 +15,7 @@ use Rattle.tables.specs.Answer.{Answer, gives, _>>=_, no}
 use Rattle.tables.specs.Records.{Part, checked, written, kindOpen, kindEdges, kindInputs, kindOutputs, kindMeasurements}
 use Rattle.tables.specs.JobFile.{JobFile, mostNodes, modeCausal, modePlanes, modePauli, all, has, rises, pairsRise, highestOf, allows, allAllowed, openNo, edgesNo, nodesNo, measurementsNo, readMeasurements, readOutputs, readInputs, readEdges, readJob, joined, jobOf}
 use Rattle.tables.specs.Encoding.{jobBytes, ValidJob}
-use Rattle.tables.proofs.Records.{give-inj, bind-out, no-out, and-out, all-left, all-right, longer, checked-passed, checked-append, checked-written, checked-encodes}
+use Rattle.tables.proofs.Records.{give-inj, bind-out, no-out, and-out, longer, checked-passed, checked-append, checked-written, record-bytes}
 
 -- ---- the questions of each record, as facts
 two-bytes : (l : List ℕ) → length l ≡ 2 → l ≡ getD l 0 0 ∷ getD l 1 0 ∷ []
@@ -196,13 +196,7 @@ job-decodes f v =
       measurements = checked-written kindMeasurements (measurementsNo (f .n) (f .mode) (has (f .outputs))) (f .measurements) (f .after) (omega arith) (measurements-in (f .n) (f .mode) (has (f .outputs)) (f .measurements) (v .count) (v .allowed));
     })
 
--- one record of bytes below 256, and the bytes behind it
-record-bytes : (kind : ℕ) (test : List ℕ → ℕ) (s : List ℕ) (p : Part) → all (λ b. ltb b 256) s ≡ true → checked kind test s ≡ gives p
-    → (s ≡ written kind (p .payload) ++ p .rest) × (all (λ b. ltb b 256) (p .rest) ≡ true)
-record-bytes kind test s p h e =
-    let q : s ≡ written kind (p .payload) ++ p .rest = checked-encodes kind test s p h e in
-    (q, all-right (λ b. ltb b 256) (written kind (p .payload)) (p .rest) (sym (ap (all (λ b. ltb b 256)) q) ∙ h))
-
+-- from bytes below 256 only these are read as the job
 pub job-encodes : (s : List ℕ) (f : JobFile) → all (λ b. ltb b 256) s ≡ true → readJob s ≡ gives f → s ≡ jobBytes f ++ f .after
 job-encodes s f h e =
     let j : JobParts s f = job-parts s f e in
@@ -217,6 +211,10 @@ job-encodes s f h e =
     ∙ ap (λ (t : List ℕ). written kindInputs (f .inputs) ++ t) (q4
     ∙ ap (λ (t : List ℕ). written kindOutputs (f .outputs) ++ t) q5)))
     ∙ sym (chain (written kindOpen (f .n ∷ f .mode ∷ [])) (written kindEdges (f .edges)) (written kindInputs (f .inputs)) (written kindOutputs (f .outputs)) (written kindMeasurements (f .measurements)) (f .after))
+
+-- bytes below 256 are read as a job just where they are its bytes, and it is valid
+pub job-exact : (s : List ℕ) (f : JobFile) → all (λ b. ltb b 256) s ≡ true → (readJob s ≡ gives f ↔ (s ≡ jobBytes f ++ f .after) × ValidJob f)
+job-exact s f h = (λ e. (job-encodes s f h e, job-asked s f e), λ x. ap readJob (x .0) ∙ job-decodes f (x .1))
 
 -- ---- what follows for the nodes
 pub has-below : (n : ℕ) (l : List ℕ) (u : ℕ) → all (λ v. ltb v n) l ≡ true → T (has l u) → u < n

@@ -193,5 +193,9 @@ checked-append kind test s g p e =
 pub checked-written : (kind : ℕ) (test : List ℕ → ℕ) (p rest : List ℕ) → length p < 4294967296 → test p ≡ 0 → checked kind test (written kind p ++ rest) ≡ gives (record { payload = p; rest = rest })
 checked-written kind test p rest h z = checked-given kind test (written kind p ++ rest) (record { payload = p; rest = rest }) (part-written kind p rest h) z
 
-pub checked-encodes : (kind : ℕ) (test : List ℕ → ℕ) (s : List ℕ) (p : Part) → all (λ b. ltb b 256) s ≡ true → checked kind test s ≡ gives p → s ≡ written kind (p .payload) ++ p .rest
-checked-encodes kind test s p h e = part-encodes kind s p h (checked-passed kind test s p e .0)
+-- one record of bytes below 256, and the bytes behind it
+pub record-bytes : (kind : ℕ) (test : List ℕ → ℕ) (s : List ℕ) (p : Part) → all (λ b. ltb b 256) s ≡ true → checked kind test s ≡ gives p
+    → (s ≡ written kind (p .payload) ++ p .rest) × (all (λ b. ltb b 256) (p .rest) ≡ true)
+record-bytes kind test s p h e =
+    let q : s ≡ written kind (p .payload) ++ p .rest = part-encodes kind s p h (checked-passed kind test s p e .0) in
+    (q, all-right (λ b. ltb b 256) (written kind (p .payload)) (p .rest) (sym (ap (all (λ b. ltb b 256)) q) ∙ h))
