@@ -1,3 +1,4 @@
 pub mod Records
 pub mod JobFile
 pub mod FlowFile
+pub mod Writing

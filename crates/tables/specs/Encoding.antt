@@ -1,10 +1,14 @@
 -- The bytes of a job and of a flow, as they are written, and what reading asks of them.
 use Prim.Native.Nat.{ℕ, _%_, _≤_}
 use mathlib.Core.Path.{_≡_}
-use mathlib.Core.Bool.{Bool, true}
+use mathlib.Core.Bool.{Bool, true, not}
 use mathlib.Core.List.{List, [], _∷_, _++_}
 use lib.Dec.{ltb}
 use lib.ListN.{length}
+use Rattle.nodes.specs.Row.{members}
+use Rattle.solver.specs.WorkMatrix.{listOf}
+use Rattle.finder.specs.Job.{Job}
+use Rattle.finder.specs.Search.{Progress}
 use Rattle.tables.specs.Records.{written, kindOpen, kindEdges, kindInputs, kindOutputs, kindMeasurements, kindLayers, kindSets}
 use Rattle.tables.specs.JobFile.{JobFile, mostNodes, modeCausal, modePauli, all, has, rises, pairsRise, allAllowed}
 use Rattle.tables.specs.FlowFile.{SetEntry, FlowFile, allEntries, entryBelow, entriesRise}
@@ -49,3 +53,16 @@ pub record ValidFlow (n : ℕ) (g : FlowFile) : Type 0 where
   pub count : length (g .layers) ≡ n
   pub below : allEntries (entryBelow n) (g .sets) ≡ true
   pub rise : entriesRise 0 (g .sets) ≡ true
+
+-- the entries of the nodes in the list, in its order
+unfoldable pub entriesFor : ℕ → (ℕ → ℕ → Bool) → List ℕ → List SetEntry
+entriesFor n set [] = []
+entriesFor n set (u ∷ us) = record { node = u; set = members n (set u) } ∷ entriesFor n set us
+
+-- the flow file that the finder writes for a finished search
+abbrev pub foundFlow : Job → Progress → FlowFile
+foundFlow j s = record {
+  layers = listOf (j .nodes) (s .layer);
+  sets = entriesFor (j .nodes) (s .set) (members (j .nodes) (λ u. not (j .output u)));
+  after = [];
+}
