@@ -1,23 +1,23 @@
 -- Flows: the entries of a sets record and their bytes, what a flow that was read has passed, and what follows for its nodes.
 use Prim.Native.Nat.{ℕ, zero, suc, _+_, _*_, _≤_, _<_, zero-le}
-use mathlib.Core.Path.{_≡_, refl, sym, ap, ap₂, _∙_}
-use mathlib.Core.Bool.{Bool, true, false, cond, not, _&&_, _||_, false≢true}
-use mathlib.Core.Logic.{_⊎_, inl, inr, _↔_}
+use mathlib.Core.Path.{_≡_, refl, sym, ap, _∙_}
+use mathlib.Core.Bool.{Bool, true, false, cond, _&&_, _||_, false≢true}
+use mathlib.Core.Logic.{_⊎_, inl, inr, _↔_, _≢_}
 use mathlib.Core.Option.{Option, none, some, Option·some-injective, Option·none-ne-some}
 use mathlib.Core.List.{List, [], _∷_, _++_, append-assoc}
 use native.Mathlib.Omega.{arith}
 use native.Mathlib.Nat.{mul-le-mul, not-suc-le-zero, lt-suc-self, le-of-suc-le-suc}
-use borrow.Author.Tests.{leb-true, ltb-true, eqb-true, le-leb, lt-ltb, eq-eqb, ne-eqb}
+use borrow.Author.Tests.{leb-true, ltb-true, eqb-true, le-leb, eq-eqb, ne-eqb}
 use lib.Dec.{T, eqb, ltb, leb, eqb→eq, eqb-refl}
 use lib.ListN.{length, getD, take, drop, length-append, take-append-drop}
 use lib.Seq.{length-take-le, take-append-seam, drop-append-seam}
-use Rattle.nodes.proofs.Logic.{is-true, is-false, from-true, from-false, and-l, and-r, or-l, or-r, or-out, or-none, eqb-yes, lt-or-ge}
-use Rattle.tables.specs.Answer.{Answer, gives, _>>=_, no}
-use Rattle.tables.specs.Records.{Part, checked, written, kindLayers, kindSets}
-use Rattle.tables.specs.JobFile.{mostNodes, all, has, rises}
-use Rattle.tables.specs.FlowFile.{SetEntry, addEntry, entriesIn, entriesOf, framed, listed, allEntries, entryBelow, entriesRise, layersNo, setsNo, FlowFile, readSets, readFlow, setIn, entryIn, flowOf}
+use Rattle.nodes.proofs.Logic.{is-false, from-false, and-l, and-r, or-l, or-r, or-out, or-none, eqb-yes, lt-or-ge}
+use Rattle.tables.specs.Answer.{Answer, gives, no}
+use Rattle.tables.specs.Records.{checked, written, kindLayers, kindSets}
+use Rattle.tables.specs.JobFile.{mostNodes, modeCausal, all, has, rises}
+use Rattle.tables.specs.FlowFile.{SetEntry, addEntry, entriesIn, entriesOf, framed, listed, allEntries, entryBelow, entriesRise, layersNo, setsNo, FlowFile, readSets, readFlow, setIn, entryIn, nothingLeft, oneMember}
 use Rattle.tables.specs.Encoding.{entryBytes, flowFileBytes, ValidFlow}
-use Rattle.tables.proofs.Records.{give-inj, bind-out, no-out, and-out, checked-passed, checked-append, checked-written, record-bytes}
+use Rattle.tables.proofs.Records.{give-inj, asks-yes, bind-out, no-out, and-out, checked-passed, checked-append, checked-written, record-bytes}
 use Rattle.tables.proofs.JobFile.{has-below, rises-length}
 
 -- ---- entries and their bytes
@@ -289,3 +289,35 @@ members-below n (e ∷ es) u k a t =
     by : all (λ v. ltb v n) (e .set) ≡ true → T (eqb (e .node) u && has (e .set) k) ⊎ T (setIn es u k) → (T (setIn es u k) → k < n) → k < n
     by l (inl t) ih = has-below n (e .set) k l (and-r (eqb (e .node) u) (has (e .set) k) t)
     by l (inr t) ih = ih t
+
+-- ---- the questions that follow
+-- nothing is left (8)
+pub nothing-left : (rest : List ℕ) (b : Bool) → nothingLeft rest ≡ gives b → rest ≡ []
+nothing-left [] b e = refl
+nothing-left (x ∷ l) b e = absurd (none (length l) (eqb-true (suc (length l)) 0 (asks-yes 8 (eqb (suc (length l)) 0) b e)))
+  where
+    none : (k : ℕ) → suc k ≡ 0 → ⊥
+    none k e = omega arith
+
+-- in mode 1 each entry has one member (9), in the others any number
+pub one-member-asked : (es : List SetEntry) (b : Bool) → oneMember modeCausal es ≡ gives b → allEntries (λ e. eqb (length (e .set)) 1) es ≡ true
+one-member-asked es b e = asks-yes 9 (allEntries (λ e. eqb (length (e .set)) 1) es) b e
+
+pub one-member-other : (mode : ℕ) (es : List SetEntry) → mode ≢ modeCausal → oneMember mode es ≡ gives true
+one-member-other mode es d = rw (ne-eqb mode modeCausal d)
+
+alone : (l : List ℕ) → length l ≡ 1 → (k : ℕ) × ((m : ℕ) → has l m ≡ eqb k m)
+unfolding has
+alone [] e = absurd (omega arith)
+alone (k ∷ []) e = (k, λ m. or-none (eqb k m))
+alone (k ∷ x ∷ l) e = absurd (omega arith)
+
+pub one-member : (low : ℕ) (es : List SetEntry) (u : ℕ) → entriesRise low es ≡ true → allEntries (λ e. eqb (length (e .set)) 1) es ≡ true → T (entryIn es u)
+    → (k : ℕ) × ((m : ℕ) → setIn es u m ≡ eqb k m)
+one-member low es u a b t = let (i, l, q) = entry-place es d u t in by (getD es i d) q (eqb-true (length (getD es i d .set)) 1 (entries-at (λ e. eqb (length (e .set)) 1) es d i b l)) (λ m. set-at low es d i m a l)
+  where
+    d : SetEntry
+    d = record { node = 0; set = [] }
+
+    by : (e : SetEntry) → e .node ≡ u → length (e .set) ≡ 1 → ((m : ℕ) → setIn es (e .node) m ≡ has (e .set) m) → (k : ℕ) × ((m : ℕ) → setIn es u m ≡ eqb k m)
+    by e q c h = let (k, f) = alone (e .set) c in (k, λ m. ap (λ (v : ℕ). setIn es v m) (sym q) ∙ h m ∙ f m)

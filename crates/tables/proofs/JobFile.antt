@@ -1,7 +1,7 @@
 -- Jobs: what a job that was read has passed, its bytes, and what follows for its nodes.
 use Prim.Native.Nat.{ℕ, zero, suc, _+_, _*_, _%_, _≤_, _<_, zero-le}
 use mathlib.Core.Path.{_≡_, refl, sym, ap, ap₂, _∙_}
-use mathlib.Core.Bool.{Bool, true, false, cond, not, _&&_, _||_}
+use mathlib.Core.Bool.{Bool, true, false, cond, _&&_, _||_}
 use mathlib.Core.Logic.{_⊎_, inl, inr, _↔_}
 use mathlib.Core.List.{List, [], _∷_, _++_, append-assoc}
 use native.Mathlib.Omega.{arith}
@@ -9,13 +9,12 @@ use native.Mathlib.Nat.{not-suc-le-zero, le-of-suc-le-suc}
 use borrow.Author.Tests.{leb-true, ltb-true, eqb-true, le-leb, lt-ltb, eq-eqb, ne-eqb}
 use lib.Dec.{T, eqb, ltb, leb, eqb→eq}
 use lib.ListN.{length, getD, List·getD-eq-default}
-use Rattle.nodes.proofs.Logic.{is-true, is-false, from-true, from-false, both-ways, dec, and-l, and-r, or-out, or-comm, or-assoc, lt-or-ge}
-use Rattle.finder.specs.Job.{Job}
-use Rattle.tables.specs.Answer.{Answer, gives, _>>=_, no}
-use Rattle.tables.specs.Records.{Part, checked, written, kindOpen, kindEdges, kindInputs, kindOutputs, kindMeasurements}
-use Rattle.tables.specs.JobFile.{JobFile, mostNodes, modeCausal, modePlanes, modePauli, all, has, rises, pairsRise, highestOf, allows, allAllowed, openNo, edgesNo, nodesNo, measurementsNo, readMeasurements, readOutputs, readInputs, readEdges, readJob, joined, jobOf}
+use Rattle.nodes.proofs.Logic.{is-false, and-l, and-r, or-out, or-comm, lt-or-ge}
+use Rattle.tables.specs.Answer.{Answer, gives, no}
+use Rattle.tables.specs.Records.{checked, written, kindOpen, kindEdges, kindInputs, kindOutputs, kindMeasurements}
+use Rattle.tables.specs.JobFile.{JobFile, modeCausal, modePlanes, all, has, rises, pairsRise, highestOf, allows, allAllowed, openNo, edgesNo, nodesNo, measurementsNo, readMeasurements, readOutputs, readInputs, readEdges, readJob, joined, jobOf}
 use Rattle.tables.specs.Encoding.{jobBytes, ValidJob}
-use Rattle.tables.proofs.Records.{give-inj, bind-out, no-out, and-out, longer, checked-passed, checked-append, checked-written, record-bytes}
+use Rattle.tables.proofs.Records.{give-inj, bind-out, no-out, and-out, all-append, all-more, written-bytes, checked-passed, checked-append, checked-written, record-bytes}
 
 -- ---- the questions of each record, as facts
 two-bytes : (l : List ℕ) → length l ≡ 2 → l ≡ getD l 0 0 ∷ getD l 1 0 ∷ []
@@ -74,7 +73,7 @@ pub record JobParts (s : List ℕ) (f : JobFile) : Type 0 where
   pub afterEdges : List ℕ
   pub afterInputs : List ℕ
   pub afterOutputs : List ℕ
-  pub open1 : checked kindOpen openNo s ≡ gives (record { payload = f .n ∷ f .mode ∷ []; rest = afterOpen })
+  pub opened : checked kindOpen openNo s ≡ gives (record { payload = f .n ∷ f .mode ∷ []; rest = afterOpen })
   pub edges : checked kindEdges (edgesNo (f .n)) afterOpen ≡ gives (record { payload = f .edges; rest = afterEdges })
   pub inputs : checked kindInputs (nodesNo (f .n)) afterEdges ≡ gives (record { payload = f .inputs; rest = afterInputs })
   pub outputs : checked kindOutputs (nodesNo (f .n)) afterInputs ≡ gives (record { payload = f .outputs; rest = afterOutputs })
@@ -82,7 +81,7 @@ pub record JobParts (s : List ℕ) (f : JobFile) : Type 0 where
 
 pub job-of-parts : (s : List ℕ) (f : JobFile) → JobParts s f → readJob s ≡ gives f
 unfolding readJob readEdges readInputs readOutputs readMeasurements
-job-of-parts s f j = rw (j .open1, j .edges, j .inputs, j .outputs, j .measurements)
+job-of-parts s f j = rw (j .opened, j .edges, j .inputs, j .outputs, j .measurements)
 
 pub job-parts : (s : List ℕ) (f : JobFile) → readJob s ≡ gives f → JobParts s f
 unfolding readJob readEdges readInputs readOutputs readMeasurements
@@ -101,7 +100,7 @@ job-parts s f e =
       afterEdges = q .rest;
       afterInputs = i .rest;
       afterOutputs = o .rest;
-      open1 = a1 ∙ ap (λ (t : List ℕ). gives (record { payload = t; rest = p .rest })) l;
+      opened = a1 ∙ ap (λ (t : List ℕ). gives (record { payload = t; rest = p .rest })) l;
       edges = a2;
       inputs = a3;
       outputs = a4;
@@ -115,7 +114,7 @@ job-parts s f e =
 pub job-asked : (s : List ℕ) (f : JobFile) → readJob s ≡ gives f → ValidJob f
 job-asked s f e =
     let j : JobParts s f = job-parts s f e in
-    let (o1, o2, o3, o4) = open-out (f .n ∷ f .mode ∷ []) (checked-passed kindOpen openNo s (record { payload = f .n ∷ f .mode ∷ []; rest = j .afterOpen }) (j .open1) .1) in
+    let (o1, o2, o3, o4) = open-out (f .n ∷ f .mode ∷ []) (checked-passed kindOpen openNo s (record { payload = f .n ∷ f .mode ∷ []; rest = j .afterOpen }) (j .opened) .1) in
     let (e1, e2, e3) = edges-out (f .n) (f .edges) (checked-passed kindEdges (edgesNo (f .n)) (j .afterOpen) (record { payload = f .edges; rest = j .afterEdges }) (j .edges) .1) in
     let (i1, i2) = nodes-out (f .n) (f .inputs) (checked-passed kindInputs (nodesNo (f .n)) (j .afterEdges) (record { payload = f .inputs; rest = j .afterInputs }) (j .inputs) .1) in
     let (u1, u2) = nodes-out (f .n) (f .outputs) (checked-passed kindOutputs (nodesNo (f .n)) (j .afterInputs) (record { payload = f .outputs; rest = j .afterOutputs }) (j .outputs) .1) in
@@ -134,7 +133,7 @@ job-append s g f e =
       afterEdges = j .afterEdges ++ g;
       afterInputs = j .afterInputs ++ g;
       afterOutputs = j .afterOutputs ++ g;
-      open1 = checked-append kindOpen openNo s g (record { payload = f .n ∷ f .mode ∷ []; rest = j .afterOpen }) (j .open1);
+      opened = checked-append kindOpen openNo s g (record { payload = f .n ∷ f .mode ∷ []; rest = j .afterOpen }) (j .opened);
       edges = checked-append kindEdges (edgesNo (f .n)) (j .afterOpen) g (record { payload = f .edges; rest = j .afterEdges }) (j .edges);
       inputs = checked-append kindInputs (nodesNo (f .n)) (j .afterEdges) g (record { payload = f .inputs; rest = j .afterInputs }) (j .inputs);
       outputs = checked-append kindOutputs (nodesNo (f .n)) (j .afterInputs) g (record { payload = f .outputs; rest = j .afterOutputs }) (j .outputs);
@@ -189,7 +188,7 @@ job-decodes f v =
       afterEdges = rest3;
       afterInputs = rest4;
       afterOutputs = rest5;
-      open1 = checked-written kindOpen openNo (f .n ∷ f .mode ∷ []) rest2 (omega arith) (open-in (f .n) (f .mode) (v .few) (v .modeFrom) (v .modeTo));
+      opened = checked-written kindOpen openNo (f .n ∷ f .mode ∷ []) rest2 (omega arith) (open-in (f .n) (f .mode) (v .few) (v .modeFrom) (v .modeTo));
       edges = checked-written kindEdges (edgesNo (f .n)) (f .edges) rest3 (omega arith) (edges-in (f .n) (f .edges) (v .pairs) (v .edgesBelow) (v .edgesRise));
       inputs = checked-written kindInputs (nodesNo (f .n)) (f .inputs) rest4 (omega arith) (nodes-in (f .n) (f .inputs) (v .inputsBelow) (v .inputsRise));
       outputs = checked-written kindOutputs (nodesNo (f .n)) (f .outputs) rest5 (omega arith) (nodes-in (f .n) (f .outputs) (v .outputsBelow) (v .outputsRise));
@@ -200,7 +199,7 @@ job-decodes f v =
 pub job-encodes : (s : List ℕ) (f : JobFile) → all (λ b. ltb b 256) s ≡ true → readJob s ≡ gives f → s ≡ jobBytes f ++ f .after
 job-encodes s f h e =
     let j : JobParts s f = job-parts s f e in
-    let (q1, h1) = record-bytes kindOpen openNo s (record { payload = f .n ∷ f .mode ∷ []; rest = j .afterOpen }) h (j .open1) in
+    let (q1, h1) = record-bytes kindOpen openNo s (record { payload = f .n ∷ f .mode ∷ []; rest = j .afterOpen }) h (j .opened) in
     let (q2, h2) = record-bytes kindEdges (edgesNo (f .n)) (j .afterOpen) (record { payload = f .edges; rest = j .afterEdges }) h1 (j .edges) in
     let (q3, h3) = record-bytes kindInputs (nodesNo (f .n)) (j .afterEdges) (record { payload = f .inputs; rest = j .afterInputs }) h2 (j .inputs) in
     let (q4, h4) = record-bytes kindOutputs (nodesNo (f .n)) (j .afterInputs) (record { payload = f .outputs; rest = j .afterOutputs }) h3 (j .outputs) in
@@ -304,13 +303,22 @@ allowed-at mode output i (m ∷ l) (suc k) a h =
     let e : i + suc k ≡ i + 1 + k = omega arith in
     ap (λ (x : ℕ). allows mode (output x) (getD l k 0)) e ∙ allowed-at mode output (i + 1) l k (and-out (allows mode (output i) m) (allAllowed mode output (i + 1) l) a .1) (le-of-suc-le-suc h)
 
-highest-most : (mode : ℕ) → highestOf mode ≤ 6
-highest-most mode = by (eqb mode modeCausal) (eqb mode modePlanes)
+pub allows-most : (mode : ℕ) (output : Bool) (m : ℕ) → allows mode output m ≡ true → m ≤ 6
+unfolding allows
+allows-most mode true m e = omega (arith, eqb-true m 0 e)
+allows-most mode false m e = by (eqb mode modeCausal) (eqb mode modePlanes) (leb-true m (highestOf mode) (and-out (leb 1 m) (leb m (highestOf mode)) e .1))
   where
-    by : (a b : Bool) → cond a 1 (cond b 3 6) ≤ 6
-    by true b = omega arith
-    by false true = omega arith
-    by false false = omega arith
+    by : (a b : Bool) → m ≤ cond a 1 (cond b 3 6) → m ≤ 6
+    by true b h = omega arith
+    by false true h = omega arith
+    by false false h = h
+
+allowed-bytes : (mode : ℕ) (output : ℕ → Bool) (i : ℕ) (l : List ℕ) → allAllowed mode output i l ≡ true → all (λ b. ltb b 256) l ≡ true
+unfolding allAllowed all
+allowed-bytes mode output i [] a = refl
+allowed-bytes mode output i (m ∷ l) a =
+    let (p, q) = and-out (allows mode (output i) m) (allAllowed mode output (i + 1) l) a in
+    rw (lt-ltb m 256 (omega (arith, allows-most mode (output i) m p)), allowed-bytes mode output (i + 1) l q)
 
 module _ (f : JobFile) (v : ValidJob f) where
   byte-allowed : (u : ℕ) → u < f .n → allows (f .mode) (has (f .outputs) u) (jobOf f .measured u) ≡ true
@@ -340,12 +348,11 @@ module _ (f : JobFile) (v : ValidJob f) where
       by false e = let (a, b) = measured-range u h e in sym (ne-eqb (jobOf f .measured u) 0 (omega arith))
 
   pub measured-most : (u : ℕ) → jobOf f .measured u ≤ 6
-  measured-most u = by (lt-or-ge u (f .n)) (jobOf f .output u) refl
+  measured-most u = by (lt-or-ge u (f .n))
     where
-      by : (u < f .n) ⊎ (f .n ≤ u) → (c : Bool) → jobOf f .output u ≡ c → jobOf f .measured u ≤ 6
-      by (inl h) true e = omega (arith, output-zero u h e)
-      by (inl h) false e = omega (arith, measured-range u h e .1, highest-most (f .mode))
-      by (inr h) c e = rw (List·getD-eq-default (f .measurements) 0 {n = u} (omega (arith, v .count))) zero-le
+      by : (u < f .n) ⊎ (f .n ≤ u) → jobOf f .measured u ≤ 6
+      by (inl h) = allows-most (f .mode) (jobOf f .output u) (jobOf f .measured u) (byte-allowed u h)
+      by (inr h) = rw (List·getD-eq-default (f .measurements) 0 {n = u} (omega (arith, v .count))) zero-le
 
   pub measured-plane : f .mode ≡ modePlanes → (u : ℕ) → u < f .n → jobOf f .output u ≡ false → (1 ≤ jobOf f .measured u) × (jobOf f .measured u ≤ 3)
   measured-plane m u h o = rw m at (measured-range u h o)
@@ -367,3 +374,23 @@ module _ (f : JobFile) (v : ValidJob f) where
 
   pub edge-loop : (u : ℕ) → jobOf f .edge u u ≡ false
   edge-loop u = no-loop 0 (f .edges) u (v .edgesRise)
+
+  -- the bytes of a valid job are below 256
+  pub job-bytes : all (λ b. ltb b 256) (jobBytes f) ≡ true
+  unfolding all
+  job-bytes =
+      let few : f .n ≤ 128 = v .few in
+      let bytes : (l : List ℕ) → all (λ u. ltb u (f .n)) l ≡ true → all (λ b. ltb b 256) l ≡ true = λ l a. all-more (λ u. ltb u (f .n)) (λ b. ltb b 256) l (λ u x. let y : u < f .n = ltb-true u (f .n) x in lt-ltb u 256 (omega arith)) a in
+      let two : all (λ b. ltb b 256) (f .n ∷ f .mode ∷ []) ≡ true = rw (lt-ltb (f .n) 256 (omega arith), lt-ltb (f .mode) 256 (omega (arith, v .modeTo))) in
+      let o : List ℕ = written kindOpen (f .n ∷ f .mode ∷ []) in
+      let oe : List ℕ = o ++ written kindEdges (f .edges) in
+      let oei : List ℕ = oe ++ written kindInputs (f .inputs) in
+      all-append (λ b. ltb b 256) (oei ++ written kindOutputs (f .outputs)) (written kindMeasurements (f .measurements))
+      (all-append (λ b. ltb b 256) oei (written kindOutputs (f .outputs))
+      (all-append (λ b. ltb b 256) oe (written kindInputs (f .inputs))
+      (all-append (λ b. ltb b 256) o (written kindEdges (f .edges))
+      (written-bytes kindOpen (f .n ∷ f .mode ∷ []) (omega arith) two)
+      (written-bytes kindEdges (f .edges) (omega arith) (bytes (f .edges) (v .edgesBelow))))
+      (written-bytes kindInputs (f .inputs) (omega arith) (bytes (f .inputs) (v .inputsBelow))))
+      (written-bytes kindOutputs (f .outputs) (omega arith) (bytes (f .outputs) (v .outputsBelow))))
+      (written-bytes kindMeasurements (f .measurements) (omega arith) (allowed-bytes (f .mode) (has (f .outputs)) 0 (f .measurements) (v .allowed)))

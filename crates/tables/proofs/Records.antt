@@ -1,15 +1,15 @@
 -- Records: read with bytes behind them, read back as they were written, and the only bytes that are read so.
 use Prim.Native.Nat.{ℕ, zero, suc, _+_, _*_, _/_, _%_, _≤_, _<_}
-use mathlib.Core.Path.{_≡_, refl, sym, ap, ap₂, _∙_}
+use mathlib.Core.Path.{_≡_, refl, sym, ap, _∙_}
 use mathlib.Core.Bool.{Bool, true, false, _&&_, false≢true}
 use mathlib.Core.List.{List, [], _∷_, _++_}
 use native.Mathlib.Omega.{arith}
-use borrow.Author.Tests.{leb-true, ltb-true, eqb-true, le-leb, eq-eqb}
+use borrow.Author.Tests.{leb-true, ltb-true, eqb-true, le-leb, lt-ltb, eq-eqb}
 use lib.Dec.{eqb, ltb, leb}
-use lib.ListN.{length, getD, take, drop, length-append, length-drop, take-append-drop, List·getD-append}
+use lib.ListN.{length, take, drop, length-append, length-drop, take-append-drop, List·getD-append}
 use lib.Seq.{length-take-le, take-append-le, drop-append-le, take-append-seam, drop-append-seam}
 use Rattle.tables.specs.Answer.{Refusal, Answer, gives, refuses, _>>=_, _>>_, asks, no, passed}
-use Rattle.tables.specs.Records.{Part, part, checked, written, lengthField, kindField, headBytes}
+use Rattle.tables.specs.Records.{Part, part, checked, written, lengthField, kindField}
 use Rattle.tables.specs.JobFile.{all}
 
 -- ---- answers
@@ -23,6 +23,10 @@ never e = let z : _≡_ {A = ℕ} 0 1 = cc in omega arith
 pub asks-out : {B : Type 0} (q : ℕ) (c : Bool) (k : Answer B) (b : B) → (asks q c >> k) ≡ gives b → (c ≡ true) × (k ≡ gives b)
 asks-out q true k b e = (refl, e)
 asks-out q false k b e = absurd (never e)
+
+pub asks-yes : (q : ℕ) (c b : Bool) → asks q c ≡ gives b → c ≡ true
+asks-yes q true b e = refl
+asks-yes q false b e = absurd (never e)
 
 pub bind-out : {A B : Type 0} (m : Answer A) (k : A → Answer B) (b : B) → (m >>= k) ≡ gives b → (a : A) × (m ≡ gives a) × (k a ≡ gives b)
 bind-out (gives a) k b e = (a, refl, e)
@@ -41,11 +45,6 @@ pub all-append : (f : ℕ → Bool) (l g : List ℕ) → all f l ≡ true → al
 unfolding all
 all-append f [] g a b = b
 all-append f (x ∷ l) g a b = let (p, q) = and-out (f x) (all f l) a in rw (p, all-append f l g q b)
-
-pub all-left : (f : ℕ → Bool) (l g : List ℕ) → all f (l ++ g) ≡ true → all f l ≡ true
-unfolding all
-all-left f [] g a = refl
-all-left f (x ∷ l) g a = let (p, q) = and-out (f x) (all f (l ++ g)) a in rw (p, all-left f l g q)
 
 pub all-right : (f : ℕ → Bool) (l g : List ℕ) → all f (l ++ g) ≡ true → all f g ≡ true
 unfolding all
@@ -121,6 +120,23 @@ part-written kind p rest h =
       le-leb (suc (suc (suc (suc (suc (suc (length p))))))) (suc (suc (suc (suc (suc (suc (length (p ++ rest)))))))) (omega arith),
       take-append-seam p rest,
       drop-append-seam p rest,
+    )
+
+pub written-length : (kind : ℕ) (p : List ℕ) → length (written kind p) ≡ 6 + length p
+unfolding written
+written-length kind p = omega arith
+
+pub written-bytes : (kind : ℕ) (p : List ℕ) → kind < 65536 → all (λ b. ltb b 256) p ≡ true → all (λ b. ltb b 256) (written kind p) ≡ true
+unfolding written all
+written-bytes kind p h a =
+    rw (
+      lt-ltb (length p % 256) 256 (omega arith),
+      lt-ltb (length p / 256 % 256) 256 (omega arith),
+      lt-ltb (length p / 256 / 256 % 256) 256 (omega arith),
+      lt-ltb (length p / 256 / 256 / 256 % 256) 256 (omega arith),
+      lt-ltb (kind % 256) 256 (omega arith),
+      lt-ltb (kind / 256) 256 (omega arith),
+      a,
     )
 
 -- ---- no other bytes are read so

@@ -1,9 +1,9 @@
 -- What the finder writes: read back it is the flow that was found; its bytes, its length; and 0013 is no flow file.
-use Prim.Native.Nat.{ℕ, zero, suc, _+_, _*_, _/_, _%_, _≤_, _<_, zero-le}
+use Prim.Native.Nat.{ℕ, zero, suc, _+_, _*_, _≤_, _<_, zero-le}
 use mathlib.Core.Path.{_≡_, refl, sym, ap, ap₂, _∙_}
 use mathlib.Core.Bool.{Bool, true, false, cond, not, _&&_, _||_}
 use mathlib.Core.Logic.{_⊎_, inl, inr, _≢_}
-use mathlib.Core.Option.{Option, none, some}
+use mathlib.Core.Option.{some}
 use mathlib.Core.List.{List, [], _∷_, _++_, append-nil}
 use native.Mathlib.Omega.{arith}
 use native.Mathlib.Nat.{mul-le-mul, not-suc-le-zero, le-of-suc-le-suc}
@@ -18,12 +18,12 @@ use Rattle.solver.specs.WorkMatrix.{listOf}
 use Rattle.finder.specs.Job.{Job}
 use Rattle.finder.specs.Search.{Progress}
 use Rattle.tables.specs.Answer.{gives}
-use Rattle.tables.specs.Records.{part, checked, written, lengthField, kindLayers, kindSets, kindNoFlow}
+use Rattle.tables.specs.Records.{part, checked, written, kindLayers, kindSets, kindNoFlow}
 use Rattle.tables.specs.JobFile.{mostNodes, all, has, rises}
 use Rattle.tables.specs.FlowFile.{SetEntry, allEntries, entryBelow, entriesRise, FlowFile, readFlow, setIn, entryIn, flowOf}
 use Rattle.tables.specs.Encoding.{entryBytes, flowFileBytes, ValidFlow, entriesFor, foundFlow}
 use Rattle.tables.specs.Calls.{setBytes, flowBytes}
-use Rattle.tables.proofs.Records.{never, and-out, all-append, all-more}
+use Rattle.tables.proofs.Records.{never, and-out, all-append, all-more, written-length, written-bytes}
 use Rattle.tables.proofs.JobFile.{rises-length}
 use Rattle.tables.proofs.FlowFile.{flow-decodes, entries-few, entry-bytes-length}
 
@@ -138,23 +138,6 @@ for-set n set (a ∷ us) u k = by (dec (eqb a u)) (for-set n set us u k)
     by (inr f) ih = rw (is-false (eqb a u) f) ih
 
 -- ---- bytes and lengths
-pub written-length : (kind : ℕ) (p : List ℕ) → length (written kind p) ≡ 6 + length p
-unfolding written
-written-length kind p = omega arith
-
-pub written-bytes : (kind : ℕ) (p : List ℕ) → kind < 65536 → all (λ b. ltb b 256) p ≡ true → all (λ b. ltb b 256) (written kind p) ≡ true
-unfolding written all
-written-bytes kind p h a =
-    rw (
-      lt-ltb (length p % 256) 256 (omega arith),
-      lt-ltb (length p / 256 % 256) 256 (omega arith),
-      lt-ltb (length p / 256 / 256 % 256) 256 (omega arith),
-      lt-ltb (length p / 256 / 256 / 256 % 256) 256 (omega arith),
-      lt-ltb (kind % 256) 256 (omega arith),
-      lt-ltb (kind / 256) 256 (omega arith),
-      a,
-    )
-
 entry-bytes : (low n : ℕ) (es : List SetEntry) → n < 256 → allEntries (entryBelow n) es ≡ true → entriesRise low es ≡ true → all (λ b. ltb b 256) (entryBytes es) ≡ true
 unfolding all allEntries entriesRise entryBytes
 entry-bytes low n [] h a b = refl
@@ -183,8 +166,8 @@ flow-file-length n g v =
 
 -- ---- the finder's file
 module _ (j : Job) (s : Progress) where
-  pub found-bytes-are : flowBytes j (some s) ≡ flowFileBytes (foundFlow j s)
-  found-bytes-are = ap (λ (t : List ℕ). written kindLayers (listOf (j .nodes) (s .layer)) ++ written kindSets t) (sets-bytes (j .nodes) (s .set) (members (j .nodes) (λ u. not (j .output u))))
+  pub found-file : flowBytes j (some s) ≡ flowFileBytes (foundFlow j s)
+  found-file = ap (λ (t : List ℕ). written kindLayers (listOf (j .nodes) (s .layer)) ++ written kindSets t) (sets-bytes (j .nodes) (s .set) (members (j .nodes) (λ u. not (j .output u))))
 
   pub found-valid : ValidFlow (j .nodes) (foundFlow j s)
   found-valid = record {
@@ -195,7 +178,7 @@ module _ (j : Job) (s : Progress) where
 
   -- it is read back
   pub found-reads : j .nodes ≤ mostNodes → readFlow (j .nodes) (flowBytes j (some s)) ≡ gives (foundFlow j s)
-  found-reads h = ap (readFlow (j .nodes)) (found-bytes-are ∙ sym (append-nil (flowFileBytes (foundFlow j s)))) ∙ flow-decodes (j .nodes) (foundFlow j s) h found-valid
+  found-reads h = ap (readFlow (j .nodes)) (found-file ∙ sym (append-nil (flowFileBytes (foundFlow j s)))) ∙ flow-decodes (j .nodes) (foundFlow j s) h found-valid
 
   -- as the flow that was found
   pub found-layer : (u : ℕ) → u < j .nodes → flowOf (foundFlow j s) .layer u ≡ s .layer u
@@ -214,11 +197,11 @@ module _ (j : Job) (s : Progress) where
 
   pub found-bytes : j .nodes ≤ mostNodes → ((u : ℕ) → u < j .nodes → s .layer u < 256) → all (λ b. ltb b 256) (flowBytes j (some s)) ≡ true
   found-bytes h a =
-      ap (all (λ b. ltb b 256)) found-bytes-are
+      ap (all (λ b. ltb b 256)) found-file
       ∙ flow-file-bytes (j .nodes) (foundFlow j s) (omega arith) found-valid (list-all (j .nodes) (s .layer) (λ b. ltb b 256) (λ k l. lt-ltb (s .layer k) 256 (a k l)))
 
   pub found-length : length (flowBytes j (some s)) ≤ 12 + j .nodes + j .nodes * (j .nodes + 2)
-  found-length = rw found-bytes-are (flow-file-length (j .nodes) (foundFlow j s) found-valid)
+  found-length = rw found-file (flow-file-length (j .nodes) (foundFlow j s) found-valid)
 
   pub found-most : j .nodes ≤ mostNodes → length (flowBytes j (some s)) ≤ 16780
   found-most h =
