@@ -227,15 +227,6 @@ has-below n (x ∷ l) u a t =
     by p (inl e) ih = rw (← eqb→eq x u e) (ltb-true x n p)
     by p (inr e) ih = ih e
 
--- nothing below where a list starts to rise is in it
-pub rises-none : (low : ℕ) (l : List ℕ) (u : ℕ) → rises low l ≡ true → u < low → has l u ≡ false
-unfolding rises has
-rises-none low [] u a h = refl
-rises-none low (x ∷ l) u a h =
-    let (p, q) = and-out (leb low x) (rises (x + 1) l) a in
-    let le : low ≤ x = leb-true low x p in
-    rw (ne-eqb x u (omega arith)) (rises-none (x + 1) l u q (omega arith))
-
 pub joined-sym : (l : List ℕ) (u v : ℕ) → joined l u v ≡ joined l v u
 unfolding joined
 joined-sym [] u v = refl
