@@ -8,14 +8,19 @@ use Rattle.nodes.specs.Row.{parity}
 -- the measurements by their numbers; an output has 0
 abbrev pub planeXY : ℕ
 planeXY = 1
+
 abbrev pub planeYZ : ℕ
 planeYZ = 2
+
 abbrev pub planeXZ : ℕ
 planeXZ = 3
+
 abbrev pub pauliX : ℕ
 pauliX = 4
+
 abbrev pub pauliY : ℕ
 pauliY = 5
+
 abbrev pub pauliZ : ℕ
 pauliZ = 6
 

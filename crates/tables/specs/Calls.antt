@@ -20,6 +20,7 @@ use Rattle.tables.specs.Verdict.{verify}
 -- the bytes of a row of the work matrix, and of the whole: 128 rows of 128 bits
 abbrev pub rowBytes : ℕ
 rowBytes = 16
+
 abbrev pub workBytes : ℕ
 workBytes = mostNodes * rowBytes
 

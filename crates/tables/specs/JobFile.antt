@@ -14,8 +14,10 @@ mostNodes = 128
 
 abbrev pub modeCausal : ℕ
 modeCausal = 1
+
 abbrev pub modePlanes : ℕ
 modePlanes = 2
+
 abbrev pub modePauli : ℕ
 modePauli = 3
 

@@ -8,22 +8,31 @@ use Rattle.tables.specs.Answer.{Answer, gives, refuses, _>>=_, _>>_, ask
 
 abbrev pub kindOpen : ℕ
 kindOpen = 0x0001
+
 abbrev pub kindEdges : ℕ
 kindEdges = 0x0002
+
 abbrev pub kindInputs : ℕ
 kindInputs = 0x0003
+
 abbrev pub kindOutputs : ℕ
 kindOutputs = 0x0004
+
 abbrev pub kindMeasurements : ℕ
 kindMeasurements = 0x0005
+
 abbrev pub kindLayers : ℕ
 kindLayers = 0x0011
+
 abbrev pub kindSets : ℕ
 kindSets = 0x0012
+
 abbrev pub kindNoFlow : ℕ
 kindNoFlow = 0x0013
+
 abbrev pub kindAccepted : ℕ
 kindAccepted = 0x0014
+
 abbrev pub kindRefusal : ℕ
 kindRefusal = 0x001F
 
