@@ -5,3 +5,5 @@ pub mod Writing
 pub mod Questions
 pub mod Verdict
 pub mod Published
+pub mod Judging
+pub mod Demand

@@ -98,7 +98,7 @@ pub record Readable (j : Job) (f : Flow) : Type 0 where
 
 module _ (j : Job) (f : Flow) (r : Readable j f) where
   -- a set with a node's own measurement right is not empty
-  some-member : (i : ℕ) → Measured j i → T (own (j .measured i) (f .set i i) (odd j (f .set i) i)) → T (anyBelow (j .nodes) (f .set i))
+  pub some-member : (i : ℕ) → Measured j i → T (own (j .measured i) (f .set i i) (odd j (f .set i) i)) → T (anyBelow (j .nodes) (f .set i))
   some-member i s t = go (dec (anyBelow (j .nodes) (f .set i)))
     where
       go : T (anyBelow (j .nodes) (f .set i)) ⊎ (T (anyBelow (j .nodes) (f .set i)) → ⊥) → T (anyBelow (j .nodes) (f .set i))
