@@ -30,7 +30,7 @@ drop-column false true false f = refl
 drop-column false false x f = refl
 
 -- taking out what was put in
-put-out : (x c q : Bool) → (T q → x ≡ false) → (x || c && q) && not q ≡ x
+pub put-out : (x c q : Bool) → (T q → x ≡ false) → (x || c && q) && not q ≡ x
 put-out true c true f = sym (f tt)
 put-out true c false f = refl
 put-out false true true f = refl

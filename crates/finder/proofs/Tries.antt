@@ -124,7 +124,7 @@ module _ (j : Job) (pauli : Bool) (gone : ℕ → Bool) (u : ℕ) where
   abbrev entering : ℕ → Bool
   entering k = gone k || (pauli && isXorY (j .measured k))
 
-  no-column-u : T (here .column u) → ⊥
+  pub no-column-u : T (here .column u) → ⊥
   no-column-u t = not-out (eqb u u) (and-r (entering u && not (j .input u)) (not (eqb u u)) t) (eqb-refl u)
 
   no-lower-u : T (here .lower u) → ⊥

@@ -180,10 +180,10 @@ module _ (file : List ℕ) (f : JobFile) (reads : readJob file ≡ gives f) (end
   wrote-flow : (s : Progress) → findAt j pauli ≡ some s → foundBytes f ≡ flowBytes j (some s)
   wrote-flow s e = bytes-of (some s) (by-mode ∙ e)
 
-  wrote-none : findAt j pauli ≡ none → foundBytes f ≡ written kindNoFlow []
+  pub wrote-none : findAt j pauli ≡ none → foundBytes f ≡ written kindNoFlow []
   wrote-none e = bytes-of none (by-mode ∙ e)
 
-  found-cases : (findAt j pauli ≡ none) ⊎ ((s : Progress) × (findAt j pauli ≡ some s))
+  pub found-cases : (findAt j pauli ≡ none) ⊎ ((s : Progress) × (findAt j pauli ≡ some s))
   found-cases = go (findAt j pauli) refl
     where
       go : (o : Option Progress) → findAt j pauli ≡ o → (findAt j pauli ≡ none) ⊎ ((s : Progress) × (findAt j pauli ≡ some s))
@@ -193,7 +193,7 @@ module _ (file : List ℕ) (f : JobFile) (reads : readJob file ≡ gives f) (end
   found-accepted : (s : Progress) → findAt j pauli ≡ some s → Accepted file (foundBytes f)
   found-accepted s e = rw (wrote-flow s e) (judged-in file f reads ends (flowBytes j (some s)) (foundFlow j s) (found-judged s e))
 
-  reads-back : (s : Progress) → findAt j pauli ≡ some s → FlowBytes (f .n) (foundBytes f) (foundFlow j s)
+  pub reads-back : (s : Progress) → findAt j pauli ≡ some s → FlowBytes (f .n) (foundBytes f) (foundFlow j s)
   reads-back s e = (rw (wrote-flow s e) (found-reads j s (valid .few)), refl)
 
   other-earliest : T (premise f) → (other : List ℕ) → Accepted file other
@@ -240,7 +240,7 @@ asked-find file work f e =
     modes m (inl t) = inl (eqb→eq m modePlanes t)
     modes m (inr t) = inr (eqb→eq m modePauli t)
 
-put-fits : (work result out : List ℕ) (k : ℕ) → put work result out .answer ≡ gives k → take k (put work result out .out) ≡ result
+pub put-fits : (work result out : List ℕ) (k : ℕ) → put work result out .answer ≡ gives k → take k (put work result out .out) ≡ result
 unfolding put
 put-fits work result out k e = go (leb (length result) (length out)) e
   where

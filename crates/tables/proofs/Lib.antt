@@ -7,3 +7,4 @@ pub mod Verdict
 pub mod Published
 pub mod Judging
 pub mod Demand
+pub mod Solutions

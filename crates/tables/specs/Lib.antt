@@ -8,3 +8,4 @@ pub mod Calls
 pub mod Programs
 pub mod Published
 pub mod Demand
+pub mod Solutions
