@@ -5,3 +5,4 @@ pub mod Tries
 pub mod Search
 pub mod Premise
 pub mod Flows
+pub mod Sizes

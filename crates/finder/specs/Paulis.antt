@@ -25,6 +25,9 @@ noColumnFor j gone u = not (anyBelow (j .nodes) (context j gone u .column))
 abbrev pub try : Job → (ℕ → Bool) → ℕ → Option (ℕ → Bool)
 try j gone u = let tried = tryNode j (context j gone u) u in cond (noColumnFor j gone u) none tried
 
--- round 0 never ends the search
+-- how far the search comes, and what it finds; round 0 never ends it
+abbrev pub progress : Job → Progress
+progress j = rounds (λ s. false) (try j) (j .nodes) (j .nodes) 1 (round (try j noNode) 0 (start (j .output)))
+
 abbrev pub find : Job → Option Progress
-find j = found (j .nodes) (rounds (λ s. false) (try j) (j .nodes) (j .nodes) 1 (round (try j noNode) 0 (start (j .output))))
+find j = found (j .nodes) (progress j)

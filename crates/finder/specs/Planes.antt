@@ -22,5 +22,9 @@ stops j s = allBelow (j .nodes) (s .solved) || noColumn j (s .solved)
 abbrev pub try : Job → (ℕ → Bool) → ℕ → Option (ℕ → Bool)
 try j gone u = tryNode j (context j gone) u
 
+-- how far the search comes, and what it finds
+abbrev pub progress : Job → Progress
+progress j = rounds (stops j) (try j) (j .nodes) (j .nodes) 1 (start (j .output))
+
 abbrev pub find : Job → Option Progress
-find j = found (j .nodes) (rounds (stops j) (try j) (j .nodes) (j .nodes) 1 (start (j .output)))
+find j = found (j .nodes) (progress j)
