@@ -13,15 +13,14 @@ use Rattle.nodes.specs.Row.{anyBelow, allBelow, count}
 use Rattle.nodes.proofs.Logic.{is-true, is-false, from-true, from-false, dec, and-l, and-r, and-in, or-l, or-r, or-out, not-in, not-out, and-none}
 use Rattle.nodes.proofs.Row.{any-none, any-ext, all-in, all-out, ltb-no}
 use Rattle.nodes.proofs.Count.{count-le}
-use Rattle.solver.specs.System.{isSome, solve, firstOf}
-use Rattle.solver.proofs.System.{Agree, solve-ext}
+use Rattle.solver.specs.System.{isSome}
 use Rattle.finder.specs.Job.{Job}
-use Rattle.finder.specs.Branch.{Context, branches, systemAt, sideAt, inSet, withNode, tryBranch, firstSolvable, tryNode}
+use Rattle.finder.specs.Branch.{Context, branches, tryNode}
 use Rattle.finder.specs.Search.{Progress, noNode, start, solvedNow, round, rounds, found}
 use Rattle.finder.specs.Planes as Planes
 use Rattle.finder.specs.Paulis as Paulis
 use Rattle.finder.proofs.Conditions.{Ok, more-later}
-use Rattle.finder.proofs.Tries.{contextAt, noColumnAt, tryAt, planes-context, FirstOf, try-first, try-sound, try-complete}
+use Rattle.finder.proofs.Tries.{contextAt, noColumnAt, tryAt, planes-context, SameContext, node-ext, FirstOf, try-first, try-sound, try-complete}
 use Rattle.finder.proofs.Search.{never, Ended, rounds-end, rounds-pass, fresh-open, Tried, Searched, step, searched-start, searched, Early, Earliest, step-early, earliest}
 use Rattle.finder.proofs.Premise.{premiseAt, Gone, all-gone, column-left}
 
@@ -77,28 +76,14 @@ paulis-end j = rounds-end never (Paulis.try j) (j .nodes) (j .nodes) 1 (begun j 
 
 -- ---- a try depends on the gone nodes below n only
 module _ (j : Job) (pauli : Bool) (gone gone′ : ℕ → Bool) (same : (v : ℕ) → v < j .nodes → gone v ≡ gone′ v) (u : ℕ) where
-  agree : Agree (systemAt j (contextAt j pauli gone u)) (systemAt j (contextAt j pauli gone′ u)) (j .nodes)
-  agree = record { rows = refl; row = λ i l. row′ i l (dec (ltb i (j .nodes))); column = λ k l. rw (same k l); entry = λ i k l m a b. refl }
-    where
-      row′ : (i : ℕ) → i < j .nodes + j .nodes → T (ltb i (j .nodes)) ⊎ (T (ltb i (j .nodes)) → ⊥)
-          → cond (ltb i (j .nodes)) (contextAt j pauli gone u .upper i) (contextAt j pauli gone u .lower (i - j .nodes))
-          ≡ cond (ltb i (j .nodes)) (contextAt j pauli gone′ u .upper i) (contextAt j pauli gone′ u .lower (i - j .nodes))
-      row′ i l (inl t) = rw (is-true (ltb i (j .nodes)) t, same i (ltb→lt i (j .nodes) t))
-      row′ i l (inr f) = let g : j .nodes ≤ i = nltb→le i (j .nodes) (not-in (ltb i (j .nodes)) f) in rw (is-false (ltb i (j .nodes)) f, same (i - j .nodes) (omega arith))
-
-  pub branch-ext : (b : ℕ) → tryBranch j (contextAt j pauli gone u) u b ≡ tryBranch j (contextAt j pauli gone′ u) u b
-  branch-ext b = ap (withNode (inSet b) u) (solve-ext (systemAt j (contextAt j pauli gone u)) (systemAt j (contextAt j pauli gone′ u)) (j .nodes) agree (sideAt j u b) (sideAt j u b) (λ i l t. refl))
-
-  first-ext : (bs : List ℕ) → firstSolvable j (contextAt j pauli gone u) u bs ≡ firstSolvable j (contextAt j pauli gone′ u) u bs
-  unfolding firstSolvable
-  first-ext [] = refl
-  first-ext (b ∷ bs) = rw (branch-ext b, first-ext bs)
+  contexts-agree : SameContext j (contextAt j pauli gone u) (contextAt j pauli gone′ u)
+  contexts-agree = record { column = λ k l. rw (same k l); upper = λ v l. rw (same v l); lower = λ v l. rw (same v l) }
 
   pub try-ext : tryAt j pauli gone u ≡ tryAt j pauli gone′ u
   try-ext =
       rw (
-        any-ext (j .nodes) (contextAt j pauli gone u .column) (contextAt j pauli gone′ u .column) (λ k l. rw (same k l)),
-        first-ext (branches (j .measured u)),
+        any-ext (j .nodes) (contextAt j pauli gone u .column) (contextAt j pauli gone′ u .column) (contexts-agree .column),
+        node-ext j (contextAt j pauli gone u) (contextAt j pauli gone′ u) contexts-agree u,
       )
 
 -- ---- what is found

@@ -6,3 +6,4 @@ pub mod Search
 pub mod Premise
 pub mod Flows
 pub mod Sizes
+pub mod Progress

@@ -1,17 +1,17 @@
 -- The tries of both searches: one context for planes and Paulis. What a try gives is right, and what is right is found.
-use Prim.Native.Nat.{ℕ, zero, suc, _+_, _≤_, _<_}
+use Prim.Native.Nat.{ℕ, zero, suc, _+_, _-_, _≤_, _<_}
 use mathlib.Core.Path.{_≡_, refl, sym, ap, _∙_, subst, fun-ext}
 use mathlib.Core.Bool.{Bool, true, false, cond, not, _&&_, _||_}
 use mathlib.Core.Logic.{_⊎_, inl, inr, _≢_}
 use mathlib.Core.Option.{Option, none, some, Option·some-injective, Option·none-ne-some}
 use mathlib.Core.List.{List, [], _∷_, _++_}
 use native.Mathlib.Omega.{arith}
-use lib.Dec.{T, eqb, ltb, eqb→eq, eqb-refl}
+use lib.Dec.{T, eqb, ltb, eqb→eq, eqb-refl, ltb→lt, nltb→le}
 use Rattle.nodes.specs.Row.{parity, anyBelow}
 use Rattle.nodes.proofs.Logic.{is-true, is-false, from-true, dec, and-l, and-r, and-in, or-l, or-r, or-out, not-in, not-out, eqb-no, eqb-yes, and-none, and-all, or-none, cond-t, cond-f, beq-eq}
 use Rattle.nodes.proofs.Row.{parity-none, any-in, any-out, any-ext}
 use Rattle.solver.specs.System.{Answer, solve, isSome, firstOf}
-use Rattle.solver.proofs.System.{solve-answer}
+use Rattle.solver.proofs.System.{solve-answer, Agree, solve-ext}
 use Rattle.finder.specs.Job.{Job, odd, own, isXorY, isYorZ, planeXY, planeYZ, planeXZ, pauliX, pauliY, pauliZ}
 use Rattle.finder.specs.Branch.{Context, inSet, inOdd, branches, systemAt, sideAt, withNode, tryBranch, firstSolvable, tryNode}
 use Rattle.finder.specs.Search.{noNode}
@@ -56,6 +56,32 @@ planes-context j gone u f = make (fun-ext (λ k. column′ k (dec (eqb k u)))) (
     lower′ : (a b : Bool) → (a && false) && not b ≡ false
     lower′ true b = refl
     lower′ false b = refl
+
+-- ---- a try depends on the nodes below n only
+pub record SameContext (j : Job) (c d : Context) : Type 0 where
+  pub column : (k : ℕ) → k < j .nodes → c .column k ≡ d .column k
+  pub upper : (v : ℕ) → v < j .nodes → c .upper v ≡ d .upper v
+  pub lower : (v : ℕ) → v < j .nodes → c .lower v ≡ d .lower v
+
+module _ (j : Job) (c d : Context) (same : SameContext j c d) (u : ℕ) where
+  agree : Agree (systemAt j c) (systemAt j d) (j .nodes)
+  agree = record { rows = refl; row = λ i l. row′ i l (dec (ltb i (j .nodes))); column = same .column; entry = λ i k l m a b. refl }
+    where
+      row′ : (i : ℕ) → i < j .nodes + j .nodes → T (ltb i (j .nodes)) ⊎ (T (ltb i (j .nodes)) → ⊥)
+          → cond (ltb i (j .nodes)) (c .upper i) (c .lower (i - j .nodes)) ≡ cond (ltb i (j .nodes)) (d .upper i) (d .lower (i - j .nodes))
+      row′ i l (inl t) = rw (is-true (ltb i (j .nodes)) t, same .upper i (ltb→lt i (j .nodes) t))
+      row′ i l (inr f) = let g : j .nodes ≤ i = nltb→le i (j .nodes) (not-in (ltb i (j .nodes)) f) in rw (is-false (ltb i (j .nodes)) f, same .lower (i - j .nodes) (omega arith))
+
+  pub branch-ext : (b : ℕ) → tryBranch j c u b ≡ tryBranch j d u b
+  branch-ext b = ap (withNode (inSet b) u) (solve-ext (systemAt j c) (systemAt j d) (j .nodes) agree (sideAt j u b) (sideAt j u b) (λ i l t. refl))
+
+  first-ext : (bs : List ℕ) → firstSolvable j c u bs ≡ firstSolvable j d u bs
+  unfolding firstSolvable
+  first-ext [] = refl
+  first-ext (b ∷ bs) = rw (branch-ext b, first-ext bs)
+
+  pub node-ext : tryNode j c u ≡ tryNode j d u
+  node-ext = first-ext (branches (j .measured u))
 
 -- ---- the first solvable branch
 module _ (j : Job) (c : Context) (u : ℕ) where

@@ -1,0 +1,75 @@
+-- A search depends on the nodes below n only: progress that agrees there goes on to agree.
+use Prim.Native.Nat.{ℕ, zero, suc, _+_, _<_}
+use mathlib.Core.Path.{_≡_, refl, sym, ap, ap₂, _∙_}
+use mathlib.Core.Bool.{Bool, true, false, cond, not, _&&_, _||_}
+use mathlib.Core.Option.{Option}
+use lib.Dec.{T}
+use Rattle.nodes.specs.Row.{anyBelow, allBelow}
+use Rattle.nodes.proofs.Row.{any-ext, all-ext}
+use Rattle.solver.specs.System.{isSome}
+use Rattle.finder.specs.Job.{Job}
+use Rattle.finder.specs.Search.{Progress, orNone, solvedNow, round, rounds}
+use Rattle.finder.specs.Planes as Planes
+use Rattle.finder.specs.Paulis as Paulis
+use Rattle.finder.proofs.Tries.{SameContext, node-ext}
+use Rattle.finder.proofs.Flows.{try-ext}
+
+pub record SameProgress (n : ℕ) (s t : Progress) : Type 0 where
+  pub solved : (u : ℕ) → u < n → s .solved u ≡ t .solved u
+  pub layer : (u : ℕ) → u < n → s .layer u ≡ t .layer u
+  pub set : (u : ℕ) → u < n → s .set u ≡ t .set u
+
+pub progress-sym : {n : ℕ} {s t : Progress} → SameProgress n s t → SameProgress n t s
+progress-sym h = record { solved = λ u l. sym (h .solved u l); layer = λ u l. sym (h .layer u l); set = λ u l. sym (h .set u l) }
+
+pub progress-trans : {n : ℕ} {s t w : Progress} → SameProgress n s t → SameProgress n t w → SameProgress n s w
+progress-trans h k = record { solved = λ u l. h .solved u l ∙ k .solved u l; layer = λ u l. h .layer u l ∙ k .layer u l; set = λ u l. h .set u l ∙ k .set u l }
+
+pub now-agree : (n : ℕ) (f g : ℕ → Option (ℕ → Bool)) → ((u : ℕ) → u < n → f u ≡ g u) → (s t : Progress) → SameProgress n s t → (u : ℕ) → u < n → solvedNow f s u ≡ solvedNow g t u
+now-agree n f g e s t h u l = rw (h .solved u l, e u l)
+
+pub round-agree : (n : ℕ) (f g : ℕ → Option (ℕ → Bool)) → ((u : ℕ) → u < n → f u ≡ g u) → (r : ℕ) (s t : Progress) → SameProgress n s t → SameProgress n (round f r s) (round g r t)
+round-agree n f g e r s t h = record {
+  solved = λ u l. rw (h .solved u l, e u l);
+  layer = λ u l. rw (h .solved u l, h .layer u l, e u l);
+  set = λ u l. rw (h .solved u l, h .set u l, e u l);
+}
+
+pub rounds-agree : (stops : Progress → Bool) (try : (ℕ → Bool) → ℕ → Option (ℕ → Bool)) (n : ℕ)
+    → ((s t : Progress) → SameProgress n s t → stops s ≡ stops t)
+    → ((gone gone′ : ℕ → Bool) → ((v : ℕ) → v < n → gone v ≡ gone′ v) → (u : ℕ) → u < n → try gone u ≡ try gone′ u)
+    → (k r : ℕ) (s t : Progress) → SameProgress n s t → SameProgress n (rounds stops try n k r s) (rounds stops try n k r t)
+unfolding rounds
+rounds-agree stops try n p q zero r s t h = h
+rounds-agree stops try n p q (suc k) r s t h = go (stops s) (stops t) (p s t h) (anyBelow n (solvedNow (try (s .solved)) s)) (anyBelow n (solvedNow (try (t .solved)) t)) same-now (rounds-agree stops try n p q k (r + 1) (round (try (s .solved)) r s) (round (try (t .solved)) r t) (round-agree n (try (s .solved)) (try (t .solved)) (q (s .solved) (t .solved) (h .solved)) r s t h))
+  where
+    same-now : anyBelow n (solvedNow (try (s .solved)) s) ≡ anyBelow n (solvedNow (try (t .solved)) t)
+    same-now = any-ext n (solvedNow (try (s .solved)) s) (solvedNow (try (t .solved)) t) (now-agree n (try (s .solved)) (try (t .solved)) (q (s .solved) (t .solved) (h .solved)) s t h)
+
+    go : (a b : Bool) → a ≡ b → (c d : Bool) → c ≡ d
+        → SameProgress n (rounds stops try n k (r + 1) (round (try (s .solved)) r s)) (rounds stops try n k (r + 1) (round (try (t .solved)) r t))
+        → SameProgress n (cond a s (cond c (rounds stops try n k (r + 1) (round (try (s .solved)) r s)) s)) (cond b t (cond d (rounds stops try n k (r + 1) (round (try (t .solved)) r t)) t))
+    go true b e c d f ih = rw (← e) h
+    go false b e true d f ih = rw (← e, ← f) ih
+    go false b e false d f ih = rw (← e, ← f) h
+
+-- ---- both searches
+pub planes-try-ext : (j : Job) (gone gone′ : ℕ → Bool) → ((v : ℕ) → v < j .nodes → gone v ≡ gone′ v) → (u : ℕ) → u < j .nodes → Planes.try j gone u ≡ Planes.try j gone′ u
+planes-try-ext j gone gone′ e u l =
+    node-ext j (Planes.context j gone) (Planes.context j gone′) (record { column = λ k m. rw (e k m); upper = λ v m. rw (e v m); lower = λ v m. refl }) u
+
+pub planes-stops-ext : (j : Job) (s t : Progress) → SameProgress (j .nodes) s t → Planes.stops j s ≡ Planes.stops j t
+planes-stops-ext j s t h =
+    ap₂ _||_ (all-ext (j .nodes) (s .solved) (t .solved) (h .solved))
+    (ap not (any-ext (j .nodes) (Planes.context j (s .solved) .column) (Planes.context j (t .solved) .column) (λ k l. rw (h .solved k l))))
+
+pub paulis-try-ext : (j : Job) (gone gone′ : ℕ → Bool) → ((v : ℕ) → v < j .nodes → gone v ≡ gone′ v) → (u : ℕ) → u < j .nodes → Paulis.try j gone u ≡ Paulis.try j gone′ u
+paulis-try-ext j gone gone′ e u l = try-ext j true gone gone′ e u
+
+pub planes-agree : (j : Job) (k r : ℕ) (s t : Progress) → SameProgress (j .nodes) s t
+    → SameProgress (j .nodes) (rounds (Planes.stops j) (Planes.try j) (j .nodes) k r s) (rounds (Planes.stops j) (Planes.try j) (j .nodes) k r t)
+planes-agree j = rounds-agree (Planes.stops j) (Planes.try j) (j .nodes) (planes-stops-ext j) (planes-try-ext j)
+
+pub paulis-agree : (j : Job) (k r : ℕ) (s t : Progress) → SameProgress (j .nodes) s t
+    → SameProgress (j .nodes) (rounds (λ s. false) (Paulis.try j) (j .nodes) k r s) (rounds (λ s. false) (Paulis.try j) (j .nodes) k r t)
+paulis-agree j = rounds-agree (λ s. false) (Paulis.try j) (j .nodes) (λ s t h. refl) (paulis-try-ext j)
