@@ -1,20 +1,24 @@
 -- A table of sets: the words of one set, what a set that is put in leaves of the others, and a table of empty sets.
 use Prim.Native.Nat.{ℕ, zero, suc, _+_, _-_, _*_, _/_, _%_, _≤_, _<_}
 use mathlib.Core.Path.{_≡_, refl, sym, ap, ap₂, _∙_, fun-ext}
-use mathlib.Core.Bool.{Bool, true, false, cond, _&&_}
+use mathlib.Core.Bool.{Bool, false, cond, _&&_}
 use mathlib.Core.List.{List, [], _∷_, _++_, append-assoc}
 use mathlib.Core.Logic.{_≢_, _⊎_, inl, inr}
 use native.Mathlib.Nat.{min-le-left}
 use native.Mathlib.Decide.{ℕ-discrete}
 use native.Mathlib.Omega.{arith}
 use native.Mathlib.Numerals.{lt-of-le-of-ne}
-use lib.Dec.{eqb, leb, leb→le, le→leb}
-use lib.ListN.{length, getD, set, take, drop, replicate, length-append, length-take, length-drop, length-replicate, List·getD-append, List·getD-eq-default, getD-replicate, replicate-append-replicate}
+use lib.Dec.{T, eqb, leb, leb→le, le→leb}
+use lib.ListN.{length, getD, set, take, drop, length-append, length-take, length-drop, length-replicate, List·getD-append, List·getD-eq-default, getD-replicate, replicate-append-replicate}
 use lib.Seq.{length-take-le, take-length, take-at, drop-at, take-suc-set, getD-take, getD-drop, getD-append-add, sets-eq}
 use Rattle.nodes.specs.Bit.{_⊕_, bit}
-use Rattle.nodes.specs.NodeSet.{wordBits, capacity, memberOf}
+use Rattle.nodes.specs.Row.{parity, anyBelow, lowest}
+use Rattle.nodes.specs.NodeSet.{wordBits, capacity, memberOf, wordsOf}
 use Rattle.nodes.specs.SetTable.{setWords, setAt, putSet, zeros}
-use Rattle.nodes.proofs.Logic.{lt-or-ge, le-or-lt, cond-t, cond-f, eqb-no, eqb-yes}
+use Rattle.nodes.specs.declared.utils.NodeSet.{NodeSet}
+use Rattle.nodes.proofs.Logic.{is-false, and-none, ⊕-assoc, lt-or-ge, le-or-lt, cond-t, cond-f, eqb-no, eqb-yes}
+use Rattle.nodes.proofs.Row.{parity-none, any-in, dot-comm}
+use Rattle.nodes.proofs.Remove.{removed, parity-lowest}
 use Rattle.nodes.proofs.Bit.{bit-zero}
 
 -- ---- the words of one set
@@ -56,6 +60,9 @@ set-agree ws xs u h = fun-ext (λ v. by v (lt-or-ge v capacity))
     by v (inr l) = set-past ws u v l ∙ sym (set-past xs u v l)
 
 -- ---- a set is put in
+pub words-length : (s : NodeSet) → length (wordsOf s) ≡ setWords
+words-length s = refl
+
 module _ (ws : List ℕ) (u : ℕ) (s : List ℕ) where
   pub put-in : setWords * u + setWords ≤ length ws → putSet ws u s ≡ take (setWords * u) ws ++ (s ++ drop (setWords * u + setWords) ws)
   unfolding putSet
@@ -169,3 +176,25 @@ zeros-more ws i h e =
 
 pub zeros-whole : (ws : List ℕ) (i n : ℕ) → i ≡ length ws → length ws ≡ n → take i ws ≡ zeros i → ws ≡ zeros n
 zeros-whole ws i n a b e = sym (take-length ws) ∙ ap (λ (k : ℕ). take k ws) (sym a) ∙ e ∙ ap zeros (a ∙ b)
+
+-- ---- the sum mod 2 of the sets of s, added up from the least of s on
+abbrev pub sumOf : List ℕ → (ℕ → Bool) → ℕ → Bool
+sumOf ws s v = parity capacity (λ k. setAt ws k v && s k)
+
+-- nothing is left to add
+pub sum-none : (ws : List ℕ) (s : ℕ → Bool) → (T (anyBelow capacity s) → ⊥) → (v : ℕ) → sumOf ws s v ≡ false
+sum-none ws s f v =
+    parity-none capacity (λ k. setAt ws k v && s k)
+    (λ k l. ap (λ (b : Bool). setAt ws k v && b) (is-false (s k) (λ t. f (any-in capacity s k l t))) ∙ and-none (setAt ws k v))
+
+-- the set of the least is added, and the least taken out
+pub sum-step : (ws : List ℕ) (s a t b : ℕ → Bool) → T (anyBelow capacity s)
+    → t ≡ removed s (lowest capacity s) → b ≡ (λ v. a v ⊕ setAt ws (lowest capacity s) v)
+    → (v : ℕ) → b v ⊕ sumOf ws t v ≡ a v ⊕ sumOf ws s v
+sum-step ws s a t b h e g v =
+    let low = lowest capacity s in
+    let rest = removed s low in
+    ap₂ (λ (x y : ℕ → Bool). x v ⊕ sumOf ws y v) g e ∙ ⊕-assoc (a v) (setAt ws low v) (sumOf ws rest v)
+    ∙ ap (λ (x : Bool). a v ⊕ x)
+    (ap (λ (x : Bool). setAt ws low v ⊕ x) (dot-comm capacity (λ k. setAt ws k v) rest)
+    ∙ sym (parity-lowest capacity s (λ k. setAt ws k v) h) ∙ dot-comm capacity s (λ k. setAt ws k v))
