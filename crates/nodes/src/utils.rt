@@ -214,8 +214,9 @@ pub fn clear_table(table: &mut [u64])
     }
 }
 
-// The nodes with an odd number of neighbors in kset. A node in two sets is out again, so the sets
-// of kset's members are added up by xor; only the members are visited, the least of those left at a time.
+// The nodes that are in the sets of an odd number of kset's members: where the table has each node's
+// neighbors, those with an odd number of neighbors in kset. A node in two sets is out again, so the
+// sets are added up by xor; only the members are visited, the least of those left at a time.
 pub fn odd_neighbors(g: &[u64], kset: NodeSet) -> NodeSet
     ensures { λ r. ⌜ member r ≡ (λ v. parity capacity (λ k. setAt (now (g .entry)) k v && member kset k)) ⌝ }
 {

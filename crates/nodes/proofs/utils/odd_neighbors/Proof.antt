@@ -3,7 +3,7 @@ use mathlib.Core.Bool.{Bool}
 use native.Mathlib.Omega.{arith}
 use Prim.Native.Nat.{ℕ}
 use Rattle.nodes.specs.Bit.{_⊕_}
-use Rattle.nodes.specs.Row.{anyBelow, count, lowest}
+use Rattle.nodes.specs.Row.{anyBelow, count}
 use Rattle.nodes.specs.NodeSet.{capacity, member}
 use Rattle.nodes.specs.SetTable.{setAt}
 use Rattle.nodes.proofs.Logic.{unless-in, unless-out, ⊕-none}
