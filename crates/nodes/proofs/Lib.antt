@@ -7,3 +7,4 @@ pub mod Bit
 pub mod Digits
 pub mod NodeSet
 pub mod NodeSetCount
+pub mod SetTable

@@ -59,6 +59,9 @@ parity-remove n s f v h t =
     go k (yes e) = rw (e, is-true (s v) t, eqb-yes v, and-all (f v)) (sym (⊕-none (f v)))
     go k (no n) = rw (eqb-no k v n, and-none (f k), and-all (s k))
 
+pub parity-lowest : (n : ℕ) (s f : ℕ → Bool) → T (anyBelow n s) → parity n (λ k. s k && f k) ≡ f (lowest n s) ⊕ parity n (λ k. removed s (lowest n s) k && f k)
+parity-lowest n s f t = parity-remove n s f (lowest n s) (lowest-some n s t) (lowest-member n s t)
+
 -- some of the set, and all of it
 pub any-remove : (n : ℕ) (s f : ℕ → Bool) (v : ℕ) → v < n → T (s v) → anyBelow n (λ k. s k && f k) ≡ f v || anyBelow n (λ k. removed s v k && f k)
 any-remove n s f v h t =

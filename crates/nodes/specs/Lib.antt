@@ -1,3 +1,4 @@
 pub mod Bit
 pub mod Row
 pub mod NodeSet
+pub mod SetTable

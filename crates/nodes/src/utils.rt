@@ -1,13 +1,17 @@
-// Sets of nodes, a digit for each node.
+// Sets of nodes, a digit for each node, and tables of such sets.
 ghost use mathlib.Core.Path.{_≡_};
 ghost use mathlib.Core.Bool.{Bool, true, false, not, _&&_, _||_};
 ghost use Prim.Native.Nat.{ℕ, _%_, _^_};
 ghost use lib.Dec.{eqb, leb, ltb};
+ghost use lib.ListN.{length};
 ghost use Rattle.nodes.specs.Bit.{_⊕_};
-ghost use Rattle.nodes.specs.Row.{anyBelow, allBelow, count, lowest};
-ghost use Rattle.nodes.specs.NodeSet.{wordBits, highest, capacity, member};
+ghost use Rattle.nodes.specs.Row.{anyBelow, allBelow, count, lowest, parity};
+ghost use Rattle.nodes.specs.NodeSet.{wordBits, highest, capacity, wordsOf, member};
+ghost use Rattle.nodes.specs.SetTable.{setAt, putSet, zeros};
 
 const WORD_BITS: u8 = 64;
+
+const SET_WORDS: usize = 2;
 
 // The word with one digit, that of node v.
 pub fn mask(v: u8) -> u64
@@ -166,4 +170,62 @@ impl NodeSet {
         }
         self
     }
+}
+
+// Set u of a table; a word that lies past the table has no member.
+pub fn set_at(table: &[u64], u: u8) -> NodeSet
+    ensures { λ r. ⌜ member r ≡ setAt (now (table .entry)) u ⌝ }
+{
+    let at = SET_WORDS * u as usize;
+    if at + 1 < table.len() {
+        return NodeSet {
+            low: table[at],
+            high: table[at + 1],
+        };
+    }
+    if at < table.len() {
+        return NodeSet {
+            low: table[at],
+            high: 0,
+        };
+    }
+    NodeSet { low: 0, high: 0 }
+}
+
+// s becomes set u of the table, where both its words lie in it; else the table is as it was.
+pub fn put_set(table: &mut [u64], u: u8, s: NodeSet)
+    ensures { λ _. ⌜ now (table .exit) ≡ putSet (now (table .entry)) u (wordsOf s) ⌝ }
+{
+    let at = SET_WORDS * u as usize;
+    if at + 1 < table.len() {
+        table[at] = s.low;
+        table[at + 1] = s.high;
+    }
+}
+
+// Each set of the table becomes empty.
+pub fn clear_table(table: &mut [u64])
+    ensures { λ _. ⌜ now (table .exit) ≡ zeros (length (now (table .entry))) ⌝ }
+{
+    let mut i = 0;
+    while i < table.len() {
+        table[i] = 0;
+        i += 1;
+    }
+}
+
+// The nodes that are in the sets of an odd number of kset's members: where the table has each node's
+// neighbors, those with an odd number of neighbors in kset. A node in two sets is out again, so the
+// sets are added up by xor; only the members are visited, the least of those left at a time.
+pub fn odd_neighbors(g: &[u64], kset: NodeSet) -> NodeSet
+    ensures { λ r. ⌜ member r ≡ (λ v. parity capacity (λ k. setAt (now (g .entry)) k v && member kset k)) ⌝ }
+{
+    let mut s = kset;
+    let mut odd = NodeSet::empty();
+    while !s.is_empty() {
+        let k = s.lowest();
+        odd = odd.xor(set_at(g, k));
+        s = s.without_lowest();
+    }
+    odd
 }
