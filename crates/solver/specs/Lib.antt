@@ -1,3 +1,5 @@
 pub mod System
 pub mod Reduced
 pub mod WorkMatrix
+pub mod Steps
+pub mod Solver
