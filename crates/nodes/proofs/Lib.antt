@@ -1,0 +1,5 @@
+pub mod Logic
+pub mod Row
+pub mod Count
+pub mod Members
+pub mod Bit

@@ -1,0 +1,199 @@
+-- The least member of a set, and its members as a list.
+use Prim.Native.Nat.{ℕ, zero, suc, _+_, _≤_, _<_}
+use mathlib.Core.Path.{_≡_, refl, sym, ap, ap₂, _∙_, subst}
+use mathlib.Core.Bool.{Bool, true, false, cond, not, _&&_, _||_}
+use mathlib.Core.List.{List, [], _∷_, _++_, append-nil}
+use mathlib.Core.Logic.{_⊎_, inl, inr, _≢_}
+use native.Mathlib.Omega.{arith}
+use native.Mathlib.Nat.{not-suc-le-zero, le-step, lt-suc-self, eq-or-lt-of-le, le-of-suc-le-suc, le-refl, add-zero, add-suc, zero-add}
+use lib.Dec.{T, eqb, ltb}
+use lib.ListN.{length, getD, length-append, List·getD-append}
+use Rattle.nodes.specs.Row.{parity, count, anyBelow, lowestFrom, lowest, membersFrom, members}
+use Rattle.nodes.proofs.Logic.{is-true, is-false, from-true, from-false, both-ways, dec, le-or-lt}
+use Rattle.nodes.proofs.Row.{parity-ext, any-in, any-none, ltb-yes, ltb-no}
+use Rattle.nodes.proofs.Count.{count-at, count-not, count-mono, rank-lt, rank-sur, rank-lt-out, rank-sum}
+
+-- ---- the least member
+pub from-ge : (k n : ℕ) (s : ℕ → Bool) → k ≤ lowestFrom k n s
+unfolding lowestFrom
+from-ge k zero s = le-refl k
+from-ge k (suc n) s = go (s k) (from-ge (k + 1) n s)
+  where
+    go : (c : Bool) → k + 1 ≤ lowestFrom (k + 1) n s → k ≤ cond c k (lowestFrom (k + 1) n s)
+    go true h = le-refl k
+    go false h = omega arith
+
+pub from-le : (k n : ℕ) (s : ℕ → Bool) → lowestFrom k n s ≤ k + n
+unfolding lowestFrom
+from-le k zero s = omega arith
+from-le k (suc n) s = go (s k) (from-le (k + 1) n s)
+  where
+    go : (c : Bool) → lowestFrom (k + 1) n s ≤ k + 1 + n → cond c k (lowestFrom (k + 1) n s) ≤ k + suc n
+    go true h = omega arith
+    go false h = omega arith
+
+-- a number with nothing of s before it from k on, that is itself in s or past the end
+pub from-unique : (k n : ℕ) (s : ℕ → Bool) (r : ℕ) → k ≤ r → r ≤ k + n → ((j : ℕ) → k ≤ j → j < r → s j ≡ false) → (r < k + n → s r ≡ true) → lowestFrom k n s ≡ r
+unfolding lowestFrom
+from-unique k zero s r a b f g = omega arith
+from-unique k (suc n) s r a b f g = go (s k) refl (eq-or-lt-of-le a) (from-unique (k + 1) n s r)
+  where
+    go : (c : Bool) → s k ≡ c → (k ≡ r) ⊎ (k < r)
+        → (k + 1 ≤ r → r ≤ k + 1 + n → ((j : ℕ) → k + 1 ≤ j → j < r → s j ≡ false) → (r < k + 1 + n → s r ≡ true) → lowestFrom (k + 1) n s ≡ r)
+        → cond c k (lowestFrom (k + 1) n s) ≡ r
+    go true e (inl p) ih = p
+    go true e (inr l) ih = absurd (both-ways (s k) e (f k (le-refl k) l))
+    go false e (inl p) ih = absurd (both-ways (s k) (ap s p ∙ g (omega arith)) e)
+    go false e (inr l) ih = ih (omega arith) (omega arith) (λ j u v. f j (omega arith) v) (λ u. g (omega arith))
+
+pub from-none : (k n : ℕ) (s : ℕ → Bool) (j : ℕ) → k ≤ j → j < lowestFrom k n s → s j ≡ false
+unfolding lowestFrom
+from-none k zero s j a b = absurd (apart j k a b)
+  where
+    apart : (j k : ℕ) → k ≤ j → j < k → ⊥
+    apart j k p q = omega arith
+from-none k (suc n) s j a b = go (s k) refl b (eq-or-lt-of-le a) (from-none (k + 1) n s j)
+  where
+    apart : (j k : ℕ) → k ≤ j → j < k → ⊥
+    apart j k p q = omega arith
+
+    go : (c : Bool) → s k ≡ c → j < cond c k (lowestFrom (k + 1) n s) → (k ≡ j) ⊎ (k < j) → (k + 1 ≤ j → j < lowestFrom (k + 1) n s → s j ≡ false) → s j ≡ false
+    go true e h o ih = absurd (apart j k a h)
+    go false e h (inl p) ih = ap s (sym p) ∙ e
+    go false e h (inr l) ih = ih (omega arith) h
+
+pub from-here : (k n : ℕ) (s : ℕ → Bool) → lowestFrom k n s < k + n → s (lowestFrom k n s) ≡ true
+unfolding lowestFrom
+from-here k zero s h = absurd (apart k h)
+  where
+    apart : (k : ℕ) → k < k + 0 → ⊥
+    apart k p = omega arith
+from-here k (suc n) s h = go (s k) refl h (from-here (k + 1) n s)
+  where
+    go : (c : Bool) → s k ≡ c → cond c k (lowestFrom (k + 1) n s) < k + suc n → (lowestFrom (k + 1) n s < k + 1 + n → s (lowestFrom (k + 1) n s) ≡ true) → s (cond c k (lowestFrom (k + 1) n s)) ≡ true
+    go true e h ih = e
+    go false e h ih = ih (omega arith)
+
+pub lowest-le : (n : ℕ) (s : ℕ → Bool) → lowest n s ≤ n
+lowest-le n s = omega (arith, from-le 0 n s)
+
+pub lowest-none : (n : ℕ) (s : ℕ → Bool) (k : ℕ) → k < lowest n s → s k ≡ false
+lowest-none n s k h = from-none 0 n s k (omega arith) h
+
+pub lowest-here : (n : ℕ) (s : ℕ → Bool) → lowest n s < n → s (lowest n s) ≡ true
+lowest-here n s h = from-here 0 n s (omega arith)
+
+-- the three facts determine it
+pub lowest-unique : (n : ℕ) (s : ℕ → Bool) (r : ℕ) → r ≤ n → ((k : ℕ) → k < r → s k ≡ false) → (r < n → s r ≡ true) → lowest n s ≡ r
+lowest-unique n s r b f g = from-unique 0 n s r (omega arith) (omega arith) (λ j u v. f j v) (λ l. g (omega arith))
+
+-- no member is before it
+pub lowest-min : (n : ℕ) (s : ℕ → Bool) (k : ℕ) → T (s k) → lowest n s ≤ k
+lowest-min n s k t = go (le-or-lt (lowest n s) k)
+  where
+    go : (lowest n s ≤ k) ⊎ (k < lowest n s) → lowest n s ≤ k
+    go (inl h) = h
+    go (inr h) = absurd (from-false (s k) (lowest-none n s k h) t)
+
+pub lowest-ext : (n : ℕ) (s t : ℕ → Bool) → ((k : ℕ) → k < n → s k ≡ t k) → lowest n s ≡ lowest n t
+lowest-ext n s t h =
+    let b = lowest-le n t in
+    lowest-unique n s (lowest n t) b (λ k l. h k (omega arith) ∙ lowest-none n t k l) (λ l. h (lowest n t) l ∙ lowest-here n t l)
+
+-- there is a member where the least is below n
+pub any-lowest : (n : ℕ) (s : ℕ → Bool) → anyBelow n s ≡ ltb (lowest n s) n
+any-lowest n s = go (le-or-lt n (lowest n s))
+  where
+    go : (n ≤ lowest n s) ⊎ (lowest n s < n) → anyBelow n s ≡ ltb (lowest n s) n
+    go (inl h) = any-none n s (λ k l. from-false (s k) (lowest-none n s k (omega arith))) ∙ sym (ltb-no (lowest n s) n h)
+    go (inr h) = is-true (anyBelow n s) (any-in n s (lowest n s) h (from-true (s (lowest n s)) (lowest-here n s h))) ∙ sym (ltb-yes (lowest n s) n h)
+
+-- ---- the members as a list
+-- one number more at the end
+pub from-snoc : (k n : ℕ) (s : ℕ → Bool) → membersFrom k (suc n) s ≡ membersFrom k n s ++ cond (s (k + n)) ((k + n) ∷ []) []
+unfolding membersFrom
+from-snoc k zero s = ap (λ (x : ℕ). cond (s x) (x ∷ []) []) (sym (add-zero k))
+from-snoc k (suc n) s = go (s k) (from-snoc (k + 1) n s)
+  where
+    last : k + 1 + n ≡ k + suc n
+    last = omega arith
+
+    go : (c : Bool) → membersFrom (k + 1) (suc n) s ≡ membersFrom (k + 1) n s ++ cond (s (k + 1 + n)) ((k + 1 + n) ∷ []) []
+        → cond c (k ∷ membersFrom (k + 1) (suc n) s) (membersFrom (k + 1) (suc n) s)
+        ≡ cond c (k ∷ membersFrom (k + 1) n s) (membersFrom (k + 1) n s) ++ cond (s (k + suc n)) ((k + suc n) ∷ []) []
+    go true e = ap (λ (l : List ℕ). k ∷ l) (e ∙ ap (λ (x : ℕ). membersFrom (k + 1) n s ++ cond (s x) (x ∷ []) []) last)
+    go false e = e ∙ ap (λ (x : ℕ). membersFrom (k + 1) n s ++ cond (s x) (x ∷ []) []) last
+
+pub members-snoc : (n : ℕ) (s : ℕ → Bool) → members (suc n) s ≡ members n s ++ cond (s n) (n ∷ []) []
+members-snoc n s = from-snoc 0 n s ∙ ap (λ (x : ℕ). members n s ++ cond (s x) (x ∷ []) []) (zero-add n)
+
+pub members-in : (n : ℕ) (s : ℕ → Bool) → T (s n) → members (suc n) s ≡ members n s ++ (n ∷ [])
+members-in n s t = members-snoc n s ∙ ap (λ (b : Bool). members n s ++ cond b (n ∷ []) []) (is-true (s n) t)
+
+pub members-out : (n : ℕ) (s : ℕ → Bool) → (T (s n) → ⊥) → members (suc n) s ≡ members n s
+members-out n s f = members-snoc n s ∙ ap (λ (b : Bool). members n s ++ cond b (n ∷ []) []) (is-false (s n) f) ∙ append-nil (members n s)
+
+pub members-length : (n : ℕ) (s : ℕ → Bool) → length (members n s) ≡ count n s
+unfolding count membersFrom
+members-length zero s = refl
+members-length (suc n) s = go (dec (s n)) (members-length n s)
+  where
+    go : T (s n) ⊎ (T (s n) → ⊥) → length (members n s) ≡ count n s → length (members (suc n) s) ≡ count (suc n) s
+    go (inl t) ih = ap length (members-in n s t) ∙ length-append (members n s) (n ∷ []) ∙ omega (arith, count-at n s t)
+    go (inr f) ih = ap length (members-out n s f) ∙ ih ∙ sym (count-not n s f)
+
+-- a member stands at its rank
+pub members-at : (n : ℕ) (s : ℕ → Bool) (d v : ℕ) → v < n → T (s v) → getD (members n s) (count v s) d ≡ v
+members-at zero s d v h t = absurd (not-suc-le-zero h)
+members-at (suc n) s d v h t = go (eq-or-lt-of-le (le-of-suc-le-suc h)) (dec (s n)) (members-at n s d v)
+  where
+    past : (l : List ℕ) (i : ℕ) → length l ≡ i → getD (l ++ (n ∷ [])) i d ≡ n
+    past [] zero e = refl
+    past [] (suc i) e = absurd (bad i e)
+      where
+        bad : (i : ℕ) → 0 ≡ suc i → ⊥
+        bad i e = omega arith
+    past (x ∷ l) zero e = absurd (bad (length l) e)
+      where
+        bad : (i : ℕ) → suc i ≡ 0 → ⊥
+        bad i e = omega arith
+    past (x ∷ l) (suc i) e = past l i (omega arith)
+
+    go : (v ≡ n) ⊎ (v < n) → T (s n) ⊎ (T (s n) → ⊥) → (v < n → T (s v) → getD (members n s) (count v s) d ≡ v) → getD (members (suc n) s) (count v s) d ≡ v
+    go (inl e) (inl a) ih = rw e (ap (λ (l : List ℕ). getD l (count n s) d) (members-in n s a) ∙ past (members n s) (count n s) (members-length n s))
+    go (inl e) (inr f) ih = absurd (f (rw e at t))
+    go (inr l) (inl a) ih =
+        ap (λ (l : List ℕ). getD l (count v s) d) (members-in n s a)
+        ∙ List·getD-append (members n s) (n ∷ []) d (count v s) (omega (arith, members-length n s, rank-lt v n s l t)) ∙ ih l t
+    go (inr l) (inr f) ih = ap (λ (l : List ℕ). getD l (count v s) d) (members-out n s f) ∙ ih l t
+
+-- each element is a member, below n, and stands at its rank
+pub members-each : (n : ℕ) (s : ℕ → Bool) (d i : ℕ) → i < count n s → (getD (members n s) i d < n) × T (s (getD (members n s) i d)) × (count (getD (members n s) i d) s ≡ i)
+members-each n s d i h = go (rank-sur n s i h)
+  where
+    go : (v : ℕ) × (v < n) × T (s v) × (count v s ≡ i) → (getD (members n s) i d < n) × T (s (getD (members n s) i d)) × (count (getD (members n s) i d) s ≡ i)
+    go (v, l, t, e) = subst (λ (x : ℕ). (x < n) × T (s x) × (count x s ≡ i)) (sym (members-at n s d v l t) ∙ ap (λ (k : ℕ). getD (members n s) k d) e) (l, t, e)
+
+pub members-ascend : (n : ℕ) (s : ℕ → Bool) (d i j : ℕ) → i < j → j < count n s → getD (members n s) i d < getD (members n s) j d
+members-ascend n s d i j l h =
+    let a : count (getD (members n s) i d) s ≡ i = members-each n s d i (omega arith) .2 in
+    let b : count (getD (members n s) j d) s ≡ j = members-each n s d j h .2 in
+    rank-lt-out (getD (members n s) i d) (getD (members n s) j d) s (omega arith)
+
+pub members-ext : (n : ℕ) (s t : ℕ → Bool) → ((k : ℕ) → k < n → s k ≡ t k) → members n s ≡ members n t
+unfolding membersFrom
+members-ext zero s t h = refl
+members-ext (suc n) s t h =
+    members-snoc n s ∙ ap₂ (λ (l : List ℕ) (b : Bool). l ++ cond b (n ∷ []) []) (members-ext n s t (λ k l. h k (le-step l))) (h n (lt-suc-self n))
+    ∙ sym (members-snoc n t)
+
+-- a sum over a set is a sum over the list of its members
+pub members-parity : (n : ℕ) (s f : ℕ → Bool) (d : ℕ) → parity n (λ k. s k && f k) ≡ parity (length (members n s)) (λ i. f (getD (members n s) i d))
+members-parity n s f d =
+    parity-ext n (λ k. s k && f k) (λ k. s k && f (getD (members n s) (count k s) d)) (λ k l. go k l (dec (s k)))
+    ∙ rank-sum n s (λ i. f (getD (members n s) i d))
+    ∙ ap (λ (m : ℕ). parity m (λ i. f (getD (members n s) i d))) (sym (members-length n s))
+  where
+    go : (k : ℕ) → k < n → T (s k) ⊎ (T (s k) → ⊥) → s k && f k ≡ s k && f (getD (members n s) (count k s) d)
+    go k l (inl t) = ap (λ (x : ℕ). s k && f x) (sym (members-at n s d k l t))
+    go k l (inr q) = ap (λ (b : Bool). b && f k) (is-false (s k) q) ∙ sym (ap (λ (b : Bool). b && f (getD (members n s) (count k s) d)) (is-false (s k) q))
