@@ -1,2 +1,4 @@
 pub mod Base
 pub mod System
+pub mod Turns
+pub mod Bytes

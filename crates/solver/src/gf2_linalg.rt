@@ -1,0 +1,124 @@
+// The solver of equations mod 2: rows of bits, coefficient columns first and then the right sides.
+ghost use mathlib.Core.Path.{_≡_};
+ghost use mathlib.Core.Logic.{_≢_};
+ghost use mathlib.Core.Bool.{Bool, true, false, not, _&&_, _||_};
+ghost use Prim.Native.Nat.{ℕ, _+_, _-_, _*_, _<_, _≤_};
+ghost use lib.ListN.{length};
+ghost use lib.Dec.{eqb, ltb};
+ghost use Rattle.nodes.specs.Row.{lowest, lowestFrom, allBelow};
+ghost use Rattle.solver.specs.WorkMatrix.{entryOf};
+ghost use Rattle.solver.specs.Steps.{xorRow, brought, clearOne, clearColumn, State, column, eliminated};
+ghost use Rattle.solver.specs.Solver.{rowBytes, mostRows, mostColumns};
+
+// Each row, and the out bits, take 16 bytes, lowest bit first.
+const ROW_BYTES: usize = 16;
+const MOST_ROWS: usize = 128;
+const MOST_COLUMNS: usize = 8 * ROW_BYTES;
+
+pub enum Solved {
+    Solvable,
+    Unsolvable,
+    WrongShape,
+    NoSuchEquation,
+}
+
+// Whether the row has a bit in the column.
+fn has(matrix: &[u8], row: usize, col: usize) -> bool
+    requires { ⌜ (row * rowBytes + rowBytes ≤ length (now matrix)) × (col < mostColumns) ⌝ }
+    ensures { λ r. ⌜ r ≡ entryOf rowBytes (now (matrix .entry)) row col ⌝ }
+{
+    (matrix[row * ROW_BYTES + col / 8] >> ((col % 8) as u8)) & 1 != 0
+}
+
+// Row src is added to row dst.
+fn xor_row(matrix: &mut [u8], dst: usize, src: usize)
+    requires { ⌜ (dst * rowBytes + rowBytes ≤ length (now matrix)) × (src * rowBytes + rowBytes ≤ length (now matrix)) × (dst ≢ src) ⌝ }
+    ensures { λ _. ⌜ now (matrix .exit) ≡ xorRow rowBytes (now (matrix .entry)) dst src ⌝ }
+{
+    let d = dst * ROW_BYTES;
+    let s = src * ROW_BYTES;
+    let mut j = 0;
+    while j < ROW_BYTES {
+        matrix[d + j] ^= matrix[s + j];
+        j += 1;
+    }
+}
+
+// The first row from `from` on that has the column, and `rows` where there is none.
+fn find_pivot(matrix: &[u8], from: usize, rows: usize, col: usize) -> usize
+    requires { ⌜ (rows * rowBytes ≤ length (now matrix)) × (from ≤ rows) × (col < mostColumns) ⌝ }
+    ensures { λ r. ⌜ r ≡ lowestFrom from (rows - from) (λ i. entryOf rowBytes (now (matrix .entry)) i col) ⌝ }
+{
+    let mut i = from;
+    while i < rows {
+        if has(matrix, i, col) {
+            return i;
+        }
+        i += 1;
+    }
+    i
+}
+
+// Row p is added to the row at the rank, which then has the pivot's bit; no rows change places.
+fn bring(matrix: &mut [u8], rank: usize, p: usize)
+    requires { ⌜ (rank * rowBytes + rowBytes ≤ length (now matrix)) × (p * rowBytes + rowBytes ≤ length (now matrix)) ⌝ }
+    ensures { λ _. ⌜ now (matrix .exit) ≡ brought rowBytes (now (matrix .entry)) rank p ⌝ }
+{
+    if p == rank {
+        return;
+    }
+    xor_row(matrix, rank, p);
+}
+
+fn clear_one(matrix: &mut [u8], row: usize, pivot: usize, col: usize)
+    requires { ⌜ (row * rowBytes + rowBytes ≤ length (now matrix)) × (pivot * rowBytes + rowBytes ≤ length (now matrix)) × (col < mostColumns) ⌝ }
+    ensures { λ _. ⌜ now (matrix .exit) ≡ clearOne rowBytes pivot col row (now (matrix .entry)) ⌝ }
+{
+    if row == pivot {
+        return;
+    }
+    if has(matrix, row, col) {
+        xor_row(matrix, row, pivot);
+    }
+}
+
+// The pivot's row clears the column in the rows above and below it.
+fn clear_column(matrix: &mut [u8], rows: usize, pivot: usize, col: usize)
+    requires { ⌜ (rows * rowBytes ≤ length (now matrix)) × (pivot < rows) × (col < mostColumns) ⌝ }
+    ensures { λ _. ⌜ now (matrix .exit) ≡ clearColumn rowBytes (now (matrix .entry)) rows pivot col ⌝ }
+{
+    let mut i = 0;
+    while i < rows {
+        clear_one(matrix, i, pivot, col);
+        i += 1;
+    }
+}
+
+// One column: the rank grows where a row from it on has the column.
+fn eliminate_column(matrix: &mut [u8], rows: usize, col: usize, rank: usize) -> usize
+    requires { ⌜ (rows * rowBytes ≤ length (now matrix)) × (rank ≤ rows) × (col < mostColumns) ⌝ }
+    ensures { λ r. ⌜ record { rank = r; rows = now (matrix .exit) } ≡ column rowBytes rows col (record { rank = rank; rows = now (matrix .entry) }) ⌝ }
+    ensures { λ r. ⌜ r ≤ rows ⌝ }
+{
+    let p = find_pivot(matrix, rank, rows, col);
+    if p >= rows {
+        return rank;
+    }
+    bring(matrix, rank, p);
+    clear_column(matrix, rows, rank, col);
+    rank + 1
+}
+
+// The coefficient columns in turn.
+fn eliminate_columns(matrix: &mut [u8], rows: usize, cols: usize) -> usize
+    requires { ⌜ (rows * rowBytes ≤ length (now matrix)) × (cols ≤ mostColumns) ⌝ }
+    ensures { λ r. ⌜ record { rank = r; rows = now (matrix .exit) } ≡ eliminated rowBytes (now (matrix .entry)) rows cols ⌝ }
+{
+    let mut rank = 0;
+    let mut col = 0;
+    while col < cols {
+        rank = eliminate_column(matrix, rows, col, rank);
+        col += 1;
+    }
+    rank
+}
