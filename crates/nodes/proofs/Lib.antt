@@ -3,3 +3,4 @@ pub mod Row
 pub mod Count
 pub mod Members
 pub mod Bit
+pub mod Digits

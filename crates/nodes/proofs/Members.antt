@@ -108,6 +108,24 @@ any-lowest n s = go (le-or-lt n (lowest n s))
     go (inl h) = any-none n s (λ k l. from-false (s k) (lowest-none n s k (omega arith))) ∙ sym (ltb-no (lowest n s) n h)
     go (inr h) = is-true (anyBelow n s) (any-in n s (lowest n s) h (from-true (s (lowest n s)) (lowest-here n s h))) ∙ sym (ltb-yes (lowest n s) n h)
 
+-- from the number 0, and the rest
+from-suc : (k n : ℕ) (s : ℕ → Bool) → lowestFrom (suc k) n s ≡ suc (lowestFrom k n (λ i. s (suc i)))
+unfolding lowestFrom
+from-suc k zero s = refl
+from-suc k (suc n) s = go (s (suc k)) (ap (λ (x : ℕ). lowestFrom x n s) next ∙ from-suc (k + 1) n s)
+  where
+    next : suc k + 1 ≡ suc (k + 1)
+    next = omega arith
+
+    go : (c : Bool) → lowestFrom (suc k + 1) n s ≡ suc (lowestFrom (k + 1) n (λ i. s (suc i)))
+        → cond c (suc k) (lowestFrom (suc k + 1) n s) ≡ suc (cond c k (lowestFrom (k + 1) n (λ i. s (suc i))))
+    go true e = refl
+    go false e = e
+
+pub lowest-suc : (n : ℕ) (s : ℕ → Bool) → lowest (suc n) s ≡ cond (s 0) 0 (suc (lowest n (λ k. s (suc k))))
+unfolding lowestFrom
+lowest-suc n s = ap (λ (x : ℕ). cond (s 0) 0 x) (from-suc 0 n s)
+
 -- ---- the members as a list
 -- one number more at the end
 pub from-snoc : (k n : ℕ) (s : ℕ → Bool) → membersFrom k (suc n) s ≡ membersFrom k n s ++ cond (s (k + n)) ((k + n) ∷ []) []

@@ -1,4 +1,5 @@
-pub mod Base
 pub mod System
+pub mod Reduced
+pub mod Elimination
 pub mod Turns
 pub mod Bytes

@@ -1,7 +1,7 @@
 -- The answer of a system: there is at most one, and `solve` finds it where there is a solution.
 use Prim.Native.Nat.{ℕ, zero, suc, _+_, _≤_, _<_}
 use mathlib.Core.Path.{_≡_, refl, sym, ap, _∙_, fun-ext}
-use mathlib.Core.Bool.{Bool, true, false, cond, not, _&&_, and-false, true≢false, false≢true}
+use mathlib.Core.Bool.{Bool, true, false, cond, not, _&&_, true≢false, false≢true}
 use mathlib.Core.Option.{Option, none, some}
 use mathlib.Core.Logic.{_⊎_, inl, inr, _≢_}
 use native.Mathlib.Omega.{arith}
@@ -10,7 +10,7 @@ use lib.Dec.{T, eqb, eqb-refl, eqb→eq}
 use Rattle.nodes.specs.Bit.{_⊕_}
 use Rattle.nodes.specs.Row.{parity, allBelow}
 use Rattle.solver.specs.System.{System, sum, Solves, Dependent, Avoids, Answer, isSome, firstOf, taking, emptySum, solve, pivot}
-use Rattle.solver.proofs.Base.{
+use Rattle.nodes.proofs.Logic.{
   is-true,
   is-false,
   from-true,
@@ -22,38 +22,26 @@ use Rattle.solver.proofs.Base.{
   not-out,
   eqb-no,
   eqb-yes,
-  parity-ext,
-  parity-⊕,
-  parity-none,
-  &&-⊕,
+  beq-eq,
+  and-none,
+  ⊕-none,
   ⊕-self,
   ⊕-eq,
-  ⊕-true-false,
-  ⊕-twice,
-  all-in,
-  all-out,
+  ⊕-comm,
+  ⊕-assoc,
 }
+use Rattle.nodes.proofs.Row.{parity-ext, parity-⊕, all-in, all-out}
 
 -- x takes columns at hand below n only
 abbrev pub Within : System → ℕ → (ℕ → Bool) → Type 0
 Within s n x = (k : ℕ) → T (x k) → (k < n) × T (s .column k)
 
 -- ---- bits
-⊕-out : (a d c : Bool) → a ⊕ d ≡ c → d ≡ c ⊕ a
-⊕-out true true c e = rw (← e)
-⊕-out true false c e = rw (← e)
-⊕-out false true c e = rw (← e)
-⊕-out false false c e = rw (← e)
+⊕-off : (a b : Bool) → a ⊕ b ⊕ b ≡ a
+⊕-off a b = ⊕-assoc a b b ∙ rw (⊕-self b) (⊕-none a)
 
-⊕-in : (a c : Bool) → a ⊕ (c ⊕ a) ≡ c
-⊕-in true true = refl
-⊕-in true false = refl
-⊕-in false true = refl
-⊕-in false false = refl
-
-T-ext : (a b : Bool) → (T a → T b) → (T b → T a) → a ≡ b
-T-ext true b f g = sym (is-true b (f tt))
-T-ext false b f g = sym (is-false b g)
+⊕-over : (a d c : Bool) → a ⊕ d ≡ c → d ≡ c ⊕ a
+⊕-over a d c e = rw (← e, ⊕-comm a d) (sym (⊕-off d a))
 
 taken-same : (n : ℕ) (x : ℕ → Bool) → cond (eqb n n) true (x n) ≡ true
 taken-same n x = rw (eqb-yes n)
@@ -88,7 +76,7 @@ module _ (s : System) where
   sum-skip n i x h = rw (nothing (s .column n) (s .entry i n) (x n) h)
     where
       nothing : (c a v : Bool) → (T c → v ≡ false) → c && (a && v) ≡ false
-      nothing true a v h = rw (h tt) (and-false a)
+      nothing true a v h = rw (h tt) (and-none a)
       nothing false a v h = refl
 
   -- the last column taken
@@ -109,14 +97,14 @@ module _ (s : System) where
       last : T (s .column n) ⊎ (T (s .column n) → ⊥) → (c : Bool) → z n ≡ c → (k ≡ n) ⊎ (k < n)
           → (Solves s n (λ i. false) z → Avoids s n z → (k : ℕ) → k < n → T (s .column k) → z k ≡ false) → z k ≡ false
       last (inl u) true e o ih =
-          absurd (true≢false (sym e ∙ a n (lt-suc-self n) u (z, λ i g r. ⊕-true-false (s .entry i n) (sum s n i z) (sym (sum-take n i z u e) ∙ h i g r))))
+          absurd (true≢false (sym e ∙ a n (lt-suc-self n) u (z, λ i g r. sym (⊕-eq (s .entry i n) (sum s n i z) (sym (sum-take n i z u e) ∙ h i g r)))))
       last d false e (inl p) ih = rw p e
       last d false e (inr g) ih = ih (λ i q r. sym (sum-skip n i z (λ u. e)) ∙ h i q r) (λ j q u p. a j (le-step q) u p) k g t
       last (inr f) true e (inl p) ih = absurd (f (rw p at t))
       last (inr f) true e (inr g) ih = ih (λ i q r. sym (sum-skip n i z (λ u. absurd (f u))) ∙ h i q r) (λ j q u p. a j (le-step q) u p) k g t
 
   pub unique : (n : ℕ) (b x y : ℕ → Bool) → Solves s n b x → Solves s n b y → Avoids s n x → Avoids s n y → Within s n x → Within s n y → x ≡ y
-  unique n b x y sx sy ax ay wx wy = fun-ext (λ k. T-ext (x k) (y k) (λ t. from-true (y k) (sym (same k (wx k t)) ∙ is-true (x k) t)) (λ t. from-true (x k) (same k (wy k t) ∙ is-true (y k) t)))
+  unique n b x y sx sy ax ay wx wy = fun-ext (λ k. beq-eq (x k) (y k) (λ t. from-true (y k) (sym (same k (wx k t)) ∙ is-true (x k) t)) (λ t. from-true (x k) (same k (wy k t) ∙ is-true (y k) t)))
     where
       same : (k : ℕ) → (k < n) × T (s .column k) → x k ≡ y k
       same k (l, t) =
@@ -174,7 +162,7 @@ module _ (s : System) where
   needed n b x u h a = record {
     solves = λ i l r.
         sum-take n i (λ k. cond (eqb k n) true (x k)) u (taken-same n x)
-        ∙ rw (sum-ext n i (λ k. cond (eqb k n) true (x k)) x (λ k g t. taken-other n x k (omega arith)), a .solves i l r) (⊕-in (s .entry i n) (b i));
+        ∙ rw (sum-ext n i (λ k. cond (eqb k n) true (x k)) x (λ k g t. taken-other n x k (omega arith)), a .solves i l r) (⊕-comm (s .entry i n) (b i ⊕ s .entry i n) ∙ ⊕-off (b i) (s .entry i n));
     avoids = λ j l v d. by j (eq-or-lt-of-le (le-of-suc-le-suc l)) v d;
     within = λ k t. in-all k t (dec (eqb k n));
   }
@@ -182,7 +170,7 @@ module _ (s : System) where
       by : (j : ℕ) → (j ≡ n) ⊎ (j < n) → T (s .column j) → Dependent s j → cond (eqb j n) true (x j) ≡ false
       by j (inl e) v d =
           let d′ : Dependent s n = rw e at d in
-          absurd (h (λ k. x k ⊕ d′ .0 k) (λ i l r. sum-⊕ n i x (d′ .0) ∙ rw (a .solves i l r, d′ .1 i l r) (⊕-twice (b i) (s .entry i n))))
+          absurd (h (λ k. x k ⊕ d′ .0 k) (λ i l r. sum-⊕ n i x (d′ .0) ∙ rw (a .solves i l r, d′ .1 i l r) (⊕-off (b i) (s .entry i n))))
       by j (inr l) v d = taken-other n x j (omega arith) ∙ a .avoids j l v d
 
       in-all : (k : ℕ) → T (cond (eqb k n) true (x k)) → T (eqb k n) ⊎ (T (eqb k n) → ⊥) → (k < suc n) × T (s .column k)
@@ -196,7 +184,7 @@ module _ (s : System) where
     where
       no-solution : (x : ℕ → Bool) (c : Bool) → x n ≡ c → T (s .column n) → Right n b none → Right n (λ i. b i ⊕ s .entry i n) none → Solves s (suc n) b x → ⊥
       no-solution x false e u h k q = h x (λ i l r. sym (sum-skip n i x (λ u. e)) ∙ q i l r)
-      no-solution x true e u h k q = k x (λ i l r. ⊕-out (s .entry i n) (sum s n i x) (b i) (sym (sum-take n i x u e) ∙ q i l r))
+      no-solution x true e u h k q = k x (λ i l r. ⊕-over (s .entry i n) (sum s n i x) (b i) (sym (sum-take n i x u e) ∙ q i l r))
 
       step : (o : Option (ℕ → Bool)) → T (s .column n) → Right n b o → (p : Option (ℕ → Bool)) → Right n (λ i. b i ⊕ s .entry i n) p → Right (suc n) b (firstOf o (taking n p))
       step (some x) u h p k = one-more n b x h
@@ -315,7 +303,7 @@ module _ (s t : System) (n : ℕ) (a : Agree s t n) where
 
   pub pivot-ext : (k : ℕ) → k < n → pivot s k ≡ pivot t k
   pivot-ext k l =
-      T-ext (pivot s k) (pivot t k)
+      beq-eq (pivot s k) (pivot t k)
       (λ p. let (u, f) = pivot-out s k p in
       pivot-in t k (rw (← a .column k l) u) (λ d. f (dependent-agree t s n (agree-sym a) k l (rw (← a .column k l) u) d)))
       (λ p. let (u, f) = pivot-out t k p in

@@ -1,0 +1,110 @@
+-- The machine's counts of a word's digits, and one digit of one word of a list.
+use mathlib.Core.Path.{_≡_, refl, sym, ap, ap₂, _∙_, subst}
+use mathlib.Core.Bool.{Bool, true, false, cond, not, _&&_, _||_}
+use mathlib.Core.List.{List}
+use mathlib.Core.Logic.{_⊎_, inl, inr, _≢_}
+use Prim.Native.Nat.{ℕ, zero, suc, _+_, _-_, _*_, _/_, _%_, _^_, _≤_, _<_}
+use native.Mathlib.Nat.{mod-lt, add-comm, add-zero, le-dest, zero-lt-suc, add-suc, zero-add}
+use native.Mathlib.Omega.{arith}
+use native.Mathlib.Decide.{ℕ-discrete}
+use lib.Arith.{lt-one}
+use lib.Bits.{bitAnd, bitOr, bitXor, and-shr, and-self}
+use lib.Dec.{T, eqb, eqb→eq, eqb·suc-suc, eqb·suc-zero}
+use lib.ListN.{getD, set, length}
+use lib.Pow.{split, shr-lt, pow-pos, field, mod-mod-pow}
+use lib.Seq.{getD-set-same, getD-set-other}
+use lib.Count.{ones, ones-cat, trailingZeros, under}
+use Rattle.nodes.specs.Bit.{_⊕_, bit, isOne}
+use Rattle.nodes.specs.Row.{count, lowestFrom, lowest}
+use Rattle.nodes.proofs.Logic.{eqb-no, eqb-yes, beq-eq, and-l, and-r, and-in, and-none, and-all, ⊕-none, dec, is-true, is-false}
+use Rattle.nodes.proofs.Count.{count-ext}
+use Rattle.nodes.proofs.Members.{lowest-ext, lowest-suc}
+use Rattle.nodes.proofs.Bit.{bit-half, bit-low, bit-zero, bit-and, bit-xor, bit-pow, one-digit}
+
+-- the digits below w are not changed by a mask of w digits
+pub bit-mod : (n w k : ℕ) → k < w → bit (n % 2 ^ w) k ≡ bit n k
+unfolding bit
+bit-mod n w k l =
+    let j = le-dest l .0 in
+    let e : w ≡ j + 1 + k = omega (arith, le-dest l .1) in
+    ap (λ (x : ℕ). isOne (n % 2 ^ x / 2 ^ k % 2)) e
+    ∙ ap (λ (x : ℕ). isOne (x % 2)) (field n (j + 1) k)
+    ∙ ap isOne (mod-mod-pow (n / 2 ^ k) j 1)
+
+half-lt : (w n : ℕ) → n < 2 ^ suc w → n / 2 < 2 ^ w
+half-lt w n h = shr-lt w 1 (subst (λ (x : ℕ). n < 2 ^ x) (omega arith) h)
+
+-- ---- how many digits are 1
+top-digit : (x : ℕ) → x < 2 → (c : ℕ) → ones x + c ≡ cond (isOne (x % 2)) (suc c) c
+unfolding ones
+top-digit x h c = one-digit (λ (x : ℕ). ones x + c ≡ cond (isOne (x % 2)) (suc c) c) (omega arith) (omega arith) x h
+
+pub ones-count : (w n : ℕ) → n < 2 ^ w → ones n ≡ count w (bit n)
+unfolding count ones bit
+ones-count zero n h = ap ones (lt-one h)
+ones-count (suc w) n h =
+    ap ones (sym (split n w)) ∙ ones-cat w (n / 2 ^ w) (n % 2 ^ w) (mod-lt n (pow-pos w))
+    ∙ ap (λ (c : ℕ). ones (n / 2 ^ w) + c) (ones-count w (n % 2 ^ w) (mod-lt n (pow-pos w)) ∙ count-ext w (bit (n % 2 ^ w)) (bit n) (λ k l. bit-mod n w k l))
+    ∙ top-digit (n / 2 ^ w) top (count w (bit n))
+  where
+    top : n / 2 ^ w < 2
+    top = shr-lt 1 w (subst (λ (x : ℕ). n < 2 ^ x) (omega arith) h)
+
+-- ---- the lowest digit that is 1
+-- from the lowest digit of n, and the lowest that is 1 of n / 2
+pub lowest-half : (w n : ℕ) → lowest (suc w) (bit n) ≡ cond (isOne (n % 2)) 0 (suc (lowest w (bit (n / 2))))
+lowest-half w n =
+    lowest-suc w (bit n)
+    ∙ ap₂ (λ (b : Bool) (x : ℕ). cond b 0 (suc x)) (bit-low n) (lowest-ext w (λ k. bit n (suc k)) (bit (n / 2)) (λ k l. sym (bit-half n k)))
+
+pub trailing-lowest : (w n : ℕ) → trailingZeros w n ≡ lowest w (bit n)
+unfolding trailingZeros lowestFrom
+trailing-lowest zero n = refl
+trailing-lowest (suc w) n =
+    one-digit (λ (d : ℕ). under d (trailingZeros w (n / 2)) ≡ cond (isOne d) 0 (suc (lowest w (bit (n / 2))))) (ap suc (trailing-lowest w (n / 2))) refl (n % 2) (mod-lt n (zero-lt-suc 1))
+    ∙ sym (lowest-half w n)
+
+-- `n & (n - 1)` is n without its lowest digit that is 1
+pub bit-drop : (w n k : ℕ) → n < 2 ^ w → bit (bitAnd n (n - 1)) k ≡ bit n k && not (eqb k (lowest w (bit n)))
+bit-drop zero n k h = ap (λ (x : ℕ). bit (bitAnd x (x - 1)) k) (lt-one h) ∙ bit-zero k ∙ sym (ap (λ (b : Bool). b && not (eqb k (lowest 0 (bit n)))) (ap (λ (x : ℕ). bit x k) (lt-one h) ∙ bit-zero k))
+bit-drop (suc w) n zero h = bit-and n (n - 1) 0 ∙ ap (λ (b : Bool). bit n 0 && b) (bit-low (n - 1)) ∙ ap (λ (b : Bool). b && isOne ((n - 1) % 2)) (bit-low n) ∙ low (n % 2) refl (mod-lt n (zero-lt-suc 1)) ∙ sym (ap₂ (λ (b : Bool) (x : ℕ). b && not (eqb 0 x)) (bit-low n) (lowest-half w n))
+  where
+    low : (d : ℕ) → n % 2 ≡ d → d < 2 → isOne (n % 2) && isOne ((n - 1) % 2) ≡ isOne (n % 2) && not (eqb 0 (cond (isOne (n % 2)) 0 (suc (lowest w (bit (n / 2))))))
+    low zero e l = rw e
+    low (suc d) e l = let z : (n - 1) % 2 ≡ 0 = omega arith in rw (e, z)
+bit-drop (suc w) n (suc k) h = sym (bit-half (bitAnd n (n - 1)) k) ∙ ap (λ (x : ℕ). bit x k) (and-shr n (n - 1) 1) ∙ high (n % 2) refl (mod-lt n (zero-lt-suc 1)) (bit-drop w (n / 2) k (half-lt w n h)) ∙ sym (ap₂ (λ (b : Bool) (x : ℕ). b && not (eqb (suc k) x)) (sym (bit-half n k)) (lowest-half w n))
+  where
+    high : (d : ℕ) → n % 2 ≡ d → d < 2 → bit (bitAnd (n / 2) (n / 2 - 1)) k ≡ bit (n / 2) k && not (eqb k (lowest w (bit (n / 2))))
+        → bit (bitAnd (n / 2) ((n - 1) / 2)) k ≡ bit (n / 2) k && not (eqb (suc k) (cond (isOne (n % 2)) 0 (suc (lowest w (bit (n / 2))))))
+    high zero e l ih = let z : (n - 1) / 2 ≡ n / 2 - 1 = omega arith in rw (e, z, eqb·suc-suc k (lowest w (bit (n / 2)))) ih
+    high (suc d) e l ih = let z : (n - 1) / 2 ≡ n / 2 = omega arith in rw (e, z, and-self (n / 2), eqb·suc-zero k) (sym (and-all (bit (n / 2) k)))
+
+-- ---- one digit of one word of a list is changed: what each digit of each word is then
+pub flip-digit : (l : List ℕ) (q r : ℕ) → q < length l → (q' r' : ℕ)
+    → bit (getD (set l q (bitXor (getD l q 0) (2 ^ r))) q' 0) r' ≡ bit (getD l q' 0) r' ⊕ (eqb q' q && eqb r' r)
+flip-digit l q r h q' r' = by (ℕ-discrete q' q)
+  where
+    by : Dec (q' ≡ q) → bit (getD (set l q (bitXor (getD l q 0) (2 ^ r))) q' 0) r' ≡ bit (getD l q' 0) r' ⊕ (eqb q' q && eqb r' r)
+    by (yes e) =
+        ap (λ (k : ℕ). bit (getD (set l q (bitXor (getD l q 0) (2 ^ r))) k 0) r') e
+        ∙ ap (λ (x : ℕ). bit x r') (getD-set-same l q (bitXor (getD l q 0) (2 ^ r)) 0 h)
+        ∙ bit-xor (getD l q 0) (2 ^ r) r'
+        ∙ ap₂ _⊕_ (ap (λ (k : ℕ). bit (getD l k 0) r') (sym e)) (bit-pow r r' ∙ ap (λ (b : Bool). b && eqb r' r) (sym (ap (λ (x : ℕ). eqb x q) e ∙ eqb-yes q)))
+    by (no n) =
+        ap (λ (x : ℕ). bit x r') (getD-set-other l q q' (bitXor (getD l q 0) (2 ^ r)) 0 n)
+        ∙ sym (⊕-none (bit (getD l q' 0) r'))
+        ∙ ap (λ (b : Bool). bit (getD l q' 0) r' ⊕ (b && eqb r' r)) (sym (eqb-no q' q n))
+
+-- ---- two tests at once
+pub both-eq : (a b c d : ℕ) → T (eqb a b && eqb c d) → (a ≡ b) × (c ≡ d)
+both-eq a b c d t = (eqb→eq a b (and-l (eqb a b) (eqb c d) t), eqb→eq c d (and-r (eqb a b) (eqb c d) t))
+
+pub eq-both : (a b c d : ℕ) → a ≡ b → c ≡ d → T (eqb a b && eqb c d)
+eq-both a b c d p q = rw (p, q, eqb-yes b, eqb-yes d) tt
+
+pub same-tests : (a b c d a' b' c' d' : ℕ) → (a ≡ b → c ≡ d → (a' ≡ b') × (c' ≡ d')) → (a' ≡ b' → c' ≡ d' → (a ≡ b) × (c ≡ d))
+    → eqb a b && eqb c d ≡ eqb a' b' && eqb c' d'
+same-tests a b c d a' b' c' d' f g =
+    beq-eq (eqb a b && eqb c d) (eqb a' b' && eqb c' d')
+    (λ t. let p = both-eq a b c d t in let q = f (p .0) (p .1) in eq-both a' b' c' d' (q .0) (q .1))
+    (λ t. let p = both-eq a' b' c' d' t in let q = g (p .0) (p .1) in eq-both a b c d (q .0) (q .1))
