@@ -100,7 +100,7 @@ module _ (l : List ℕ) (d s n : ℕ) (hd : d + n ≤ length l) (hs : s + n ≤ 
           ∙ sym (beyond k (omega arith) ∙ List·getD-eq-default l 0 {n = k} (omega arith))
 
 -- ---- rows of w bytes
-rows-apart : (w a b : ℕ) → a < b → a * w + w ≤ b * w
+pub rows-apart : (w a b : ℕ) → a < b → a * w + w ≤ b * w
 rows-apart w a b h = omega (arith, suc-mul a w, mul-le-mul-right w h)
 
 either-apart : (w a b : ℕ) → a ≢ b → (a * w + w ≤ b * w) ⊎ (b * w + w ≤ a * w)

@@ -3,3 +3,4 @@ pub mod Reduced
 pub mod Elimination
 pub mod Turns
 pub mod Bytes
+pub mod Steps
