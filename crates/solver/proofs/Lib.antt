@@ -4,3 +4,4 @@ pub mod Elimination
 pub mod Turns
 pub mod Bytes
 pub mod Steps
+pub mod Solver
