@@ -5,10 +5,11 @@ ghost use mathlib.Core.Bool.{Bool, true, false, not, _&&_, _||_};
 ghost use Prim.Native.Nat.{ℕ, _+_, _-_, _*_, _<_, _≤_};
 ghost use lib.ListN.{length};
 ghost use lib.Dec.{eqb, ltb};
-ghost use Rattle.nodes.specs.Row.{lowest, lowestFrom, allBelow};
-ghost use Rattle.solver.specs.WorkMatrix.{entryOf};
+ghost use Rattle.nodes.specs.Row.{lowestFrom, allBelow};
+ghost use Rattle.solver.specs.Reduced.{lead, contradicts};
+ghost use Rattle.solver.specs.WorkMatrix.{entryOf, nothingBeyond, bytesOf};
 ghost use Rattle.solver.specs.Steps.{xorRow, brought, clearOne, clearColumn, State, column, eliminated};
-ghost use Rattle.solver.specs.Solver.{rowBytes, mostRows, mostColumns};
+ghost use Rattle.solver.specs.Solver.{rowBytes, mostColumns, fits, bothFit, wellShaped};
 
 // Each row, and the out bits, take 16 bytes, lowest bit first.
 const ROW_BYTES: usize = 16;
@@ -121,4 +122,138 @@ fn eliminate_columns(matrix: &mut [u8], rows: usize, cols: usize) -> usize
         col += 1;
     }
     rank
+}
+
+// The first coefficient column at which the row has a bit, and `cols` where it has none.
+fn first_column(matrix: &[u8], row: usize, cols: usize) -> usize
+    requires { ⌜ (row * rowBytes + rowBytes ≤ length (now matrix)) × (cols ≤ mostColumns) ⌝ }
+    ensures { λ r. ⌜ r ≡ lead (entryOf rowBytes (now (matrix .entry))) cols row ⌝ }
+{
+    let start = row * ROW_BYTES;
+    let mut q = 0;
+    while q < ROW_BYTES {
+        let byte = matrix[start + q];
+        if byte != 0 {
+            let k = 8 * q + u8::trailing_zeros(byte) as usize;
+            if k < cols {
+                return k;
+            }
+            return cols;
+        }
+        q += 1;
+    }
+    cols
+}
+
+// A row without a coefficient asks for 1 in the column.
+fn asks_in_vain(matrix: &[u8], row: usize, cols: usize, column: usize) -> bool
+    requires { ⌜ (row * rowBytes + rowBytes ≤ length (now matrix)) × (cols ≤ mostColumns) × (column < mostColumns) ⌝ }
+    ensures { λ r. ⌜ r ≡ (entryOf rowBytes (now (matrix .entry)) row column && eqb (lead (entryOf rowBytes (now (matrix .entry))) cols row) cols) ⌝ }
+{
+    if !has(matrix, row, column) {
+        return false;
+    }
+    first_column(matrix, row, cols) == cols
+}
+
+// Whether some row does.
+fn no_solution(matrix: &[u8], rows: usize, cols: usize, column: usize) -> bool
+    requires { ⌜ (rows * rowBytes ≤ length (now matrix)) × (cols ≤ mostColumns) × (column < mostColumns) ⌝ }
+    ensures { λ r. ⌜ r ≡ contradicts rows cols (entryOf rowBytes (now (matrix .entry))) (λ i. entryOf rowBytes (now (matrix .entry)) i column) ⌝ }
+{
+    let mut i = 0;
+    while i < rows {
+        if asks_in_vain(matrix, i, cols, column) {
+            return true;
+        }
+        i += 1;
+    }
+    false
+}
+
+fn clear(out: &mut [u8])
+    requires { ⌜ length (now out) ≡ rowBytes ⌝ }
+    ensures { λ _. ⌜ now (out .exit) ≡ bytesOf rowBytes (λ k. false) ⌝ }
+{
+    let mut j = 0;
+    while j < ROW_BYTES {
+        out[j] = 0;
+        j += 1;
+    }
+}
+
+// No bit of the row at or beyond the width: in the first byte looked at `inside` bits may be there.
+fn row_ends(matrix: &[u8], row: usize, width: usize) -> bool
+    requires { ⌜ (row * rowBytes + rowBytes ≤ length (now matrix)) × (width ≤ mostColumns) ⌝ }
+    ensures { λ r. ⌜ r ≡ allBelow (8 * rowBytes) (λ k. ltb k width || not (entryOf rowBytes (now (matrix .entry)) row k)) ⌝ }
+{
+    let start = row * ROW_BYTES;
+    let mut q = width / 8;
+    let mut inside = width % 8;
+    while q < ROW_BYTES {
+        if (matrix[start + q] >> (inside as u8)) != 0 {
+            return false;
+        }
+        inside = 0;
+        q += 1;
+    }
+    true
+}
+
+fn rows_end(matrix: &[u8], rows: usize, width: usize) -> bool
+    requires { ⌜ (rows * rowBytes ≤ length (now matrix)) × (width ≤ mostColumns) ⌝ }
+    ensures { λ r. ⌜ r ≡ nothingBeyond rowBytes (now (matrix .entry)) rows width ⌝ }
+{
+    let mut i = 0;
+    while i < rows {
+        if !row_ends(matrix, i, width) {
+            return false;
+        }
+        i += 1;
+    }
+    true
+}
+
+// Each bound is asked before a sum or product of the numbers is made, which then can't wrap.
+fn matrix_fits(matrix: &[u8], rows: usize, cols: usize, sides: usize) -> bool
+    ensures { λ r. ⌜ r ≡ fits (now (matrix .entry)) rows cols sides ⌝ }
+{
+    if rows > MOST_ROWS {
+        return false;
+    }
+    if cols > MOST_COLUMNS {
+        return false;
+    }
+    if sides > MOST_COLUMNS - cols {
+        return false;
+    }
+    matrix.len() == rows * ROW_BYTES
+}
+
+fn both_fit(matrix: &[u8], out: &[u8], rows: usize, cols: usize, sides: usize) -> bool
+    ensures { λ r. ⌜ r ≡ bothFit (now (matrix .entry)) (now (out .entry)) rows cols sides ⌝ }
+{
+    if !matrix_fits(matrix, rows, cols, sides) {
+        return false;
+    }
+    out.len() == ROW_BYTES
+}
+
+// Question 11.
+fn well_shaped(matrix: &[u8], out: &[u8], rows: usize, cols: usize, sides: usize) -> bool
+    ensures { λ r. ⌜ r ≡ wellShaped (now (matrix .entry)) (now (out .entry)) rows cols sides ⌝ }
+{
+    if rows == 0 {
+        return false;
+    }
+    if sides == 0 {
+        return false;
+    }
+    if cols == 0 {
+        return false;
+    }
+    if !both_fit(matrix, out, rows, cols, sides) {
+        return false;
+    }
+    rows_end(matrix, rows, cols + sides)
 }
