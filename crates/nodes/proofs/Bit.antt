@@ -2,18 +2,20 @@
 use mathlib.Core.Path.{_≡_, refl, sym, ap, ap₂, _∙_, subst}
 use mathlib.Core.Bool.{Bool, true, false, not, _&&_, _||_, false≢true, true≢false}
 use Prim.Native.Nat.{ℕ, zero, suc, _+_, _-_, _*_, _/_, _%_, _^_, _≤_, _<_, suc-le-suc}
-use mathlib.Core.Logic.{_≢_}
+use mathlib.Core.Logic.{_≢_, _⊎_, inl, inr}
 use native.Mathlib.Nat.{mod-lt, mod-eq-of-lt, div-eq-of-lt, div-self, zero-lt-suc, le-of-suc-le-suc, not-suc-le-zero, add-comm, add-assoc, lt-of-lt-of-le, pow-suc, mul-mod-left, mul-div-cancel, le-dest, div-one, one-mul, zero-mul, add-zero, suc-pred-eq-of-pos}
 use native.Mathlib.Numerals.{one-add, add-one}
 use lib.Arith.{lt-one}
 use native.Mathlib.Omega.{arith, ne-cases}
 use borrow.Author.Tests.{eq-eqb, ne-eqb}
 use native.Mathlib.Decide.{ℕ-discrete}
-use lib.Dec.{eqb, ltb, lit<, eqb·suc-zero}
+use lib.Dec.{T, eqb, ltb, lit<, eqb→eq, eqb-refl, eqb·suc-zero}
 use lib.Pow.{pow-pos, split, pow-lt, pow-mono, pow-add, shr-shr, shr-lt, high, low, ones-split, ones-lt}
-use lib.Bits.{bitAnd, bitOr, bitXor, and-shr, or-shr, xor-shr, and-mod, or-mod, xor-mod, and-mask, xor-add-and, xor-comm, and-block, and-zero-r}
+use lib.Bits.{bitAnd, bitOr, bitXor, and-shr, or-shr, xor-shr, and-mod, or-mod, xor-mod, and-mask, xor-add-and, and-block, and-zero-r}
 use Rattle.nodes.specs.Bit.{bit, isOne, _⊕_}
-use Rattle.nodes.proofs.Logic.{⊕-all}
+use Rattle.nodes.specs.Row.{anyBelow, allBelow}
+use Rattle.nodes.proofs.Logic.{is-true, is-false, from-false, beq-eq, dec, not-out, lt-or-ge, ⊕-all, ⊕-self, ⊕-eq}
+use Rattle.nodes.proofs.Row.{any-in, any-none, all-in, all-out, ltb-yes, ltb-no}
 
 two : 0 < 2
 two = zero-lt-suc 1
@@ -138,6 +140,32 @@ bit-ext (suc w) a b ha hb h =
   where
     half : (n : ℕ) → n < 2 ^ suc w → n / 2 < 2 ^ w
     half n l = shr-lt w 1 (subst (λ (x : ℕ). n < 2 ^ x) (sym (add-one w)) l)
+
+-- the word 0 is the one with no digit that is 1
+pub bit-any : (w n : ℕ) → n < 2 ^ w → anyBelow w (bit n) ≡ not (eqb n 0)
+bit-any w n h = go (dec (eqb n 0)) (dec (anyBelow w (bit n)))
+  where
+    go : T (eqb n 0) ⊎ (T (eqb n 0) → ⊥) → T (anyBelow w (bit n)) ⊎ (T (anyBelow w (bit n)) → ⊥) → anyBelow w (bit n) ≡ not (eqb n 0)
+    go (inl t) o =
+        any-none w (bit n) (λ k l. from-false (bit n k) (ap (λ (x : ℕ). bit x k) (eqb→eq n 0 t) ∙ bit-zero k)) ∙ sym (ap not (is-true (eqb n 0) t))
+    go (inr f) (inl a) = is-true (anyBelow w (bit n)) a ∙ sym (ap not (is-false (eqb n 0) f))
+    go (inr f) (inr g) =
+        absurd (f (rw (bit-ext w n 0 h (pow-pos w) (λ k l. is-false (bit n k) (λ t. g (any-in w (bit n) k l t)) ∙ sym (bit-zero k))) (eqb-refl 0)))
+
+-- equal words have equal digits, and no others
+pub bit-same : (w a b : ℕ) → a < 2 ^ w → b < 2 ^ w → eqb a b ≡ allBelow w (λ k. not (bit a k ⊕ bit b k))
+bit-same w a b ha hb =
+    beq-eq (eqb a b) (allBelow w (λ k. not (bit a k ⊕ bit b k)))
+    (λ t. all-in w (λ k. not (bit a k ⊕ bit b k)) (λ k l. rw (eqb→eq a b t, ⊕-self (bit b k)) tt))
+    (λ t. rw (bit-ext w a b ha hb (λ k l. ⊕-eq (bit a k) (bit b k) (is-false (bit a k ⊕ bit b k) (not-out (bit a k ⊕ bit b k) (all-out w (λ k. not (bit a k ⊕ bit b k)) t k l))))) (eqb-refl b))
+
+-- the digits of 2 ^ w - 1
+pub bit-below : (w k : ℕ) → bit (2 ^ w - 1) k ≡ ltb k w
+bit-below w k = go (lt-or-ge k w)
+  where
+    go : (k < w) ⊎ (w ≤ k) → bit (2 ^ w - 1) k ≡ ltb k w
+    go (inl l) = bit-ones w k l ∙ sym (ltb-yes k w l)
+    go (inr l) = bit-past w (2 ^ w - 1) k (ones-lt w) l ∙ sym (ltb-no k w l)
 
 -- `1 << k` in w digits
 pub one-shl : (w k : ℕ) → k < w → 1 * 2 ^ k % 2 ^ w ≡ 2 ^ k

@@ -1,14 +1,13 @@
 -- The machine's counts of a word's digits, and one digit of one word of a list.
 use mathlib.Core.Path.{_≡_, refl, sym, ap, ap₂, _∙_, subst}
-use mathlib.Core.Bool.{Bool, true, false, cond, not, _&&_, _||_}
+use mathlib.Core.Bool.{Bool, false, cond, not, _&&_}
 use mathlib.Core.List.{List}
-use mathlib.Core.Logic.{_⊎_, inl, inr, _≢_}
-use Prim.Native.Nat.{ℕ, zero, suc, _+_, _-_, _*_, _/_, _%_, _^_, _≤_, _<_}
-use native.Mathlib.Nat.{mod-lt, add-comm, add-zero, le-dest, zero-lt-suc, add-suc, zero-add}
+use Prim.Native.Nat.{ℕ, zero, suc, _+_, _-_, _/_, _%_, _^_, _<_}
+use native.Mathlib.Nat.{mod-lt, le-dest, zero-lt-suc}
 use native.Mathlib.Omega.{arith}
 use native.Mathlib.Decide.{ℕ-discrete}
 use lib.Arith.{lt-one}
-use lib.Bits.{bitAnd, bitOr, bitXor, and-shr, and-self}
+use lib.Bits.{bitAnd, bitXor, and-shr, and-self}
 use lib.Dec.{T, eqb, eqb→eq, eqb·suc-suc, eqb·suc-zero}
 use lib.ListN.{getD, set, length}
 use lib.Pow.{split, shr-lt, pow-pos, field, mod-mod-pow}
@@ -16,7 +15,7 @@ use lib.Seq.{getD-set-same, getD-set-other}
 use lib.Count.{ones, ones-cat, trailingZeros, under}
 use Rattle.nodes.specs.Bit.{_⊕_, bit, isOne}
 use Rattle.nodes.specs.Row.{count, lowestFrom, lowest}
-use Rattle.nodes.proofs.Logic.{eqb-no, eqb-yes, beq-eq, and-l, and-r, and-in, and-none, and-all, ⊕-none, dec, is-true, is-false}
+use Rattle.nodes.proofs.Logic.{eqb-no, eqb-yes, beq-eq, and-l, and-r, and-all, ⊕-none}
 use Rattle.nodes.proofs.Count.{count-ext}
 use Rattle.nodes.proofs.Members.{lowest-ext, lowest-suc}
 use Rattle.nodes.proofs.Bit.{bit-half, bit-low, bit-zero, bit-and, bit-xor, bit-pow, one-digit}
@@ -66,13 +65,20 @@ trailing-lowest (suc w) n =
 
 -- `n & (n - 1)` is n without its lowest digit that is 1
 pub bit-drop : (w n k : ℕ) → n < 2 ^ w → bit (bitAnd n (n - 1)) k ≡ bit n k && not (eqb k (lowest w (bit n)))
-bit-drop zero n k h = ap (λ (x : ℕ). bit (bitAnd x (x - 1)) k) (lt-one h) ∙ bit-zero k ∙ sym (ap (λ (b : Bool). b && not (eqb k (lowest 0 (bit n)))) (ap (λ (x : ℕ). bit x k) (lt-one h) ∙ bit-zero k))
-bit-drop (suc w) n zero h = bit-and n (n - 1) 0 ∙ ap (λ (b : Bool). bit n 0 && b) (bit-low (n - 1)) ∙ ap (λ (b : Bool). b && isOne ((n - 1) % 2)) (bit-low n) ∙ low (n % 2) refl (mod-lt n (zero-lt-suc 1)) ∙ sym (ap₂ (λ (b : Bool) (x : ℕ). b && not (eqb 0 x)) (bit-low n) (lowest-half w n))
+bit-drop zero n k h =
+    let e : bit n k ≡ false = ap (λ (x : ℕ). bit x k) (lt-one h) ∙ bit-zero k in
+    bit-and n (n - 1) k ∙ ap (λ (b : Bool). b && bit (n - 1) k) e ∙ sym (ap (λ (b : Bool). b && not (eqb k (lowest 0 (bit n)))) e)
+bit-drop (suc w) n zero h =
+    bit-and n (n - 1) 0 ∙ ap₂ _&&_ (bit-low n) (bit-low (n - 1)) ∙ low (n % 2) refl (mod-lt n (zero-lt-suc 1))
+    ∙ sym (ap₂ (λ (b : Bool) (x : ℕ). b && not (eqb 0 x)) (bit-low n) (lowest-half w n))
   where
     low : (d : ℕ) → n % 2 ≡ d → d < 2 → isOne (n % 2) && isOne ((n - 1) % 2) ≡ isOne (n % 2) && not (eqb 0 (cond (isOne (n % 2)) 0 (suc (lowest w (bit (n / 2))))))
     low zero e l = rw e
     low (suc d) e l = let z : (n - 1) % 2 ≡ 0 = omega arith in rw (e, z)
-bit-drop (suc w) n (suc k) h = sym (bit-half (bitAnd n (n - 1)) k) ∙ ap (λ (x : ℕ). bit x k) (and-shr n (n - 1) 1) ∙ high (n % 2) refl (mod-lt n (zero-lt-suc 1)) (bit-drop w (n / 2) k (half-lt w n h)) ∙ sym (ap₂ (λ (b : Bool) (x : ℕ). b && not (eqb (suc k) x)) (sym (bit-half n k)) (lowest-half w n))
+bit-drop (suc w) n (suc k) h =
+    sym (bit-half (bitAnd n (n - 1)) k) ∙ ap (λ (x : ℕ). bit x k) (and-shr n (n - 1) 1)
+    ∙ high (n % 2) refl (mod-lt n (zero-lt-suc 1)) (bit-drop w (n / 2) k (half-lt w n h))
+    ∙ sym (ap₂ (λ (b : Bool) (x : ℕ). b && not (eqb (suc k) x)) (sym (bit-half n k)) (lowest-half w n))
   where
     high : (d : ℕ) → n % 2 ≡ d → d < 2 → bit (bitAnd (n / 2) (n / 2 - 1)) k ≡ bit (n / 2) k && not (eqb k (lowest w (bit (n / 2))))
         → bit (bitAnd (n / 2) ((n - 1) / 2)) k ≡ bit (n / 2) k && not (eqb (suc k) (cond (isOne (n % 2)) 0 (suc (lowest w (bit (n / 2))))))

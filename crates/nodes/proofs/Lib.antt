@@ -4,3 +4,5 @@ pub mod Count
 pub mod Members
 pub mod Bit
 pub mod Digits
+pub mod NodeSet
+pub mod NodeSetCount

@@ -1,9 +1,9 @@
 -- Tests as facts, and the algebra of the sum mod 2.
-use Prim.Native.Nat.{ℕ, zero, suc, _≤_, _<_}
+use Prim.Native.Nat.{ℕ, _≤_, _<_}
 use mathlib.Core.Path.{_≡_, refl, sym, ap, _∙_}
 use mathlib.Core.Bool.{Bool, true, false, cond, not, _&&_, _||_, false≢true}
 use mathlib.Core.Logic.{_⊎_, inl, inr, _≢_}
-use lib.Dec.{T, eqb, leb, ltb, eqb→eq, eqb-refl, leb→le, nleb→lt}
+use lib.Dec.{T, eqb, leb, eqb→eq, eqb-refl, leb→le, nleb→lt}
 use Rattle.nodes.specs.Bit.{_⊕_}
 
 pub is-true : (b : Bool) → T b → b ≡ true
@@ -131,6 +131,9 @@ pub and-assoc : (a b c : Bool) → (a && b) && c ≡ a && (b && c)
 and-assoc true b c = refl
 and-assoc false b c = refl
 
+pub and-turn : (a b c : Bool) → a && (b && c) ≡ b && (a && c)
+and-turn a b c = sym (and-assoc a b c) ∙ ap (λ (d : Bool). d && c) (and-comm a b) ∙ and-assoc b a c
+
 pub or-none : (a : Bool) → a || false ≡ a
 or-none true = refl
 or-none false = refl
@@ -146,6 +149,9 @@ or-comm false b = sym (or-none b)
 pub or-assoc : (a b c : Bool) → (a || b) || c ≡ a || (b || c)
 or-assoc true b c = refl
 or-assoc false b c = refl
+
+pub or-turn : (a b c : Bool) → a || (b || c) ≡ b || (a || c)
+or-turn a b c = sym (or-assoc a b c) ∙ ap (λ (d : Bool). d || c) (or-comm a b) ∙ or-assoc b a c
 
 pub not-not : (a : Bool) → not (not a) ≡ a
 not-not true = refl

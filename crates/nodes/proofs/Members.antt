@@ -1,17 +1,17 @@
 -- The least member of a set, and its members as a list.
-use Prim.Native.Nat.{ℕ, zero, suc, _+_, _≤_, _<_}
+use Prim.Native.Nat.{ℕ, zero, suc, _+_, _-_, _≤_, _<_}
 use mathlib.Core.Path.{_≡_, refl, sym, ap, ap₂, _∙_, subst}
-use mathlib.Core.Bool.{Bool, true, false, cond, not, _&&_, _||_}
+use mathlib.Core.Bool.{Bool, true, false, cond, _&&_}
 use mathlib.Core.List.{List, [], _∷_, _++_, append-nil}
-use mathlib.Core.Logic.{_⊎_, inl, inr, _≢_}
+use mathlib.Core.Logic.{_⊎_, inl, inr}
 use native.Mathlib.Omega.{arith}
-use native.Mathlib.Nat.{not-suc-le-zero, le-step, lt-suc-self, eq-or-lt-of-le, le-of-suc-le-suc, le-refl, add-zero, add-suc, zero-add}
-use lib.Dec.{T, eqb, ltb}
+use native.Mathlib.Nat.{not-suc-le-zero, le-step, lt-suc-self, eq-or-lt-of-le, le-of-suc-le-suc, le-refl, add-zero, zero-add}
+use lib.Dec.{T, ltb}
 use lib.ListN.{length, getD, length-append, List·getD-append}
 use Rattle.nodes.specs.Row.{parity, count, anyBelow, lowestFrom, lowest, membersFrom, members}
-use Rattle.nodes.proofs.Logic.{is-true, is-false, from-true, from-false, both-ways, dec, le-or-lt}
+use Rattle.nodes.proofs.Logic.{is-true, is-false, from-true, from-false, both-ways, dec, le-or-lt, lt-or-ge}
 use Rattle.nodes.proofs.Row.{parity-ext, any-in, any-none, ltb-yes, ltb-no}
-use Rattle.nodes.proofs.Count.{count-at, count-not, count-mono, rank-lt, rank-sur, rank-lt-out, rank-sum}
+use Rattle.nodes.proofs.Count.{count-at, count-not, rank-lt, rank-sur, rank-lt-out, rank-sum}
 
 -- ---- the least member
 pub from-ge : (k n : ℕ) (s : ℕ → Bool) → k ≤ lowestFrom k n s
@@ -125,6 +125,19 @@ from-suc k (suc n) s = go (s (suc k)) (ap (λ (x : ℕ). lowestFrom x n s) next 
 pub lowest-suc : (n : ℕ) (s : ℕ → Bool) → lowest (suc n) s ≡ cond (s 0) 0 (suc (lowest n (λ k. s (suc k))))
 unfolding lowestFrom
 lowest-suc n s = ap (λ (x : ℕ). cond (s 0) 0 x) (from-suc 0 n s)
+
+-- the first m have the least, or none of them is in s
+pub lowest-front : (m n : ℕ) (s : ℕ → Bool) → lowest m s < m → lowest (m + n) s ≡ lowest m s
+lowest-front m n s h = lowest-unique (m + n) s (lowest m s) (omega arith) (lowest-none m s) (λ l. lowest-here m s h)
+
+pub lowest-back : (m n : ℕ) (s : ℕ → Bool) → ((k : ℕ) → k < m → s k ≡ false) → lowest (m + n) s ≡ m + lowest n (λ k. s (m + k))
+lowest-back m n s f =
+    let b = lowest-le n (λ k. s (m + k)) in
+    lowest-unique (m + n) s (m + lowest n (λ k. s (m + k))) (omega arith) (λ k l. none k l (lt-or-ge k m)) (λ l. lowest-here n (λ k. s (m + k)) (omega arith))
+  where
+    none : (k : ℕ) → k < m + lowest n (λ k. s (m + k)) → (k < m) ⊎ (m ≤ k) → s k ≡ false
+    none k l (inl h) = f k h
+    none k l (inr h) = let e : k ≡ m + (k - m) = omega arith in ap s e ∙ lowest-none n (λ k. s (m + k)) (k - m) (omega arith)
 
 -- ---- the members as a list
 -- one number more at the end

@@ -2,13 +2,13 @@
 use Prim.Native.Nat.{ℕ, zero, suc, _+_, _≤_, _<_}
 use mathlib.Core.Path.{_≡_, refl, sym, ap, ap₂, _∙_}
 use mathlib.Core.Bool.{Bool, true, false, not, _&&_, _||_}
-use mathlib.Core.Logic.{_⊎_, inl, inr, _≢_}
+use mathlib.Core.Logic.{_⊎_, inl, inr}
 use native.Mathlib.Omega.{arith}
-use native.Mathlib.Nat.{le-of-suc-le-suc, not-suc-le-zero, le-step, lt-suc-self, eq-or-lt-of-le}
+use native.Mathlib.Nat.{le-of-suc-le-suc, not-suc-le-zero, le-step, lt-suc-self, eq-or-lt-of-le, add-zero, add-suc}
 use lib.Dec.{T, eqb, ltb, ltb→lt, lt→ltb}
 use Rattle.nodes.specs.Bit.{_⊕_}
 use Rattle.nodes.specs.Row.{parity, dot, anyBelow, allBelow}
-use Rattle.nodes.proofs.Logic.{is-true, is-false, beq-eq, and-l, and-r, and-in, or-l, or-r, or-out, eqb-no, eqb-yes, and-none, and-all, and-comm, and-assoc, ⊕-none, ⊕-swap, &&-⊕, ⊕-&&}
+use Rattle.nodes.proofs.Logic.{is-true, is-false, and-l, and-r, and-in, or-l, or-r, or-out, eqb-no, eqb-yes, and-none, and-all, and-comm, and-assoc, and-turn, or-none, or-turn, ⊕-none, ⊕-swap, &&-⊕, ⊕-&&}
 
 -- equal below n: the parity is equal
 pub parity-ext : (n : ℕ) (f g : ℕ → Bool) → ((k : ℕ) → k < n → f k ≡ g k) → parity n f ≡ parity n g
@@ -90,17 +90,15 @@ dot-ext n a b x y p q = parity-ext n (λ k. a k && x k) (λ k. b k && y k) (λ k
 pub dot-sum : (m n : ℕ) (c : ℕ → Bool) (e : ℕ → ℕ → Bool) (x : ℕ → Bool) → dot n (λ k. parity m (λ i. c i && e i k)) x ≡ parity m (λ i. c i && dot n (e i) x)
 dot-sum m n c e x =
     parity-ext n (λ k. parity m (λ i. c i && e i k) && x k) (λ k. parity m (λ i. c i && (e i k && x k)))
-    (λ k l. and-comm (parity m (λ i. c i && e i k)) (x k) ∙ sym (parity-and m (x k) (λ i. c i && e i k)) ∙ parity-ext m (λ i. x k && (c i && e i k)) (λ i. c i && (e i k && x k)) (λ i q. and-comm (x k) (c i && e i k) ∙ and-assoc (c i) (e i k) (x k)))
+    (λ k l. and-comm (parity m (λ i. c i && e i k)) (x k) ∙ sym (parity-and m (x k) (λ i. c i && e i k))
+    ∙ parity-ext m (λ i. x k && (c i && e i k)) (λ i. c i && (e i k && x k)) (λ i q. and-comm (x k) (c i && e i k) ∙ and-assoc (c i) (e i k) (x k)))
     ∙ sym (parity-swap m n (λ i k. c i && (e i k && x k)))
     ∙ parity-ext m (λ i. parity n (λ k. c i && (e i k && x k))) (λ i. c i && dot n (e i) x) (λ i l. parity-and n (c i) (λ k. e i k && x k))
 
 pub dot-prefix : (w j : ℕ) (a x : ℕ → Bool) → j ≤ w → dot w a (λ k. ltb k j && x k) ≡ dot j a x
 dot-prefix w j a x h =
-    parity-ext w (λ k. a k && (ltb k j && x k)) (λ k. ltb k j && (a k && x k)) (λ k l. turn (a k) (ltb k j) (x k))
+    parity-ext w (λ k. a k && (ltb k j && x k)) (λ k. ltb k j && (a k && x k)) (λ k l. and-turn (a k) (ltb k j) (x k))
     ∙ parity-prefix w j (λ k. a k && x k) h
-  where
-    turn : (a b c : Bool) → a && (b && c) ≡ b && (a && c)
-    turn a b c = sym (and-assoc a b c) ∙ ap (λ (d : Bool). d && c) (and-comm a b) ∙ and-assoc b a c
 
 -- one member alone
 pub dot-one : (n i : ℕ) (a : ℕ → Bool) → i < n → dot n a (λ k. eqb k i) ≡ a i
@@ -151,6 +149,17 @@ pub all-ext : (n : ℕ) (s t : ℕ → Bool) → ((k : ℕ) → k < n → s k �
 unfolding allBelow
 all-ext zero s t h = refl
 all-ext (suc n) s t h = ap₂ _&&_ (h n (lt-suc-self n)) (all-ext n s t (λ k l. h k (le-step l)))
+
+-- the first m, and then n more
+pub any-split : (m n : ℕ) (s : ℕ → Bool) → anyBelow (m + n) s ≡ anyBelow m s || anyBelow n (λ k. s (m + k))
+unfolding anyBelow
+any-split m zero s = ap (λ (x : ℕ). anyBelow x s) (add-zero m) ∙ sym (or-none (anyBelow m s))
+any-split m (suc n) s = ap (λ (x : ℕ). anyBelow x s) (add-suc m n) ∙ ap (λ (b : Bool). s (m + n) || b) (any-split m n s) ∙ or-turn (s (m + n)) (anyBelow m s) (anyBelow n (λ k. s (m + k)))
+
+pub all-split : (m n : ℕ) (s : ℕ → Bool) → allBelow (m + n) s ≡ allBelow m s && allBelow n (λ k. s (m + k))
+unfolding allBelow
+all-split m zero s = ap (λ (x : ℕ). allBelow x s) (add-zero m) ∙ sym (and-all (allBelow m s))
+all-split m (suc n) s = ap (λ (x : ℕ). allBelow x s) (add-suc m n) ∙ ap (λ (b : Bool). s (m + n) && b) (all-split m n s) ∙ and-turn (s (m + n)) (allBelow m s) (allBelow n (λ k. s (m + k)))
 
 -- some is not all of the others
 pub any-not-all : (n : ℕ) (s : ℕ → Bool) → anyBelow n s ≡ not (allBelow n (λ k. not (s k)))

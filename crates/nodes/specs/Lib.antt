@@ -1,2 +1,3 @@
 pub mod Bit
 pub mod Row
+pub mod NodeSet

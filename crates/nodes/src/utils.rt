@@ -1,0 +1,169 @@
+// Sets of the nodes 0 to 127, a digit for each node.
+ghost use mathlib.Core.Path.{_≡_};
+ghost use mathlib.Core.Bool.{Bool, true, false, not, _&&_, _||_};
+ghost use Prim.Native.Nat.{ℕ, _%_, _^_};
+ghost use lib.Dec.{eqb, leb, ltb};
+ghost use Rattle.nodes.specs.Bit.{_⊕_};
+ghost use Rattle.nodes.specs.Row.{anyBelow, allBelow, count, lowest};
+ghost use Rattle.nodes.specs.NodeSet.{wordBits, highest, capacity, member};
+
+const WORD_BITS: u8 = 64;
+
+// The word with one digit, that of node v.
+pub fn mask(v: u8) -> u64
+    ensures { λ r. ⌜ r ≡ 2 ^ (v % wordBits) ⌝ }
+{
+    1 << (v % WORD_BITS)
+}
+
+pub struct NodeSet {
+    pub low: u64,
+    pub high: u64,
+}
+
+impl NodeSet {
+    pub const HIGHEST: u8 = 127;
+
+    pub fn empty() -> Self
+        ensures { λ r. ⌜ member r ≡ (λ u. false) ⌝ }
+    {
+        NodeSet { low: 0, high: 0 }
+    }
+
+    // The nodes below n.
+    pub fn below(n: usize) -> Self
+        ensures { λ r. ⌜ member r ≡ (λ u. ltb u n && leb u highest) ⌝ }
+    {
+        if n < WORD_BITS as usize {
+            return NodeSet {
+                low: mask(n as u8) - 1,
+                high: 0,
+            };
+        }
+        if n <= NodeSet::HIGHEST as usize {
+            return NodeSet {
+                low: !0,
+                high: mask(n as u8) - 1,
+            };
+        }
+        NodeSet { low: !0, high: !0 }
+    }
+
+    pub fn has(self, v: u8) -> bool
+        ensures { λ r. ⌜ r ≡ member self v ⌝ }
+    {
+        if v < WORD_BITS {
+            return self.low & mask(v) != 0;
+        }
+        if v <= NodeSet::HIGHEST {
+            return self.high & mask(v) != 0;
+        }
+        false
+    }
+
+    // v is added where a set can have it; else the set is as it was.
+    pub fn with(mut self, v: u8) -> Self
+        ensures { λ r. ⌜ member r ≡ (λ u. member self u || (eqb u v && leb v highest)) ⌝ }
+    {
+        if v < WORD_BITS {
+            self.low |= mask(v);
+        } else if v <= NodeSet::HIGHEST {
+            self.high |= mask(v);
+        }
+        self
+    }
+
+    pub fn without(mut self, v: u8) -> Self
+        ensures { λ r. ⌜ member r ≡ (λ u. member self u && not (eqb u v)) ⌝ }
+    {
+        if v < WORD_BITS {
+            self.low &= !mask(v);
+        } else if v <= NodeSet::HIGHEST {
+            self.high &= !mask(v);
+        }
+        self
+    }
+
+    pub fn union(self, o: NodeSet) -> Self
+        ensures { λ r. ⌜ member r ≡ (λ u. member self u || member o u) ⌝ }
+    {
+        NodeSet {
+            low: self.low | o.low,
+            high: self.high | o.high,
+        }
+    }
+
+    pub fn intersection(self, o: NodeSet) -> Self
+        ensures { λ r. ⌜ member r ≡ (λ u. member self u && member o u) ⌝ }
+    {
+        NodeSet {
+            low: self.low & o.low,
+            high: self.high & o.high,
+        }
+    }
+
+    pub fn difference(self, o: NodeSet) -> Self
+        ensures { λ r. ⌜ member r ≡ (λ u. member self u && not (member o u)) ⌝ }
+    {
+        NodeSet {
+            low: self.low & !o.low,
+            high: self.high & !o.high,
+        }
+    }
+
+    // The nodes that are in one of the two and not in both.
+    pub fn xor(self, o: NodeSet) -> Self
+        ensures { λ r. ⌜ member r ≡ (λ u. member self u ⊕ member o u) ⌝ }
+    {
+        NodeSet {
+            low: self.low ^ o.low,
+            high: self.high ^ o.high,
+        }
+    }
+
+    pub fn is_empty(self) -> bool
+        ensures { λ r. ⌜ r ≡ not (anyBelow capacity (member self)) ⌝ }
+    {
+        if self.low != 0 {
+            return false;
+        }
+        self.high == 0
+    }
+
+    pub fn same(self, o: NodeSet) -> bool
+        ensures { λ r. ⌜ r ≡ allBelow capacity (λ u. not (member self u ⊕ member o u)) ⌝ }
+    {
+        if self.low != o.low {
+            return false;
+        }
+        self.high == o.high
+    }
+
+    pub fn count(self) -> usize
+        ensures { λ r. ⌜ r ≡ count capacity (member self) ⌝ }
+    {
+        u64::count_ones(self.low) as usize + u64::count_ones(self.high) as usize
+    }
+
+    // The least member; one past the highest node where there is none.
+    pub fn lowest(self) -> u8
+        ensures { λ r. ⌜ r ≡ lowest capacity (member self) ⌝ }
+    {
+        if self.low != 0 {
+            return u64::trailing_zeros(self.low) as u8;
+        }
+        WORD_BITS + u64::trailing_zeros(self.high) as u8
+    }
+
+    // The set without its least member: to take one from a word carries up to the lowest digit that is 1.
+    pub fn without_lowest(mut self) -> Self
+        ensures { λ r. ⌜ member r ≡ (λ u. member self u && not (eqb u (lowest capacity (member self)))) ⌝ }
+    {
+        if self.low != 0 {
+            self.low &= self.low - 1;
+        } else if self.high != 0 {
+            self.high &= self.high - 1;
+        }
+        self
+    }
+}
