@@ -141,3 +141,11 @@ entry-xor w l d s hd hs n i k g = by (ℕ-discrete i d)
         (at (i * w + k / 8)
         ∙ ⊎-elim (λ q. before l (d * w) (s * w) w hd hs a (i * w + k / 8) (omega arith)) (λ q. beyond l (d * w) (s * w) w hd hs a (i * w + k / 8) (omega arith)) (either-apart w i d ne))
         ∙ ap (λ (b : Bool). cond b (entryOf w l d k ⊕ entryOf w l s k) (entryOf w l i k)) (sym (ne-eqb i d ne))
+
+-- ---- one zero more at the front
+pub zeros-more : (l : List ℕ) (j : ℕ) → j < length l → ((q : ℕ) → q < j → getD l q 0 ≡ 0) → (q : ℕ) → q < j + 1 → getD (set l j 0) q 0 ≡ 0
+zeros-more l j h f q g = by (ℕ-discrete q j)
+  where
+    by : Dec (q ≡ j) → getD (set l j 0) q 0 ≡ 0
+    by (yes e) = ap (λ (i : ℕ). getD (set l j 0) i 0) e ∙ getD-set-same l j 0 0 h
+    by (no n) = getD-set-other l j q 0 0 n ∙ f q (omega (arith, n))

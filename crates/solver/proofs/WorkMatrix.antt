@@ -4,7 +4,7 @@ use mathlib.Core.Logic.{_≢_, _⊎_, inl, inr}
 use mathlib.Core.Bool.{Bool, true, false, cond, not, _&&_, _||_}
 use mathlib.Core.List.{List}
 use Prim.Native.Nat.{ℕ, zero, suc, _+_, _-_, _*_, _/_, _%_, _^_, _<_, _≤_}
-use native.Mathlib.Nat.{div-eq-of-lt, mod-lt, not-suc-le-zero, le-of-suc-le-suc, lt-of-le-of-lt, div-le-self, pow-suc, zero-lt-suc}
+use native.Mathlib.Nat.{div-eq-of-lt, mod-lt, not-suc-le-zero, le-of-suc-le-suc, lt-of-le-of-lt, div-le-self, pow-suc, zero-mul}
 use native.Mathlib.Decide.{ℕ-discrete, decLt}
 use native.Mathlib.Omega.{arith}
 use lib.Bits.{bitOr, or-lt}
@@ -42,7 +42,7 @@ shifted-out b s h f =
 
 shifted-below : (b s : ℕ) → b / 2 ^ s ≡ 0 → b < 2 ^ s
 shifted-below b s e =
-    let z : b / 2 ^ s * 2 ^ s ≡ 0 = rw e in
+    let z : b / 2 ^ s * 2 ^ s ≡ 0 = rw e (zero-mul (2 ^ s)) in
     let p : b / 2 ^ s * 2 ^ s + b % 2 ^ s ≡ b = split b s in
     let l : b % 2 ^ s < 2 ^ s = mod-lt b (pow-pos s) in
     omega arith
@@ -220,7 +220,7 @@ bytes-with w x k h =
     small : (q : ℕ) → q < w → Dec (q ≡ k / 8) → getD (withBit l k) q 0 < 2 ^ 8
     small q g (yes e) =
         subst (λ (n : ℕ). n < 2 ^ 8) (sym (ap (λ (i : ℕ). getD (withBit l k) i 0) e ∙ getD-set-same l (k / 8) v 0 there))
-        (or-lt 8 (byte (k / 8) (omega arith)) (pow-lt (omega arith)))
+        (or-lt 8 (getD l (k / 8) 0) (2 ^ (k % 8)) (byte (k / 8) (omega arith)) (pow-lt {i = k % 8} {j = 8} (omega arith)))
     small q g (no n) = subst (λ (n : ℕ). n < 2 ^ 8) (sym (getD-set-other l (k / 8) q v 0 n)) (byte q g)
 
     was : (q t : ℕ) → q < w → t < 8 → bit (getD l q 0) t ≡ x (8 * q + t)
