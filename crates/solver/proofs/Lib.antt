@@ -4,5 +4,6 @@ pub mod Elimination
 pub mod Turns
 pub mod Bytes
 pub mod WorkMatrix
+pub mod Leads
 pub mod Steps
 pub mod Solver

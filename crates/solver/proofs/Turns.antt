@@ -8,7 +8,9 @@ use native.Mathlib.Numerals.{add-one}
 use native.Mathlib.Omega.{arith}
 use borrow.Author.Tests.{lt-ltb, le-ltb}
 use lib.Dec.{ltb}
-use Rattle.nodes.specs.Row.{lowestFrom}
+use Rattle.nodes.specs.Row.{lowestFrom, anyBelow, allBelow}
+use Rattle.nodes.proofs.Logic.{is-true, is-false, from-true, from-false}
+use Rattle.nodes.proofs.Row.{any-in, all-out}
 use Rattle.solver.specs.WorkMatrix.{entryOf}
 use Rattle.solver.specs.Steps.{turns, State, pivotRow, pivotTo, column}
 
@@ -37,6 +39,30 @@ module _ (p : ℕ → Bool) where
   pub first-none : (k n : ℕ) → n ≤ k → lowestFrom k (n - k) p ≡ k
   unfolding lowestFrom
   first-none k n l = ap (λ (d : ℕ). lowestFrom k d p) (sub-eq-zero-of-le l)
+
+-- ---- a question of each number below n
+module _ (p : ℕ → Bool) where
+  pub any-here : (n k : ℕ) → k < n → p k ≡ true → anyBelow n p ≡ true
+  any-here n k l t = is-true (anyBelow n p) (any-in n p k l (from-true (p k) t))
+
+  pub any-more : (k : ℕ) → anyBelow k p ≡ false → p k ≡ false → anyBelow (k + 1) p ≡ false
+  unfolding anyBelow
+  any-more k e t = rw (add-one k, t) e
+
+  pub all-here-not : (n k : ℕ) → k < n → p k ≡ false → allBelow n p ≡ false
+  all-here-not n k l t = is-false (allBelow n p) (λ a. from-false (p k) t (all-out n p a k l))
+
+  pub all-more : (k : ℕ) → allBelow k p ≡ true → p k ≡ true → allBelow (k + 1) p ≡ true
+  unfolding allBelow
+  all-more k e t = rw (add-one k, t) e
+
+  pub any-start : anyBelow 0 p ≡ false
+  unfolding anyBelow
+  any-start = refl
+
+  pub all-start : allBelow 0 p ≡ true
+  unfolding allBelow
+  all-start = refl
 
 -- ---- one column, by the row that is found
 module _ (w n col : ℕ) (s : State) (p : ℕ) (e : p ≡ pivotRow w n col s) where

@@ -22,6 +22,7 @@ use Rattle.nodes.proofs.Bit.{bit-zero, bit-past, bit-ext, bit-or, bit-pow, bit-
 use Rattle.nodes.proofs.Digits.{trailing-lowest}
 use Rattle.solver.specs.Reduced.{lead, leads}
 use Rattle.solver.specs.WorkMatrix.{entryOf, one, digits, listOf, bytesOf}
+use Rattle.solver.specs.Steps.{withBit}
 use Rattle.solver.proofs.Bytes.{length-listOf, getD-listOf, is-listOf}
 use Rattle.solver.proofs.Reduced.{lead-is}
 
@@ -197,9 +198,6 @@ bytes-none w l e f =
     (λ q t h g. ap (λ (n : ℕ). bit n t) (f q h) ∙ bit-zero t)
 
 -- bit k is set
-abbrev pub withBit : List ℕ → ℕ → List ℕ
-withBit l k = set l (k / 8) (bitOr (getD l (k / 8) 0) (2 ^ (k % 8)))
-
 pub bytes-with : (w : ℕ) (x : ℕ → Bool) (k : ℕ) → k < 8 * w → withBit (bytesOf w x) k ≡ bytesOf w (λ j. x j || eqb j k)
 bytes-with w x k h =
     bytes-is w (withBit l k) (λ j. x j || eqb j k) (length-set l (k / 8) v ∙ bytes-length w x)

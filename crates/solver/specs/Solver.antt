@@ -7,9 +7,12 @@ use mathlib.Core.List.{List}
 use mathlib.Core.Option.{Option, none, some}
 use lib.Dec.{T, eqb, leb, ltb}
 use lib.ListN.{length}
+use Rattle.nodes.specs.NodeSet.{member}
 use Rattle.solver.specs.System.{Solves, solve, pivot}
 use Rattle.solver.specs.Reduced.{Reduced, readOff}
 use Rattle.solver.specs.WorkMatrix.{entryOf, systemOf, sideOf, nothingBeyond, bytesOf}
+use Rattle.solver.specs.declared.gf2_linalg.Elimination.{Elimination}
+use Rattle.solver.specs.declared.gf2_linalg.Elimination.the-variants.{Pivots, Refused}
 use Rattle.solver.specs.declared.gf2_linalg.Solved.{Solved}
 use Rattle.solver.specs.declared.gf2_linalg.Solved.the-variants.{Solvable, Unsolvable, WrongShape, NoSuchEquation}
 
@@ -70,6 +73,11 @@ MatrixAfter true rows cols sides before after = Eliminated rows cols sides befor
 MatrixAfter false rows cols sides before after = after ≡ before
 
 -- ---- the calls
+-- the members of the set that an elimination gives
+abbrev pub pivotsOf : Elimination → Option (ℕ → Bool)
+pivotsOf (Pivots s) = some (member s)
+pivotsOf Refused = none
+
 -- the pivot columns, and nothing for a wrong shape
 unfoldable pub eliminateCall : List ℕ → ℕ → ℕ → ℕ → Option (ℕ → Bool)
 eliminateCall matrix rows cols sides =

@@ -1,11 +1,11 @@
 -- What the steps of the elimination make of the bytes, turn by turn: the promises of private functions only.
 -- The bytes of a row, w, are a parameter.
-use Prim.Native.Nat.{ℕ, zero, suc, _+_, _-_, _*_}
+use Prim.Native.Nat.{ℕ, zero, suc, _+_, _-_, _*_, _/_, _%_, _^_}
 use mathlib.Core.Bool.{Bool, true, false, cond, _&&_}
 use mathlib.Core.List.{List}
 use lib.Dec.{eqb, leb, ltb}
-use lib.Bits.{bitXor}
-use lib.ListN.{length, getD}
+use lib.Bits.{bitOr, bitXor}
+use lib.ListN.{length, getD, set}
 use Rattle.nodes.specs.Row.{lowestFrom}
 use Rattle.solver.specs.WorkMatrix.{entryOf, listOf}
 
@@ -53,3 +53,8 @@ column w n col s = cond (ltb (pivotRow w n col s) n) (pivotTo w n col (s .rank) 
 -- all columns below cols
 unfoldable pub eliminated : ℕ → List ℕ → ℕ → ℕ → State
 eliminated w l n cols = turns (column w n) cols (record { rank = 0; rows = l })
+
+-- ---- the out bits
+-- bit k is set
+abbrev pub withBit : List ℕ → ℕ → List ℕ
+withBit l k = set l (k / 8) (bitOr (getD l (k / 8) 0) (2 ^ (k % 8)))

@@ -6,15 +6,25 @@ ghost use Prim.Native.Nat.{ℕ, _+_, _-_, _*_, _<_, _≤_};
 ghost use lib.ListN.{length};
 ghost use lib.Dec.{eqb, ltb};
 ghost use Rattle.nodes.specs.Row.{lowestFrom, allBelow};
-ghost use Rattle.solver.specs.Reduced.{lead, contradicts};
+ghost use Rattle.nodes.specs.NodeSet.{member};
+ghost use Rattle.solver.specs.Reduced.{lead, contradicts, leads, readOff};
 ghost use Rattle.solver.specs.WorkMatrix.{entryOf, nothingBeyond, bytesOf};
-ghost use Rattle.solver.specs.Steps.{xorRow, brought, clearOne, clearColumn, State, column, eliminated};
-ghost use Rattle.solver.specs.Solver.{rowBytes, mostColumns, fits, bothFit, wellShaped};
+ghost use Rattle.solver.specs.Steps.{xorRow, brought, clearOne, clearColumn, State, column, eliminated, withBit};
+ghost use Rattle.solver.specs.Solver.{rowBytes, mostColumns, fits, bothFit, wellShaped, equationExists, MatrixAfter, pivotsOf, eliminateCall, Outcome, outcome, readOffCall, solveCall};
+
+use nodes::utils::mask;
+use nodes::utils::NodeSet;
 
 // Each row, and the out bits, take 16 bytes, lowest bit first.
 const ROW_BYTES: usize = 16;
 const MOST_ROWS: usize = 128;
 const MOST_COLUMNS: usize = 8 * ROW_BYTES;
+
+// The pivot columns, or a wrong shape.
+pub enum Elimination {
+    Pivots(NodeSet),
+    Refused,
+}
 
 pub enum Solved {
     Solvable,
@@ -111,9 +121,9 @@ fn eliminate_column(matrix: &mut [u8], rows: usize, col: usize, rank: usize) -> 
 }
 
 // The coefficient columns in turn.
-fn eliminate_columns(matrix: &mut [u8], rows: usize, cols: usize) -> usize
+fn eliminate_columns(matrix: &mut [u8], rows: usize, cols: usize)
     requires { ⌜ (rows * rowBytes ≤ length (now matrix)) × (cols ≤ mostColumns) ⌝ }
-    ensures { λ r. ⌜ record { rank = r; rows = now (matrix .exit) } ≡ eliminated rowBytes (now (matrix .entry)) rows cols ⌝ }
+    ensures { λ _. ⌜ now (matrix .exit) ≡ eliminated rowBytes (now (matrix .entry)) rows cols .rows ⌝ }
 {
     let mut rank = 0;
     let mut col = 0;
@@ -121,7 +131,6 @@ fn eliminate_columns(matrix: &mut [u8], rows: usize, cols: usize) -> usize
         rank = eliminate_column(matrix, rows, col, rank);
         col += 1;
     }
-    rank
 }
 
 // The first coefficient column at which the row has a bit, and `cols` where it has none.
@@ -143,6 +152,31 @@ fn first_column(matrix: &[u8], row: usize, cols: usize) -> usize
         q += 1;
     }
     cols
+}
+
+fn add_pivot(pivots: NodeSet, matrix: &[u8], row: usize, cols: usize) -> NodeSet
+    requires { ⌜ (row * rowBytes + rowBytes ≤ length (now matrix)) × (cols ≤ mostColumns) ⌝ }
+    ensures { λ r. ⌜ member r ≡ (λ k. member pivots k || (ltb k cols && eqb (lead (entryOf rowBytes (now (matrix .entry))) cols row) k)) ⌝ }
+{
+    let k = first_column(matrix, row, cols);
+    if k >= cols {
+        return pivots;
+    }
+    pivots.with(k as u8)
+}
+
+// The columns at which the rows of an eliminated matrix begin.
+fn pivot_columns(matrix: &[u8], rows: usize, cols: usize) -> NodeSet
+    requires { ⌜ (rows * rowBytes ≤ length (now matrix)) × (cols ≤ mostColumns) ⌝ }
+    ensures { λ r. ⌜ member r ≡ (λ k. leads rows cols (entryOf rowBytes (now (matrix .entry))) (λ i. true) k) ⌝ }
+{
+    let mut pivots = NodeSet::empty();
+    let mut i = 0;
+    while i < rows {
+        pivots = add_pivot(pivots, matrix, i, cols);
+        i += 1;
+    }
+    pivots
 }
 
 // A row without a coefficient asks for 1 in the column.
@@ -180,6 +214,53 @@ fn clear(out: &mut [u8])
         out[j] = 0;
         j += 1;
     }
+}
+
+fn set_bit(out: &mut [u8], k: usize)
+    requires { ⌜ (length (now out) ≡ rowBytes) × (k < mostColumns) ⌝ }
+    ensures { λ _. ⌜ now (out .exit) ≡ withBit (now (out .entry)) k ⌝ }
+{
+    let at = k / 8;
+    out[at] |= mask((k % 8) as u8) as u8;
+}
+
+// A row that asks for 1 in the column has its first coefficient column set.
+fn put_lead(matrix: &[u8], out: &mut [u8], row: usize, cols: usize, column: usize)
+    requires { ⌜ (row * rowBytes + rowBytes ≤ length (now matrix)) × (cols ≤ mostColumns) × (column < mostColumns) × (now out ≡ bytesOf rowBytes (leads row cols (entryOf rowBytes (now matrix)) (λ i. entryOf rowBytes (now matrix) i column))) ⌝ }
+    ensures { λ _. ⌜ now (out .exit) ≡ bytesOf rowBytes (leads (row + 1) cols (entryOf rowBytes (now (matrix .entry))) (λ i. entryOf rowBytes (now (matrix .entry)) i column)) ⌝ }
+{
+    if !has(matrix, row, column) {
+        return;
+    }
+    let k = first_column(matrix, row, cols);
+    if k >= cols {
+        return;
+    }
+    set_bit(out, k);
+}
+
+fn put_leads(matrix: &[u8], out: &mut [u8], rows: usize, cols: usize, column: usize)
+    requires { ⌜ (rows * rowBytes ≤ length (now matrix)) × (cols ≤ mostColumns) × (column < mostColumns) × (length (now out) ≡ rowBytes) ⌝ }
+    ensures { λ _. ⌜ now (out .exit) ≡ bytesOf rowBytes (leads rows cols (entryOf rowBytes (now (matrix .entry))) (λ i. entryOf rowBytes (now (matrix .entry)) i column)) ⌝ }
+{
+    clear(out);
+    let mut i = 0;
+    while i < rows {
+        put_lead(matrix, out, i, cols, column);
+        i += 1;
+    }
+}
+
+// 'No solution' keeps the out bits.
+fn answer(matrix: &[u8], out: &mut [u8], rows: usize, cols: usize, column: usize) -> Solved
+    requires { ⌜ (rows * rowBytes ≤ length (now matrix)) × (cols ≤ mostColumns) × (column < mostColumns) × (length (now out) ≡ rowBytes) ⌝ }
+    ensures { λ r. ⌜ record { answer = r; out = now (out .exit) } ≡ outcome (readOff rows cols (entryOf rowBytes (now (matrix .entry))) (λ i. entryOf rowBytes (now (matrix .entry)) i column)) (now (out .entry)) ⌝ }
+{
+    if no_solution(matrix, rows, cols, column) {
+        return Solved::Unsolvable;
+    }
+    put_leads(matrix, out, rows, cols, column);
+    Solved::Solvable
 }
 
 // No bit of the row at or beyond the width: in the first byte looked at `inside` bits may be there.
@@ -256,4 +337,44 @@ fn well_shaped(matrix: &[u8], out: &[u8], rows: usize, cols: usize, sides: usize
         return false;
     }
     rows_end(matrix, rows, cols + sides)
+}
+
+// The matrix is brought to reduced form by adding rows to each other; the answer is the set of its pivot columns.
+pub fn eliminate(matrix: &mut [u8], rows: usize, cols: usize, sides: usize) -> Elimination
+    ensures { λ r. ⌜ pivotsOf r ≡ eliminateCall (now (matrix .entry)) rows cols sides ⌝ }
+    ensures { λ _. ⌜ MatrixAfter (fits (now (matrix .entry)) rows cols sides) rows cols sides (now (matrix .entry)) (now (matrix .exit)) ⌝ }
+{
+    if !matrix_fits(matrix, rows, cols, sides) {
+        return Elimination::Refused;
+    }
+    eliminate_columns(matrix, rows, cols);
+    Elimination::Pivots(pivot_columns(matrix, rows, cols))
+}
+
+// What an eliminated matrix answers for one right side.
+pub fn read_off(matrix: &[u8], out: &mut [u8], rows: usize, cols: usize, sides: usize, side: usize) -> Solved
+    ensures { λ r. ⌜ record { answer = r; out = now (out .exit) } ≡ readOffCall (now (matrix .entry)) (now (out .entry)) rows cols sides side ⌝ }
+{
+    if !both_fit(matrix, out, rows, cols, sides) {
+        return Solved::WrongShape;
+    }
+    if side >= sides {
+        return Solved::NoSuchEquation;
+    }
+    answer(matrix, out, rows, cols, cols + side)
+}
+
+// Both questions are asked before anything is touched.
+pub fn solve_in_place(matrix: &mut [u8], out: &mut [u8], rows: usize, cols: usize, sides: usize, side: usize) -> Solved
+    ensures { λ r. ⌜ record { answer = r; out = now (out .exit) } ≡ solveCall (now (matrix .entry)) (now (out .entry)) rows cols sides side ⌝ }
+    ensures { λ _. ⌜ MatrixAfter (wellShaped (now (matrix .entry)) (now (out .entry)) rows cols sides && equationExists sides side) rows cols sides (now (matrix .entry)) (now (matrix .exit)) ⌝ }
+{
+    if !well_shaped(matrix, out, rows, cols, sides) {
+        return Solved::WrongShape;
+    }
+    if side >= sides {
+        return Solved::NoSuchEquation;
+    }
+    eliminate_columns(matrix, rows, cols);
+    answer(matrix, out, rows, cols, cols + side)
 }

@@ -6,19 +6,19 @@ use Rattle.solver.proofs.gf2_linalg.asks_in_vain.Lts as lts
 use Rattle.solver.proofs.gf2_linalg.first_column.Reads as first-column-reads
 use Rattle.solver.proofs.gf2_linalg.has.Reads as has-reads
 
--- src/gf2_linalg.rt:153:9
+-- src/gf2_linalg.rt:187:9
 has-requires : tie.Need-has-requires
 has-requires c κs = search needs
 
--- src/gf2_linalg.rt:154:9
+-- src/gf2_linalg.rt:188:9
 returns : tie.Need-returns
 returns c = ?
 
--- src/gf2_linalg.rt:156:5
+-- src/gf2_linalg.rt:190:5
 first-column-requires : tie.Need-first-column-requires
 first-column-requires c κs = search needs
 
--- src/gf2_linalg.rt:149:1
+-- src/gf2_linalg.rt:183:1
 returns-2 : tie.Need-returns-2
 returns-2 c = ?
 

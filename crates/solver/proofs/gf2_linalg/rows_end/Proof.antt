@@ -10,31 +10,31 @@ Inv-loop matrix rows width i₀ i = ?
 abbrev μ-loop : tie.MeasureT-loop
 μ-loop matrix rows width i₀ i = ?
 
--- src/gf2_linalg.rt:208:5
+-- src/gf2_linalg.rt:289:5
 loop-holds : tie.Need-loop-holds Inv-loop μ-loop
 loop-holds c = ?
 
--- src/gf2_linalg.rt:209:13
+-- src/gf2_linalg.rt:290:13
 row-ends-requires : tie.Need-row-ends-requires Inv-loop μ-loop
 row-ends-requires c κs = ?
 
--- src/gf2_linalg.rt:210:13
+-- src/gf2_linalg.rt:291:13
 returns : tie.Need-returns Inv-loop μ-loop
 returns c = ?
 
--- src/gf2_linalg.rt:212:9
+-- src/gf2_linalg.rt:293:9
 add-i : tie.Need-add-i Inv-loop μ-loop
 add-i c = ?
 
--- src/gf2_linalg.rt:208:5
+-- src/gf2_linalg.rt:289:5
 loop-less : tie.Need-loop-less Inv-loop μ-loop
 loop-less c = ?
 
--- src/gf2_linalg.rt:208:5
+-- src/gf2_linalg.rt:289:5
 loop-again : tie.Need-loop-again Inv-loop μ-loop
 loop-again c = ?
 
--- src/gf2_linalg.rt:203:1
+-- src/gf2_linalg.rt:284:1
 returns-2 : tie.Need-returns-2 Inv-loop μ-loop
 returns-2 c = ?
 

@@ -1,0 +1,31 @@
+use borrow.Author.Needs.{needs}
+use Rattle.solver.proofs.gf2_linalg.add_pivot.Statement.{statement}
+use Rattle.solver.proofs.gf2_linalg.add_pivot.Tie as tie
+use Rattle.solver.proofs.gf2_linalg.add_pivot.Reads as reads
+use Rattle.solver.proofs.gf2_linalg.add_pivot.Lts as lts
+use Rattle.nodes.proofs.utils.NodeSet.with.Reads as with-reads
+use Rattle.solver.proofs.gf2_linalg.first_column.Reads as first-column-reads
+
+-- src/gf2_linalg.rt:161:9
+first-column-requires : tie.Need-first-column-requires
+first-column-requires c κs = search needs
+
+-- src/gf2_linalg.rt:163:9
+returns : tie.Need-returns
+returns c = ?
+
+-- src/gf2_linalg.rt:165:17
+cast-with : tie.Need-cast-with
+cast-with c = search needs
+
+-- src/gf2_linalg.rt:165:5
+with-requires : tie.Need-with-requires
+with-requires c κs = search needs
+
+-- src/gf2_linalg.rt:157:1
+returns-2 : tie.Need-returns-2
+returns-2 c = ?
+
+pub add-pivot-spec : {M : Type 1} → statement M
+add-pivot-spec =
+    tie.close (tie.spec first-column-requires returns cast-with with-requires returns-2)

@@ -1,0 +1,59 @@
+use Rattle.solver.proofs.gf2_linalg.put_leads.Statement.{statement}
+use Rattle.solver.proofs.gf2_linalg.put_leads.Tie as tie
+use Rattle.solver.proofs.gf2_linalg.put_leads.Reads as reads
+use Rattle.solver.proofs.gf2_linalg.put_leads.Lts as lts
+use Rattle.solver.proofs.gf2_linalg.clear.Reads as clear-reads
+use Rattle.solver.proofs.gf2_linalg.put_lead.Reads as put-lead-reads
+
+abbrev Inv-loop : tie.InvT-loop
+Inv-loop matrix out₀ rows cols column i₀ out i = ?
+
+abbrev μ-loop : tie.MeasureT-loop
+μ-loop matrix out₀ rows cols column i₀ out i = ?
+
+-- src/gf2_linalg.rt:246:5
+clear-requires : tie.Need-clear-requires Inv-loop μ-loop
+clear-requires c κs = ?
+
+-- src/gf2_linalg.rt:248:5
+loop-holds : tie.Need-loop-holds Inv-loop μ-loop
+loop-holds c = ?
+
+-- src/gf2_linalg.rt:249:9
+put-lead-requires : tie.Need-put-lead-requires Inv-loop μ-loop
+put-lead-requires c κs = ?
+
+-- src/gf2_linalg.rt:250:9
+add-i : tie.Need-add-i Inv-loop μ-loop
+add-i c = ?
+
+-- src/gf2_linalg.rt:248:5
+loop-less : tie.Need-loop-less Inv-loop μ-loop
+loop-less c = ?
+
+-- src/gf2_linalg.rt:248:5
+loop-again : tie.Need-loop-again Inv-loop μ-loop
+loop-again c = ?
+
+-- src/gf2_linalg.rt:242:1
+same-length : tie.Need-same-length Inv-loop μ-loop
+same-length c = ?
+
+-- src/gf2_linalg.rt:242:1
+returns : tie.Need-returns Inv-loop μ-loop
+returns c = ?
+
+pub put-leads-spec : {M : Type 1} → statement M
+put-leads-spec =
+    tie.close
+    (tie.spec
+    Inv-loop
+    μ-loop
+    clear-requires
+    loop-holds
+    put-lead-requires
+    add-i
+    loop-less
+    loop-again
+    same-length
+    returns)
