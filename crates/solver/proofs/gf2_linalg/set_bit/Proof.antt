@@ -1,3 +1,9 @@
+use mathlib.Core.Path.{_≡_, ap, _∙_}
+use Prim.Native.Nat.{ℕ, _/_, _%_, _^_}
+use native.Mathlib.Omega.{arith}
+use lib.Bits.{bitOr}
+use lib.ListN.{getD, set}
+use lib.Pow.{pow-lt}
 use borrow.Author.Needs.{needs}
 use Rattle.solver.proofs.gf2_linalg.set_bit.Statement.{statement}
 use Rattle.solver.proofs.gf2_linalg.set_bit.Tie as tie
@@ -15,7 +21,9 @@ mask-requires c κs = search needs
 
 -- src/gf2_linalg.rt:224:16
 cast-out : tie.Need-cast-out
-cast-out c = ?
+cast-out c = let a = c .before .before .args in
+    let e : a .k % 8 % 64 ≡ a .k % 8 = omega arith in
+    omega (arith, c .mask .ensures, ap (λ (x : ℕ). 2 ^ x) e, pow-lt {i = a .k % 8} {j = 8} (omega arith))
 
 -- src/gf2_linalg.rt:224:5
 slice-read-out : tie.Need-slice-read-out
@@ -31,7 +39,9 @@ same-length c = search needs
 
 -- src/gf2_linalg.rt:219:1
 returns : tie.Need-returns
-returns c = ?
+returns c = let a = c .before .before .before .args in
+    let e : a .k % 8 % 64 ≡ a .k % 8 = omega arith in
+    ap (λ (x : ℕ). set (a .out .now) (a .k / 8) (bitOr (getD (a .out .now) (a .k / 8) 0) x)) (c .before .mask .ensures ∙ ap (λ (x : ℕ). 2 ^ x) e)
 
 pub set-bit-spec : {M : Type 1} → statement M
 set-bit-spec =
