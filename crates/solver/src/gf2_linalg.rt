@@ -11,13 +11,14 @@ ghost use Rattle.solver.specs.Reduced.{lead, contradicts, leads, readOff
 ghost use Rattle.solver.specs.WorkMatrix.{entryOf, nothingBeyond, bytesOf};
 ghost use Rattle.solver.specs.Steps.{xorRow, brought, clearOne, clearColumn, State, column, eliminated, withBit};
 ghost use Rattle.solver.specs.Solver.{rowBytes, mostColumns, fits, bothFit, wellShaped, equationExists, MatrixAfter, pivotsOf, eliminateCall, Outcome, outcome, readOffCall, solveCall};
-
-use nodes::utils::mask;
 use nodes::utils::NodeSet;
+use nodes::utils::mask;
 
 // Each row, and the out bits, take 16 bytes, lowest bit first.
 const ROW_BYTES: usize = 16;
+
 const MOST_ROWS: usize = 128;
+
 const MOST_COLUMNS: usize = 8 * ROW_BYTES;
 
 // The pivot columns, or a wrong shape.
@@ -352,7 +353,14 @@ pub fn eliminate(matrix: &mut [u8], rows: usize, cols: usize, sides: usize) -> E
 }
 
 // What an eliminated matrix answers for one right side.
-pub fn read_off(matrix: &[u8], out: &mut [u8], rows: usize, cols: usize, sides: usize, side: usize) -> Solved
+pub fn read_off(
+    matrix: &[u8],
+    out: &mut [u8],
+    rows: usize,
+    cols: usize,
+    sides: usize,
+    side: usize,
+) -> Solved
     ensures { λ r. ⌜ record { answer = r; out = now (out .exit) } ≡ readOffCall (now (matrix .entry)) (now (out .entry)) rows cols sides side ⌝ }
 {
     if !both_fit(matrix, out, rows, cols, sides) {
@@ -365,7 +373,14 @@ pub fn read_off(matrix: &[u8], out: &mut [u8], rows: usize, cols: usize, sides: 
 }
 
 // Both questions are asked before anything is touched.
-pub fn solve_in_place(matrix: &mut [u8], out: &mut [u8], rows: usize, cols: usize, sides: usize, side: usize) -> Solved
+pub fn solve_in_place(
+    matrix: &mut [u8],
+    out: &mut [u8],
+    rows: usize,
+    cols: usize,
+    sides: usize,
+    side: usize,
+) -> Solved
     ensures { λ r. ⌜ record { answer = r; out = now (out .exit) } ≡ solveCall (now (matrix .entry)) (now (out .entry)) rows cols sides side ⌝ }
     ensures { λ _. ⌜ MatrixAfter (wellShaped (now (matrix .entry)) (now (out .entry)) rows cols sides && equationExists sides side) rows cols sides (now (matrix .entry)) (now (matrix .exit)) ⌝ }
 {
