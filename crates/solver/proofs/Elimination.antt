@@ -1,21 +1,21 @@
 -- What adding rows to each other keeps, and the state of an elimination after some of the columns.
-use Prim.Native.Nat.{ℕ, zero, suc, _+_, _≤_, _<_}
+use Prim.Native.Nat.{ℕ, _+_, _≤_, _<_}
 use mathlib.Core.Path.{_≡_, refl, sym, ap, _∙_}
-use mathlib.Core.Bool.{Bool, true, false, cond, not, _&&_, _||_}
+use mathlib.Core.Bool.{Bool, true, false, cond, not, _&&_}
 use mathlib.Core.Option.{Option, none, some}
 use mathlib.Core.Logic.{_⊎_, inl, inr, _≢_}
 use native.Mathlib.Omega.{arith}
 use native.Mathlib.Nat.{not-suc-le-zero, le-refl}
-use lib.Dec.{T, eqb, eqb→eq, eqb-refl, ltb}
+use lib.Dec.{T, eqb, eqb→eq, ltb}
 use Rattle.nodes.specs.Bit.{_⊕_}
-use Rattle.nodes.specs.Row.{parity, dot, anyBelow, lowest}
-use Rattle.solver.specs.System.{System, sum, Solves, Dependent, Avoids, Answer, isSome, solve, pivot}
+use Rattle.nodes.specs.Row.{dot, anyBelow}
+use Rattle.solver.specs.System.{Solves, Dependent, Answer, isSome, solve, pivot}
 use Rattle.solver.specs.Reduced.{lead, Reduced, readOff}
-use Rattle.nodes.proofs.Logic.{is-true, is-false, both-ways, dec, eqb-no, eqb-yes, lt-or-ge, and-none, and-all, ⊕-none, ⊕-self, ⊕-eq, ⊕-&&}
-use Rattle.nodes.proofs.Row.{parity-ext, parity-⊕, parity-and, dot-⊕, dot-rows, dot-ext, dot-prefix, dot-one}
-use Rattle.nodes.proofs.Members.{lowest-ext}
+use Rattle.nodes.proofs.Logic.{is-false, both-ways, dec, eqb-no, eqb-yes, lt-or-ge, and-none, and-all, ⊕-none, ⊕-self, ⊕-eq}
+use Rattle.nodes.proofs.Row.{parity-and, dot-⊕, dot-rows, dot-ext, dot-prefix, dot-one}
+use Rattle.nodes.proofs.Members.{lowest-ext, lowest-here, lowest-unique}
 use Rattle.solver.proofs.System.{Right, solve-is, solve-right}
-use Rattle.solver.proofs.Reduced.{plain, lead-below, lead-at, lead-is, lead-more, read-off, pivots-lead}
+use Rattle.solver.proofs.Reduced.{plain, lead-more, read-off, pivots-lead}
 
 -- ---- the rows' common zeros, over w columns, right sides among them
 abbrev pub Zero : ℕ → ℕ → (ℕ → ℕ → Bool) → (ℕ → Bool) → Type 0
@@ -170,7 +170,7 @@ module _ (r c rank w : ℕ) (m m′ : ℕ → ℕ → Bool) (inside : c < w) (p 
   before = partly-ext r c rank m m′ earlier p
 
   lead-own : lead m′ (c + 1) rank ≡ c
-  lead-own = lead-is m′ (c + 1) rank c (omega arith) (λ k g. before .rest rank k (le-refl rank) room g) (λ g. own)
+  lead-own = lowest-unique (c + 1) (m′ rank) c (omega arith) (λ k g. before .rest rank k (le-refl rank) room g) (λ g. own)
 
   pub partly-pivot : Partly r (c + 1) (rank + 1) m′
   partly-pivot = record {
@@ -218,7 +218,7 @@ partly-reduced r n rank m p i q l g d h = go (lt-or-ge i rank)
   where
     go : (i < rank) ⊎ (rank ≤ i) → m q (lead m n i) ≡ false
     go (inl u) = p .alone i q u g d
-    go (inr u) = absurd (both-ways (m i (lead m n i)) (lead-at m n i h) (p .rest i (lead m n i) u l h))
+    go (inr u) = absurd (both-ways (m i (lead m n i)) (lowest-here n (m i) h) (p .rest i (lead m n i) u l h))
 
 -- so the answer of the equations at the start is read off at the end, and the pivots too
 module _ (r w n rank : ℕ) (m m′ : ℕ → ℕ → Bool) (s : Same r w m m′) (p : Partly r n rank m′) (fits : n ≤ w) where

@@ -1,6 +1,7 @@
 pub mod System
 pub mod Reduced
 pub mod Elimination
+pub mod Packed
 pub mod Turns
 pub mod Bytes
 pub mod WorkMatrix

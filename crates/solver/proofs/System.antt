@@ -1,40 +1,17 @@
 -- The answer of a system: there is at most one, and `solve` finds it where there is a solution.
-use Prim.Native.Nat.{ℕ, zero, suc, _+_, _≤_, _<_}
+use Prim.Native.Nat.{ℕ, zero, suc, _≤_, _<_}
 use mathlib.Core.Path.{_≡_, refl, sym, ap, _∙_, fun-ext}
-use mathlib.Core.Bool.{Bool, true, false, cond, not, _&&_, true≢false, false≢true}
+use mathlib.Core.Bool.{Bool, true, false, cond, not, _&&_, true≢false}
 use mathlib.Core.Option.{Option, none, some}
 use mathlib.Core.Logic.{_⊎_, inl, inr, _≢_}
 use native.Mathlib.Omega.{arith}
 use native.Mathlib.Nat.{not-suc-le-zero, le-step, lt-suc-self, eq-or-lt-of-le, le-of-suc-le-suc, le-refl}
-use lib.Dec.{T, eqb, eqb-refl, eqb→eq}
+use lib.Dec.{T, eqb, eqb→eq}
 use Rattle.nodes.specs.Bit.{_⊕_}
 use Rattle.nodes.specs.Row.{parity, allBelow}
-use Rattle.solver.specs.System.{System, sum, Solves, Dependent, Avoids, Answer, isSome, firstOf, taking, emptySum, solve, pivot}
-use Rattle.nodes.proofs.Logic.{
-  is-true,
-  is-false,
-  from-true,
-  dec,
-  and-l,
-  and-r,
-  and-in,
-  not-in,
-  not-out,
-  eqb-no,
-  eqb-yes,
-  beq-eq,
-  and-none,
-  ⊕-none,
-  ⊕-self,
-  ⊕-eq,
-  ⊕-comm,
-  ⊕-assoc,
-}
+use Rattle.solver.specs.System.{System, sum, Solves, Dependent, Avoids, Answer, isSome, firstOf, taking, solve, pivot}
+use Rattle.nodes.proofs.Logic.{is-true, is-false, from-true, dec, and-l, and-r, and-in, not-in, not-out, eqb-no, eqb-yes, beq-eq, and-none, ⊕-none, ⊕-self, ⊕-eq, ⊕-comm, ⊕-assoc}
 use Rattle.nodes.proofs.Row.{parity-ext, parity-⊕, all-in, all-out}
-
--- x takes columns at hand below n only
-abbrev pub Within : System → ℕ → (ℕ → Bool) → Type 0
-Within s n x = (k : ℕ) → T (x k) → (k < n) × T (s .column k)
 
 -- ---- bits
 ⊕-off : (a b : Bool) → a ⊕ b ⊕ b ≡ a
@@ -103,7 +80,8 @@ module _ (s : System) where
       last (inr f) true e (inl p) ih = absurd (f (rw p at t))
       last (inr f) true e (inr g) ih = ih (λ i q r. sym (sum-skip n i z (λ u. absurd (f u))) ∙ h i q r) (λ j q u p. a j (le-step q) u p) k g t
 
-  pub unique : (n : ℕ) (b x y : ℕ → Bool) → Solves s n b x → Solves s n b y → Avoids s n x → Avoids s n y → Within s n x → Within s n y → x ≡ y
+  -- two solutions that take no column which is a sum of earlier ones, and columns at hand only, are equal
+  pub unique : (n : ℕ) (b x y : ℕ → Bool) → Solves s n b x → Solves s n b y → Avoids s n x → Avoids s n y → ((k : ℕ) → T (x k) → (k < n) × T (s .column k)) → ((k : ℕ) → T (y k) → (k < n) × T (s .column k)) → x ≡ y
   unique n b x y sx sy ax ay wx wy = fun-ext (λ k. beq-eq (x k) (y k) (λ t. from-true (y k) (sym (same k (wx k t)) ∙ is-true (x k) t)) (λ t. from-true (x k) (same k (wy k t) ∙ is-true (y k) t)))
     where
       same : (k : ℕ) → (k < n) × T (s .column k) → x k ≡ y k
@@ -116,7 +94,7 @@ module _ (s : System) where
   pub answer-unique : (n : ℕ) (b x y : ℕ → Bool) → Answer s n b x → Answer s n b y → x ≡ y
   answer-unique n b x y a c = unique n b x y (a .solves) (c .solves) (a .avoids) (c .avoids) (a .within) (c .within)
 
-  -- ---- what an answer says
+  -- ---- what `solve` gives is right: none where there is no solution, and else the answer
   abbrev pub Right : ℕ → (ℕ → Bool) → Option (ℕ → Bool) → Type 0
   Right n b none = (x : ℕ → Bool) → Solves s n b x → ⊥
   Right n b (some x) = Answer s n b x
@@ -214,7 +192,7 @@ module _ (s : System) where
       go none h = refl
       go (some y) h = absurd (f y (h .solves))
 
-  -- what says all of an option is the option itself
+  -- an option that is right is what `solve` gives
   pub solve-is : (n : ℕ) (b : ℕ → Bool) (o : Option (ℕ → Bool)) → Right n b o → solve s n b ≡ o
   solve-is n b none h = solve-none n b h
   solve-is n b (some x) h = solve-some n b x h

@@ -1,5 +1,6 @@
 pub mod System
 pub mod Reduced
 pub mod WorkMatrix
+pub mod Packed
 pub mod Steps
 pub mod Solver
