@@ -101,7 +101,7 @@ bit-not w a k h l =
     ap (λ (x : ℕ). bit x k) (not-xor w a h) ∙ bit-xor a (2 ^ w - 1) k ∙ ap (λ (b : Bool). bit a k ⊕ b) (bit-ones w k l) ∙ ⊕-all (bit a k)
 
 -- ---- what the code tests
-nonzero : (x : ℕ) → not (eqb x 0) ≡ isOne x
+pub nonzero : (x : ℕ) → not (eqb x 0) ≡ isOne x
 nonzero zero = refl
 nonzero (suc x) = ap not (eqb·suc-zero x)
 

@@ -1,14 +1,14 @@
 -- How many numbers below n a set has, and the rank of a member: how many are below it.
-use Prim.Native.Nat.{ℕ, zero, suc, _+_, _≤_, _<_}
+use Prim.Native.Nat.{ℕ, zero, suc, _+_, _-_, _%_, _≤_, _<_}
 use mathlib.Core.Path.{_≡_, refl, sym, ap, ap₂, _∙_}
-use mathlib.Core.Bool.{Bool, true, false, cond, _&&_}
+use mathlib.Core.Bool.{Bool, true, false, cond, not, _&&_}
 use mathlib.Core.Logic.{_⊎_, inl, inr}
 use native.Mathlib.Omega.{arith}
-use native.Mathlib.Nat.{not-suc-le-zero, le-step, lt-suc-self, eq-or-lt-of-le, le-of-suc-le-suc, le-refl, add-zero, add-suc}
+use native.Mathlib.Nat.{not-suc-le-zero, le-step, lt-suc-self, eq-or-lt-of-le, le-of-suc-le-suc, le-refl, add-zero, add-suc, mod-lt, zero-lt-suc}
 use lib.Dec.{T, eqb, eqb→eq, eqb-refl}
-use Rattle.nodes.specs.Bit.{_⊕_}
+use Rattle.nodes.specs.Bit.{_⊕_, isOne}
 use Rattle.nodes.specs.Row.{parity, count, anyBelow}
-use Rattle.nodes.proofs.Logic.{is-true, is-false, dec, and-l, and-r, and-in, le-or-lt}
+use Rattle.nodes.proofs.Logic.{is-true, is-false, from-false, dec, and-l, and-r, and-in, le-or-lt}
 use Rattle.nodes.proofs.Row.{any-in, any-out}
 
 pub count-le : (n : ℕ) (s : ℕ → Bool) → count n s ≤ n
@@ -38,6 +38,9 @@ unfolding count
 count-none zero s h = refl
 count-none (suc n) s h = count-not n s (h n (lt-suc-self n)) ∙ count-none n s (λ k l. h k (le-step l))
 
+pub count-empty : (n : ℕ) (s : ℕ → Bool) → (T (anyBelow n s) → ⊥) → count n s ≡ 0
+count-empty n s f = count-none n s (λ k l t. f (any-in n s k l t))
+
 pub count-all : (n : ℕ) (s : ℕ → Bool) → ((k : ℕ) → k < n → T (s k)) → count n s ≡ n
 unfolding count
 count-all zero s h = refl
@@ -52,6 +55,29 @@ count-split m (suc n) s = ap (λ (x : ℕ). count x s) (add-suc m n) ∙ go (s (
     go : (c : Bool) → count (m + n) s ≡ count m s + count n (λ k. s (m + k))
         → cond c (suc (count (m + n) s)) (count (m + n) s) ≡ count m s + cond c (suc (count n (λ k. s (m + k)))) (count n (λ k. s (m + k)))
     go true e = ap suc e ∙ sym (add-suc (count m s) (count n (λ k. s (m + k))))
+    go false e = e
+
+pub count-past : (n w : ℕ) (s : ℕ → Bool) → n ≤ w → ((k : ℕ) → n ≤ k → s k ≡ false) → count w s ≡ count n s
+count-past n w s h z =
+    let e : w ≡ n + (w - n) = omega arith in
+    ap (λ (x : ℕ). count x s) e ∙ count-split n (w - n) s
+    ∙ ap (λ (x : ℕ). count n s + x) (count-none (w - n) (λ k. s (n + k)) (λ k l. from-false (s (n + k)) (z (n + k) (omega arith)))) ∙ add-zero (count n s)
+
+-- an odd number of members
+pub parity-count : (n : ℕ) (s : ℕ → Bool) → parity n s ≡ isOne (count n s % 2)
+unfolding parity count
+parity-count zero s = refl
+parity-count (suc n) s = go (s n) (parity-count n s)
+  where
+    next : (c : ℕ) → not (isOne (c % 2)) ≡ isOne (suc c % 2)
+    next c = by (c % 2) refl (mod-lt c (zero-lt-suc 1))
+      where
+        by : (d : ℕ) → c % 2 ≡ d → d < 2 → not (isOne (c % 2)) ≡ isOne (suc c % 2)
+        by zero e l = let f : suc c % 2 ≡ 1 = omega arith in rw (e, f)
+        by (suc d) e l = let f : suc c % 2 ≡ 0 = omega arith in rw (e, f)
+
+    go : (b : Bool) → parity n s ≡ isOne (count n s % 2) → b ⊕ parity n s ≡ isOne (cond b (suc (count n s)) (count n s) % 2)
+    go true e = ap not e ∙ next (count n s)
     go false e = e
 
 pub count-mono : (k n : ℕ) (c : ℕ → Bool) → k ≤ n → count k c ≤ count n c

@@ -2,6 +2,7 @@ pub mod Logic
 pub mod Row
 pub mod Count
 pub mod Members
+pub mod Remove
 pub mod Bit
 pub mod Digits
 pub mod NodeSet

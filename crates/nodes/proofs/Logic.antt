@@ -69,6 +69,15 @@ pub imp-in : (a b : Bool) → (T a → T b) → T (not a || b)
 imp-in true b f = f tt
 imp-in false b f = tt
 
+-- r answers that a does not hold, and the code goes on where r is not so
+pub unless-in : (r a : Bool) → r ≡ not a → not r ≡ true → T a
+unless-in r true e f = tt
+unless-in r false e f = absurd (false≢true (ap not (sym e) ∙ f))
+
+pub unless-out : (r a : Bool) → r ≡ not a → not r ≡ false → T a → ⊥
+unless-out r true e f t = false≢true (sym f ∙ ap not e)
+unless-out r false e f t = t
+
 pub eqb-no : (m n : ℕ) → m ≢ n → eqb m n ≡ false
 eqb-no m n d = is-false (eqb m n) (λ t. d (eqb→eq m n t))
 

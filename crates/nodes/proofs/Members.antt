@@ -6,7 +6,7 @@ use mathlib.Core.List.{List, [], _∷_, _++_, append-nil}
 use mathlib.Core.Logic.{_⊎_, inl, inr}
 use native.Mathlib.Omega.{arith}
 use native.Mathlib.Nat.{not-suc-le-zero, le-step, lt-suc-self, eq-or-lt-of-le, le-of-suc-le-suc, le-refl, add-zero, zero-add}
-use lib.Dec.{T, ltb}
+use lib.Dec.{T, ltb, ltb→lt}
 use lib.ListN.{length, getD, length-append, List·getD-append}
 use Rattle.nodes.specs.Row.{parity, count, anyBelow, lowestFrom, lowest, membersFrom, members}
 use Rattle.nodes.proofs.Logic.{is-true, is-false, from-true, from-false, both-ways, dec, le-or-lt, lt-or-ge}
@@ -108,6 +108,12 @@ any-lowest n s = go (le-or-lt n (lowest n s))
     go (inl h) = any-none n s (λ k l. from-false (s k) (lowest-none n s k (omega arith))) ∙ sym (ltb-no (lowest n s) n h)
     go (inr h) = is-true (anyBelow n s) (any-in n s (lowest n s) h (from-true (s (lowest n s)) (lowest-here n s h))) ∙ sym (ltb-yes (lowest n s) n h)
 
+pub lowest-some : (n : ℕ) (s : ℕ → Bool) → T (anyBelow n s) → lowest n s < n
+lowest-some n s t = ltb→lt (lowest n s) n (from-true (ltb (lowest n s) n) (sym (any-lowest n s) ∙ is-true (anyBelow n s) t))
+
+pub lowest-member : (n : ℕ) (s : ℕ → Bool) → T (anyBelow n s) → T (s (lowest n s))
+lowest-member n s t = from-true (s (lowest n s)) (lowest-here n s (lowest-some n s t))
+
 -- from the number 0, and the rest
 from-suc : (k n : ℕ) (s : ℕ → Bool) → lowestFrom (suc k) n s ≡ suc (lowestFrom k n (λ i. s (suc i)))
 unfolding lowestFrom
@@ -129,6 +135,9 @@ lowest-suc n s = ap (λ (x : ℕ). cond (s 0) 0 x) (from-suc 0 n s)
 -- the first m have the least, or none of them is in s
 pub lowest-front : (m n : ℕ) (s : ℕ → Bool) → lowest m s < m → lowest (m + n) s ≡ lowest m s
 lowest-front m n s h = lowest-unique (m + n) s (lowest m s) (omega arith) (lowest-none m s) (λ l. lowest-here m s h)
+
+pub lowest-past : (n w : ℕ) (s : ℕ → Bool) → n ≤ w → lowest n s < n → lowest w s ≡ lowest n s
+lowest-past n w s h l = let e : w ≡ n + (w - n) = omega arith in ap (λ (x : ℕ). lowest x s) e ∙ lowest-front n (w - n) s l
 
 pub lowest-back : (m n : ℕ) (s : ℕ → Bool) → ((k : ℕ) → k < m → s k ≡ false) → lowest (m + n) s ≡ m + lowest n (λ k. s (m + k))
 lowest-back m n s f =
@@ -228,3 +237,15 @@ members-parity n s f d =
     go : (k : ℕ) → k < n → T (s k) ⊎ (T (s k) → ⊥) → s k && f k ≡ s k && f (getD (members n s) (count k s) d)
     go k l (inl t) = ap (λ (x : ℕ). s k && f x) (sym (members-at n s d k l t))
     go k l (inr q) = ap (λ (b : Bool). b && f k) (is-false (s k) q) ∙ sym (ap (λ (b : Bool). b && f (getD (members n s) (count k s) d)) (is-false (s k) q))
+
+-- a set with nothing from n on has its list within n
+pub members-past : (n w : ℕ) (s : ℕ → Bool) → n ≤ w → ((k : ℕ) → n ≤ k → s k ≡ false) → members w s ≡ members n s
+members-past n zero s h z = ap (λ (x : ℕ). members x s) (nothing n h)
+  where
+    nothing : (n : ℕ) → n ≤ 0 → 0 ≡ n
+    nothing n h = omega arith
+members-past n (suc w) s h z = go (eq-or-lt-of-le h) (members-past n w s)
+  where
+    go : (n ≡ suc w) ⊎ (n < suc w) → (n ≤ w → ((k : ℕ) → n ≤ k → s k ≡ false) → members w s ≡ members n s) → members (suc w) s ≡ members n s
+    go (inl e) ih = ap (λ (x : ℕ). members x s) (sym e)
+    go (inr l) ih = members-out w s (from-false (s w) (z w (omega arith))) ∙ ih (omega arith) z

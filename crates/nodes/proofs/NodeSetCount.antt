@@ -17,6 +17,7 @@ use Rattle.nodes.proofs.Logic.{lt-or-ge, beq-eq, eqb-no, and-all, not-n
 use Rattle.nodes.proofs.Row.{any-ext, any-split, all-ext, all-split}
 use Rattle.nodes.proofs.Count.{count-ext, count-split}
 use Rattle.nodes.proofs.Members.{lowest-ext, lowest-le, lowest-none, lowest-front, lowest-back}
+use Rattle.nodes.proofs.Remove.{removed}
 use Rattle.nodes.proofs.Bit.{bit-zero, bit-any, bit-ext, bit-same}
 use Rattle.nodes.proofs.Digits.{ones-count, bit-drop}
 use Rattle.nodes.proofs.NodeSet.{Words, words-tail, member-head, member-tail, member-past}
@@ -109,7 +110,7 @@ module _ (w : ℕ) (ws : List ℕ) where
 -- ---- the least is taken out: of the first word that is not 0, the lowest digit that is 1
 -- s without its least member, of those below n
 abbrev pub dropped : ℕ → (ℕ → Bool) → ℕ → Bool
-dropped n s u = s u && not (eqb u (lowest n s))
+dropped n s = removed s (lowest n s)
 
 pub drop-nil : (u : ℕ) → memberOf [] u ≡ dropped 0 (memberOf []) u
 drop-nil u = let e = member-past [] u (omega arith) in e ∙ sym (ap (λ (b : Bool). b && not (eqb u (lowest 0 (memberOf [])))) e)

@@ -1,5 +1,5 @@
 -- Rows of bits of any width: sums mod 2, and tests over the numbers below a bound.
-use Prim.Native.Nat.{ℕ, zero, suc, _+_, _≤_, _<_}
+use Prim.Native.Nat.{ℕ, zero, suc, _+_, _-_, _≤_, _<_}
 use mathlib.Core.Path.{_≡_, refl, sym, ap, ap₂, _∙_}
 use mathlib.Core.Bool.{Bool, true, false, not, _&&_, _||_}
 use mathlib.Core.Logic.{_⊎_, inl, inr}
@@ -8,7 +8,7 @@ use native.Mathlib.Nat.{le-of-suc-le-suc, not-suc-le-zero, le-step, lt-suc-self,
 use lib.Dec.{T, eqb, ltb, ltb→lt, lt→ltb}
 use Rattle.nodes.specs.Bit.{_⊕_}
 use Rattle.nodes.specs.Row.{parity, dot, anyBelow, allBelow}
-use Rattle.nodes.proofs.Logic.{is-true, is-false, and-l, and-r, and-in, or-l, or-r, or-out, eqb-no, eqb-yes, and-none, and-all, and-comm, and-assoc, and-turn, or-none, or-turn, ⊕-none, ⊕-swap, &&-⊕, ⊕-&&}
+use Rattle.nodes.proofs.Logic.{is-true, is-false, from-false, lt-or-ge, and-l, and-r, and-in, or-l, or-r, or-out, eqb-no, eqb-yes, and-none, and-all, and-comm, and-assoc, and-turn, or-none, or-turn, ⊕-none, ⊕-swap, &&-⊕, ⊕-&&}
 
 -- equal below n: the parity is equal
 pub parity-ext : (n : ℕ) (f g : ℕ → Bool) → ((k : ℕ) → k < n → f k ≡ g k) → parity n f ≡ parity n g
@@ -70,6 +70,13 @@ parity-prefix (suc w) j f h = go (eq-or-lt-of-le h) (parity-prefix w j f)
     go : (j ≡ suc w) ⊎ (j < suc w) → (j ≤ w → parity w (λ k. ltb k j && f k) ≡ parity j f) → (ltb w j && f w) ⊕ parity w (λ k. ltb k j && f k) ≡ parity j f
     go (inl e) ih = parity-ext (suc w) (λ k. ltb k j && f k) f (λ k l. ap (λ (b : Bool). b && f k) (ltb-yes k j (omega arith))) ∙ ap (λ (x : ℕ). parity x f) (sym e)
     go (inr l) ih = rw (ltb-no w j (omega arith)) (ih (omega arith))
+
+pub parity-past : (n w : ℕ) (f : ℕ → Bool) → n ≤ w → ((k : ℕ) → n ≤ k → f k ≡ false) → parity w f ≡ parity n f
+parity-past n w f h z = parity-ext w f (λ k. ltb k n && f k) (λ k l. go k (lt-or-ge k n)) ∙ parity-prefix w n f h
+  where
+    go : (k : ℕ) → (k < n) ⊎ (n ≤ k) → f k ≡ ltb k n && f k
+    go k (inl l) = rw (ltb-yes k n l)
+    go k (inr l) = rw (ltb-no k n l) (z k l)
 
 -- ---- products
 -- linear in x
@@ -155,6 +162,12 @@ pub any-split : (m n : ℕ) (s : ℕ → Bool) → anyBelow (m + n) s ≡ anyBel
 unfolding anyBelow
 any-split m zero s = ap (λ (x : ℕ). anyBelow x s) (add-zero m) ∙ sym (or-none (anyBelow m s))
 any-split m (suc n) s = ap (λ (x : ℕ). anyBelow x s) (add-suc m n) ∙ ap (λ (b : Bool). s (m + n) || b) (any-split m n s) ∙ or-turn (s (m + n)) (anyBelow m s) (anyBelow n (λ k. s (m + k)))
+
+pub any-past : (n w : ℕ) (s : ℕ → Bool) → n ≤ w → ((k : ℕ) → n ≤ k → s k ≡ false) → anyBelow w s ≡ anyBelow n s
+any-past n w s h z =
+    let e : w ≡ n + (w - n) = omega arith in
+    ap (λ (x : ℕ). anyBelow x s) e ∙ any-split n (w - n) s
+    ∙ ap (λ (b : Bool). anyBelow n s || b) (any-none (w - n) (λ k. s (n + k)) (λ k l. from-false (s (n + k)) (z (n + k) (omega arith)))) ∙ or-none (anyBelow n s)
 
 pub all-split : (m n : ℕ) (s : ℕ → Bool) → allBelow (m + n) s ≡ allBelow m s && allBelow n (λ k. s (m + k))
 unfolding allBelow

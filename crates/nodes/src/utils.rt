@@ -1,4 +1,4 @@
-// Sets of the nodes 0 to 127, a digit for each node.
+// Sets of nodes, a digit for each node.
 ghost use mathlib.Core.Path.{_≡_};
 ghost use mathlib.Core.Bool.{Bool, true, false, not, _&&_, _||_};
 ghost use Prim.Native.Nat.{ℕ, _%_, _^_};

@@ -1,0 +1,129 @@
+-- A member is taken out of a set: what is left of its count, its sums and its list.
+use Prim.Native.Nat.{ℕ, zero, suc, _+_, _≤_, _<_}
+use mathlib.Core.Path.{_≡_, refl, sym, ap, ap₂, _∙_}
+use mathlib.Core.Bool.{Bool, true, false, cond, not, _&&_, _||_}
+use mathlib.Core.List.{List, _∷_}
+use mathlib.Core.Logic.{_⊎_, inl, inr, _≢_}
+use native.Mathlib.Decide.{ℕ-discrete}
+use native.Mathlib.Nat.{not-suc-le-zero, eq-or-lt-of-le, le-of-suc-le-suc, le-refl}
+use native.Mathlib.Omega.{arith}
+use lib.Dec.{T, eqb}
+use Rattle.nodes.specs.Bit.{_⊕_}
+use Rattle.nodes.specs.Row.{parity, anyBelow, allBelow, count, lowestFrom, lowest, membersFrom, members}
+use Rattle.nodes.proofs.Logic.{is-true, beq-eq, and-l, and-r, and-in, or-l, or-r, or-out, eqb-no, eqb-yes, and-none, and-all, ⊕-none}
+use Rattle.nodes.proofs.Row.{parity-ext, parity-⊕, parity-one, any-in, any-out, all-in, all-out}
+use Rattle.nodes.proofs.Count.{count-ext}
+use Rattle.nodes.proofs.Members.{lowest-some, lowest-member}
+
+-- s without v
+abbrev pub removed : (ℕ → Bool) → ℕ → ℕ → Bool
+removed s v u = s u && not (eqb u v)
+
+pub removed-other : (s : ℕ → Bool) (v u : ℕ) → u ≢ v → removed s v u ≡ s u
+removed-other s v u n = rw (eqb-no u v n) (and-all (s u))
+
+pub removed-same : (s : ℕ → Bool) (v : ℕ) → removed s v v ≡ false
+removed-same s v = rw (eqb-yes v) (and-none (s v))
+
+pub count-remove : (n : ℕ) (s : ℕ → Bool) (v : ℕ) → v < n → T (s v) → count n s ≡ suc (count n (removed s v))
+unfolding count
+count-remove zero s v h t = absurd (not-suc-le-zero h)
+count-remove (suc n) s v h t = go (eq-or-lt-of-le (le-of-suc-le-suc h)) (count-remove n s v)
+  where
+    go : (v ≡ n) ⊎ (v < n) → (v < n → T (s v) → count n s ≡ suc (count n (removed s v)))
+        → cond (s n) (suc (count n s)) (count n s) ≡ suc (cond (removed s v n) (suc (count n (removed s v))) (count n (removed s v)))
+    go (inl e) ih =
+        ap (λ (b : Bool). cond b (suc (count n s)) (count n s)) (is-true (s n) (rw e at t))
+        ∙ ap suc (count-ext n s (removed s v) (λ k l. sym (removed-other s v k (omega arith))))
+        ∙ ap (λ (b : Bool). suc (cond b (suc (count n (removed s v))) (count n (removed s v)))) (sym (ap (removed s v) (sym e) ∙ removed-same s v))
+    go (inr l) ih =
+        ap (λ (c : ℕ). cond (s n) (suc c) c) (ih l t) ∙ out (s n)
+        ∙ ap (λ (b : Bool). suc (cond b (suc (count n (removed s v))) (count n (removed s v)))) (sym (removed-other s v n (omega arith)))
+      where
+        out : (b : Bool) → cond b (suc (suc (count n (removed s v)))) (suc (count n (removed s v))) ≡ suc (cond b (suc (count n (removed s v))) (count n (removed s v)))
+        out true = refl
+        out false = refl
+
+-- one visit: the least is taken out
+pub count-lowest : (n : ℕ) (s : ℕ → Bool) → T (anyBelow n s) → count n s ≡ suc (count n (removed s (lowest n s)))
+count-lowest n s t = count-remove n s (lowest n s) (lowest-some n s t) (lowest-member n s t)
+
+-- a sum over the set
+pub parity-remove : (n : ℕ) (s f : ℕ → Bool) (v : ℕ) → v < n → T (s v) → parity n (λ k. s k && f k) ≡ f v ⊕ parity n (λ k. removed s v k && f k)
+parity-remove n s f v h t =
+    parity-ext n (λ k. s k && f k) (λ k. (f k && eqb k v) ⊕ (removed s v k && f k)) (λ k l. go k (ℕ-discrete k v))
+    ∙ parity-⊕ n (λ k. f k && eqb k v) (λ k. removed s v k && f k)
+    ∙ ap (λ (b : Bool). b ⊕ parity n (λ k. removed s v k && f k)) (parity-one n v f h)
+  where
+    go : (k : ℕ) → Dec (k ≡ v) → s k && f k ≡ (f k && eqb k v) ⊕ (removed s v k && f k)
+    go k (yes e) = rw (e, is-true (s v) t, eqb-yes v, and-all (f v)) (sym (⊕-none (f v)))
+    go k (no n) = rw (eqb-no k v n, and-none (f k), and-all (s k))
+
+-- some of the set, and all of it
+pub any-remove : (n : ℕ) (s f : ℕ → Bool) (v : ℕ) → v < n → T (s v) → anyBelow n (λ k. s k && f k) ≡ f v || anyBelow n (λ k. removed s v k && f k)
+any-remove n s f v h t =
+    beq-eq (anyBelow n (λ k. s k && f k)) (f v || anyBelow n (λ k. removed s v k && f k))
+    (λ a. let (k, l, b) = any-out n (λ k. s k && f k) a in into k l b (ℕ-discrete k v))
+    (λ a. out (or-out (f v) (anyBelow n (λ k. removed s v k && f k)) a))
+  where
+    into : (k : ℕ) → k < n → T (s k && f k) → Dec (k ≡ v) → T (f v || anyBelow n (λ k. removed s v k && f k))
+    into k l b (yes e) = or-l (f v) (anyBelow n (λ k. removed s v k && f k)) (rw e at (and-r (s k) (f k) b))
+    into k l b (no d) =
+        or-r (f v) (anyBelow n (λ k. removed s v k && f k))
+        (any-in n (λ k. removed s v k && f k) k l (rw (eqb-no k v d, and-all (s k)) b))
+
+    out : T (f v) ⊎ T (anyBelow n (λ k. removed s v k && f k)) → T (anyBelow n (λ k. s k && f k))
+    out (inl a) = any-in n (λ k. s k && f k) v h (and-in (s v) (f v) t a)
+    out (inr a) =
+        let (k, l, b) = any-out n (λ k. removed s v k && f k) a in
+        any-in n (λ k. s k && f k) k l (and-in (s k) (f k) (and-l (s k) (not (eqb k v)) (and-l (removed s v k) (f k) b)) (and-r (removed s v k) (f k) b))
+
+pub all-remove : (n : ℕ) (s f : ℕ → Bool) (v : ℕ) → v < n → T (s v) → allBelow n (λ k. not (s k) || f k) ≡ f v && allBelow n (λ k. not (removed s v k) || f k)
+all-remove n s f v h t =
+    beq-eq (allBelow n (λ k. not (s k) || f k)) (f v && allBelow n (λ k. not (removed s v k) || f k))
+    (λ a. and-in (f v) (allBelow n (λ k. not (removed s v k) || f k)) (here (all-out n (λ k. not (s k) || f k) a v h))
+    (all-in n (λ k. not (removed s v k) || f k) (λ k l. less (s k) (not (eqb k v)) (f k) (all-out n (λ k. not (s k) || f k) a k l))))
+    (λ a. all-in n (λ k. not (s k) || f k) (λ k l. more k (ℕ-discrete k v) (and-l (f v) (allBelow n (λ k. not (removed s v k) || f k)) a) (all-out n (λ k. not (removed s v k) || f k) (and-r (f v) (allBelow n (λ k. not (removed s v k) || f k)) a) k l)))
+  where
+    here : T (not (s v) || f v) → T (f v)
+    here a = rw (is-true (s v) t) at a
+
+    less : (a b c : Bool) → T (not a || c) → T (not (a && b) || c)
+    less true true c h = h
+    less true false c h = tt
+    less false b c h = tt
+
+    more : (k : ℕ) → Dec (k ≡ v) → T (f v) → T (not (removed s v k) || f k) → T (not (s k) || f k)
+    more k (yes e) a b = or-r (not (s k)) (f k) (rw e a)
+    more k (no d) a b = rw (eqb-no k v d, and-all (s k)) at b
+
+-- ---- the list of the members: the least, and then those of the rest
+from-ext : (k n : ℕ) (s t : ℕ → Bool) → ((j : ℕ) → k ≤ j → s j ≡ t j) → membersFrom k n s ≡ membersFrom k n t
+unfolding membersFrom
+from-ext k zero s t h = refl
+from-ext k (suc n) s t h = ap₂ (λ (b : Bool) (l : List ℕ). cond b (k ∷ l) l) (h k (le-refl k)) (from-ext (k + 1) n s t (λ j l. h j (omega arith)))
+
+from-cons : (k n : ℕ) (s : ℕ → Bool) → lowestFrom k n s < k + n → membersFrom k n s ≡ lowestFrom k n s ∷ membersFrom k n (removed s (lowestFrom k n s))
+unfolding membersFrom lowestFrom
+from-cons k zero s h = absurd (bad k h)
+  where
+    bad : (k : ℕ) → k < k + 0 → ⊥
+    bad k h = omega arith
+from-cons k (suc n) s h = go (s k) refl h (from-cons (k + 1) n s)
+  where
+    go : (c : Bool) → s k ≡ c → cond c k (lowestFrom (k + 1) n s) < k + suc n
+        → (lowestFrom (k + 1) n s < k + 1 + n → membersFrom (k + 1) n s ≡ lowestFrom (k + 1) n s ∷ membersFrom (k + 1) n (removed s (lowestFrom (k + 1) n s)))
+        → cond c (k ∷ membersFrom (k + 1) n s) (membersFrom (k + 1) n s)
+        ≡ cond c k (lowestFrom (k + 1) n s)
+        ∷ cond (removed s (cond c k (lowestFrom (k + 1) n s)) k) (k ∷ membersFrom (k + 1) n (removed s (cond c k (lowestFrom (k + 1) n s)))) (membersFrom (k + 1) n (removed s (cond c k (lowestFrom (k + 1) n s))))
+    go true e l ih =
+        ap (λ (xs : List ℕ). k ∷ xs)
+        (from-ext (k + 1) n s (removed s k) (λ j g. sym (removed-other s k j (omega arith)))
+        ∙ ap (λ (b : Bool). cond b (k ∷ membersFrom (k + 1) n (removed s k)) (membersFrom (k + 1) n (removed s k))) (sym (removed-same s k)))
+    go false e l ih =
+        ih (omega arith)
+        ∙ ap (λ (b : Bool). lowestFrom (k + 1) n s ∷ cond b (k ∷ membersFrom (k + 1) n (removed s (lowestFrom (k + 1) n s))) (membersFrom (k + 1) n (removed s (lowestFrom (k + 1) n s))))
+        (sym (ap (λ (b : Bool). b && not (eqb k (lowestFrom (k + 1) n s))) e))
+
+pub members-cons : (n : ℕ) (s : ℕ → Bool) → lowest n s < n → members n s ≡ lowest n s ∷ members n (removed s (lowest n s))
+members-cons n s h = from-cons 0 n s (omega arith)
