@@ -17,14 +17,13 @@ use Rattle.nodes.specs.Bit.{bit, isOne}
 use Rattle.nodes.specs.Row.{lowest, anyBelow, allBelow}
 use Rattle.nodes.proofs.Logic.{is-true, is-false, from-false, not-in, not-out, or-l, or-r, or-out, or-none, eqb-no, eqb-yes, lt-or-ge}
 use Rattle.nodes.proofs.Row.{all-out, ltb-yes, ltb-no}
-use Rattle.nodes.proofs.Members.{lowest-le, lowest-none, lowest-here}
+use Rattle.nodes.proofs.Members.{lowest-le, lowest-none, lowest-here, lowest-unique}
 use Rattle.nodes.proofs.Bit.{bit-zero, bit-past, bit-ext, bit-or, bit-pow, bit-low, bit-half}
 use Rattle.nodes.proofs.Digits.{trailing-lowest}
 use Rattle.solver.specs.Reduced.{lead, leads}
 use Rattle.solver.specs.WorkMatrix.{entryOf, one, digits, listOf, bytesOf}
 use Rattle.solver.specs.Steps.{withBit}
 use Rattle.solver.proofs.Bytes.{length-listOf, getD-listOf, is-listOf}
-use Rattle.solver.proofs.Reduced.{lead-is}
 
 -- ---- bytes
 bit-shr : (a s k : ℕ) → bit (a / 2 ^ s) k ≡ bit a (s + k)
@@ -85,7 +84,7 @@ module _ (w : ℕ) (l : List ℕ) (row : ℕ) where
       by (inr g) = at-byte q k g h ∙ ap (λ (x : ℕ). bit x (k - 8 * q)) e ∙ bit-zero (k - 8 * q)
 
   pub lead-none : (cols : ℕ) → NoneBefore (8 * w) → cols ≤ 8 * w → cols ≡ lead (entryOf w l) cols row
-  lead-none cols f h = sym (lead-is (entryOf w l) cols row cols (omega arith) (λ k g. f k (omega arith)) (λ g. absurd (omega arith)))
+  lead-none cols f h = sym (lowest-unique cols (entryOf w l row) cols (omega arith) (λ k g. f k (omega arith)) (λ g. absurd (omega arith)))
 
   module _ (q b : ℕ) (e : getD l (row * w + q) 0 ≡ b) (f : NoneBefore (8 * q)) (h : b < 2 ^ 8) (n : b ≢ 0) where
     small : trailingZeros 8 b < 8
@@ -106,10 +105,10 @@ module _ (w : ℕ) (l : List ℕ) (row : ℕ) where
         ∙ lowest-here 8 (bit b) (omega (arith, small, trailing-lowest 8 b))
 
     pub lead-inside : (cols : ℕ) → 8 * q + trailingZeros 8 b < cols → 8 * q + trailingZeros 8 b ≡ lead (entryOf w l) cols row
-    lead-inside cols g = sym (lead-is (entryOf w l) cols row (8 * q + trailingZeros 8 b) (omega arith) before (λ u. here))
+    lead-inside cols g = sym (lowest-unique cols (entryOf w l row) (8 * q + trailingZeros 8 b) (omega arith) before (λ u. here))
 
     pub lead-outside : (cols : ℕ) → cols ≤ 8 * q + trailingZeros 8 b → cols ≡ lead (entryOf w l) cols row
-    lead-outside cols g = sym (lead-is (entryOf w l) cols row cols (omega arith) (λ k u. before k (omega arith)) (λ u. absurd (omega arith)))
+    lead-outside cols g = sym (lowest-unique cols (entryOf w l row) cols (omega arith) (λ k u. before k (omega arith)) (λ u. absurd (omega arith)))
 
   -- ---- the row's bits beyond the width
   module _ (width : ℕ) where

@@ -25,7 +25,7 @@ abbrev pub mostRows : ℕ
 mostRows = 128
 
 abbrev pub mostColumns : ℕ
-mostColumns = 128
+mostColumns = 8 * rowBytes
 
 -- ---- the questions
 -- is the matrix of exact length, and no more than 128 either way?
