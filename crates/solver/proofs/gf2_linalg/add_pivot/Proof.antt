@@ -19,7 +19,8 @@ first-column-requires c κs = search needs
 
 -- src/gf2_linalg.rt:163:9
 returns : tie.Need-returns
-returns c = let a = c .before .before .before .args in
+returns c =
+    let a = c .before .before .before .args in
     let f = c .before .first-column in
     set-past (member (a .pivots)) (a .cols) (f .result) (c .if1 .taken)
     ∙ ap {B = ℕ → Bool} (λ p k. member (a .pivots) k || (ltb k (a .cols) && eqb p k)) (f .ensures)
@@ -34,7 +35,8 @@ with-requires c κs = search needs
 
 -- src/gf2_linalg.rt:157:1
 returns-2 : tie.Need-returns-2
-returns-2 c = let a = c .before .before .before .before .args in
+returns-2 c =
+    let a = c .before .before .before .before .args in
     let f = c .before .before .first-column in
     c .with .ensures ∙ set-with (member (a .pivots)) (a .cols) (f .result) (omega arith) (omega arith)
     ∙ ap {B = ℕ → Bool} (λ p k. member (a .pivots) k || (ltb k (a .cols) && eqb p k)) (f .ensures)

@@ -19,8 +19,9 @@ has-requires c κs = search needs
 
 -- src/gf2_linalg.rt:188:9
 returns : tie.Need-returns
-returns c = let a = c .before .before .before .args in
-    let no-bit : entryOf rowBytes (a .matrix .now) (a .row) (a .column) ≡ false = sym (c .before .has .ensures) ∙ not-true _ (c .if1 .taken) in
+returns c =
+    let a = c .before .before .before .args in
+    let no-bit : entryOf rowBytes (a .matrix .now) (a .row) (a .asked) ≡ false = sym (c .before .has .ensures) ∙ not-true _ (c .if1 .taken) in
     simp no-bit
 
 -- src/gf2_linalg.rt:190:5
@@ -29,8 +30,9 @@ first-column-requires c κs = search needs
 
 -- src/gf2_linalg.rt:183:1
 returns-2 : tie.Need-returns-2
-returns-2 c = let a = c .before .before .before .before .args in
-    let bit : entryOf rowBytes (a .matrix .now) (a .row) (a .column) ≡ true = sym (c .before .before .has .ensures) ∙ not-false _ (c .before .if1 .left) in
+returns-2 c =
+    let a = c .before .before .before .before .args in
+    let bit : entryOf rowBytes (a .matrix .now) (a .row) (a .asked) ≡ true = sym (c .before .before .has .ensures) ∙ not-false _ (c .before .if1 .left) in
     simp bit (ap (λ (k : ℕ). eqb k (a .cols)) (c .first-column .ensures))
 
 pub asks-in-vain-spec : {M : Type 1} → statement M

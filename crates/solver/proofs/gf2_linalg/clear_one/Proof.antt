@@ -45,7 +45,8 @@ same-length-2 c = search needs
 -- src/gf2_linalg.rt:73:1
 returns-3 : tie.Need-returns-3
 unfolding clearOne
-returns-3 c = let a = c .before .before .before .before .before .args in
+returns-3 c =
+    let a = c .before .before .before .before .before .args in
     let has : entryOf rowBytes (a .matrix .now) (a .row) (a .col) ≡ false = sym (c .before .has .ensures) ∙ c .if2 .left in
     simp (ne-eqb _ _ (c .before .before .before .if1 .left), has)
 

@@ -30,20 +30,23 @@ same-length c = search needs
 -- src/gf2_linalg.rt:348:9
 returns : tie.Need-returns
 unfolding eliminateCall
-returns c = let a = c .before .before .before .before .args in
+returns c =
+    let a = c .before .before .before .before .args in
     let fit : fits (a .matrix .now) (a .rows) (a .cols) (a .sides) ≡ false = sym (c .before .matrix-fits .ensures) ∙ not-true _ (c .if1 .taken) in
     (simp fit, rw fit refl)
 
 -- src/gf2_linalg.rt:350:5
 eliminate-columns-requires : tie.Need-eliminate-columns-requires
-eliminate-columns-requires c κs = let a = c .before .before .before .before .before .args in
+eliminate-columns-requires c κs =
+    let a = c .before .before .before .before .before .args in
     let fit : fits (a .matrix .now) (a .rows) (a .cols) (a .sides) ≡ true = sym (c .before .before .matrix-fits .ensures) ∙ not-false _ (c .before .if1 .left) in
     let sizes = fits-out _ _ _ _ fit in
     (omega arith, omega arith)
 
 -- src/gf2_linalg.rt:351:25
 pivot-columns-requires : tie.Need-pivot-columns-requires
-pivot-columns-requires c κs = let a = c .before .before .before .before .before .before .before .before .before .args in
+pivot-columns-requires c κs =
+    let a = c .before .before .before .before .before .before .before .before .before .args in
     let fit : fits (a .matrix .now) (a .rows) (a .cols) (a .sides) ≡ true = sym (c .before .before .before .before .before .before .matrix-fits .ensures) ∙ not-false _ (c .before .before .before .before .before .if1 .left) in
     let sizes = fits-out _ _ _ _ fit in
     (omega arith, omega arith)
@@ -55,7 +58,8 @@ same-length-2 c = search needs
 -- src/gf2_linalg.rt:343:1
 returns-2 : tie.Need-returns-2
 unfolding eliminateCall
-returns-2 c = let a = c .before .before .before .before .before .before .before .before .before .before .args in
+returns-2 c =
+    let a = c .before .before .before .before .before .before .before .before .before .before .args in
     let fit : fits (a .matrix .now) (a .rows) (a .cols) (a .sides) ≡ true = sym (c .before .before .before .before .before .before .before .matrix-fits .ensures) ∙ not-false _ (c .before .before .before .before .before .before .if1 .left) in
     let sizes = fits-out _ _ _ _ fit in
     let room : a .rows * rowBytes ≤ length (a .matrix .now) = omega arith in

@@ -26,19 +26,22 @@ same-length c = search needs
 
 -- src/gf2_linalg.rt:105:9
 returns : tie.Need-returns
-returns c = let a = c .before .before .before .before .args in
+returns c =
+    let a = c .before .before .before .before .args in
     (column-none rowBytes (a .rows) (a .col) (record { rank = a .rank; rows = a .matrix .now }) _ (c .before .find-pivot .ensures) (c .if1 .taken), search needs)
 
 -- src/gf2_linalg.rt:107:5
 bring-requires : tie.Need-bring-requires
-bring-requires c κs = let a = c .before .before .before .before .before .args in
+bring-requires c κs =
+    let a = c .before .before .before .before .before .args in
     let f = c .before .before .find-pivot in
     let ge : a .rank ≤ f .result = omega (arith, f .ensures, from-ge (a .rank) (a .rows - a .rank) (λ i. entryOf rowBytes (a .matrix .now) i (a .col))) in
     omega arith
 
 -- src/gf2_linalg.rt:108:5
 clear-column-requires : tie.Need-clear-column-requires
-clear-column-requires c κs = let a = c .before .before .before .before .before .before .before .before .before .args in
+clear-column-requires c κs =
+    let a = c .before .before .before .before .before .before .before .before .before .args in
     let f = c .before .before .before .before .before .before .find-pivot in
     let ge : a .rank ≤ f .result = omega (arith, f .ensures, from-ge (a .rank) (a .rows - a .rank) (λ i. entryOf rowBytes (a .matrix .now) i (a .col))) in
     omega arith
@@ -54,7 +57,8 @@ same-length-2 c = search needs
 -- src/gf2_linalg.rt:98:1
 returns-2 : tie.Need-returns-2
 unfolding pivotTo
-returns-2 c = let a = c .before .before .before .before .before .before .before .before .before .before .before .before .args in
+returns-2 c =
+    let a = c .before .before .before .before .before .before .before .before .before .before .before .before .args in
     let f = c .before .before .before .before .before .before .before .before .before .find-pivot in
     let ge : a .rank ≤ f .result = omega (arith, f .ensures, from-ge (a .rank) (a .rows - a .rank) (λ i. entryOf rowBytes (a .matrix .now) i (a .col))) in (
       ap (λ (l : List ℕ). record { rank = a .rank + 1; rows = l })

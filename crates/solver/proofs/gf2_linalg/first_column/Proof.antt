@@ -54,14 +54,16 @@ add-k c =
 
 -- src/gf2_linalg.rt:139:17
 returns : tie.Need-returns Inv-loop μ-loop
-returns c = let a = c .before .before .before .before .before .args in
+returns c =
+    let a = c .before .before .before .before .before .args in
     let l = c .before .before .before .before .loop in
     let byte : getD (a .matrix .now) (a .row * rowBytes + l .q) 0 < 2 ^ 8 = omega (arith, c .before .before .shared-slice-known .given (a .row * rowBytes + l .q)) in
     lead-inside rowBytes (a .matrix .now) (a .row) (l .q) (getD (a .matrix .now) (a .row * rowBytes + l .q) 0) refl (l .inv .1) byte (c .before .if1 .taken) (a .cols) (c .if2 .taken)
 
 -- src/gf2_linalg.rt:141:13
 returns-2 : tie.Need-returns-2 Inv-loop μ-loop
-returns-2 c = let a = c .before .before .before .before .before .args in
+returns-2 c =
+    let a = c .before .before .before .before .before .args in
     let l = c .before .before .before .before .loop in
     let byte : getD (a .matrix .now) (a .row * rowBytes + l .q) 0 < 2 ^ 8 = omega (arith, c .before .before .shared-slice-known .given (a .row * rowBytes + l .q)) in
     lead-outside rowBytes (a .matrix .now) (a .row) (l .q) (getD (a .matrix .now) (a .row * rowBytes + l .q) 0) refl (l .inv .1) byte (c .before .if1 .taken) (a .cols) (c .if2 .left)
@@ -76,13 +78,15 @@ loop-less c = search needs
 
 -- src/gf2_linalg.rt:134:5
 loop-again : tie.Need-loop-again Inv-loop μ-loop
-loop-again c = let a = c .before .before .before .before .args in
+loop-again c =
+    let a = c .before .before .before .before .args in
     let l = c .before .before .before .loop in
     (search needs, none-more rowBytes (a .matrix .now) (a .row) (l .q) (l .inv .1) (c .if1 .left))
 
 -- src/gf2_linalg.rt:128:1
 returns-3 : tie.Need-returns-3 Inv-loop μ-loop
-returns-3 c = let a = c .before .before .args in
+returns-3 c =
+    let a = c .before .before .args in
     let l = c .before .loop in
     let e : l .q ≡ rowBytes = omega arith in
     lead-none rowBytes (a .matrix .now) (a .row) (a .cols) (rw e at (l .inv .1)) (c .before .before .pre .1)

@@ -28,7 +28,8 @@ empty-requires c κs = search needs
 
 -- src/gf2_linalg.rt:175:5
 loop-holds : tie.Need-loop-holds Inv-loop μ-loop
-loop-holds c = let a = c .before .before .args in
+loop-holds c =
+    let a = c .before .before .args in
     (search needs, c .empty .ensures ∙ set-start (entryOf rowBytes (a .matrix .now)) (a .cols))
 
 -- src/gf2_linalg.rt:176:9
@@ -45,7 +46,8 @@ loop-less c = search needs
 
 -- src/gf2_linalg.rt:175:5
 loop-again : tie.Need-loop-again Inv-loop μ-loop
-loop-again c = let a = c .before .before .before .before .before .args in
+loop-again c =
+    let a = c .before .before .before .before .before .args in
     let l = c .before .before .loop in (
       search needs,
       c .add-pivot .ensures
@@ -55,7 +57,8 @@ loop-again c = let a = c .before .before .before .before .before .args in
 
 -- src/gf2_linalg.rt:169:1
 returns : tie.Need-returns Inv-loop μ-loop
-returns c = let a = c .before .before .before .before .args in
+returns c =
+    let a = c .before .before .before .before .args in
     let l = c .before .loop in
     let e : l .i ≡ a .rows = omega arith in
     rw e at (l .inv .1)

@@ -23,7 +23,8 @@ same-length c = search needs
 -- src/gf2_linalg.rt:359:9
 returns : tie.Need-returns
 unfolding readOffCall
-returns c = let a = c .before .before .before .before .before .args in
+returns c =
+    let a = c .before .before .before .before .before .args in
     let fit : bothFit (a .matrix .now) (a .out .now) (a .rows) (a .cols) (a .sides) ≡ false = sym (c .before .both-fit .ensures) ∙ not-true _ (c .if1 .taken) in
     simp fit
 
@@ -34,20 +35,23 @@ same-length-2 c = search needs
 -- src/gf2_linalg.rt:362:9
 returns-2 : tie.Need-returns-2
 unfolding readOffCall
-returns-2 c = let a = c .before .before .before .before .before .before .args in
+returns-2 c =
+    let a = c .before .before .before .before .before .before .args in
     let fit : bothFit (a .matrix .now) (a .out .now) (a .rows) (a .cols) (a .sides) ≡ true = sym (c .before .before .both-fit .ensures) ∙ not-false _ (c .before .if1 .left) in
     simp (fit, le-ltb _ _ (c .if2 .taken))
 
 -- src/gf2_linalg.rt:364:37
 add-answer : tie.Need-add-answer
-add-answer c = let a = c .before .before .before .before .before .before .before .args in
+add-answer c =
+    let a = c .before .before .before .before .before .before .before .args in
     let fit : bothFit (a .matrix .now) (a .out .now) (a .rows) (a .cols) (a .sides) ≡ true = sym (c .before .before .before .both-fit .ensures) ∙ not-false _ (c .before .before .if1 .left) in
     let sizes = fits-out _ _ _ _ (both-fit-out _ _ _ _ _ fit .0) in
     omega arith
 
 -- src/gf2_linalg.rt:364:5
 answer-requires : tie.Need-answer-requires
-answer-requires c κs = let a = c .before .before .before .before .before .before .before .args in
+answer-requires c κs =
+    let a = c .before .before .before .before .before .before .before .args in
     let fit : bothFit (a .matrix .now) (a .out .now) (a .rows) (a .cols) (a .sides) ≡ true = sym (c .before .before .before .both-fit .ensures) ∙ not-false _ (c .before .before .if1 .left) in
     let both = both-fit-out _ _ _ _ _ fit in
     let sizes = fits-out _ _ _ _ (both .0) in
@@ -60,7 +64,8 @@ same-length-3 c = search needs
 -- src/gf2_linalg.rt:355:1
 returns-3 : tie.Need-returns-3
 unfolding readOffCall
-returns-3 c = let a = c .before .before .before .before .before .before .before .before .before .before .args in
+returns-3 c =
+    let a = c .before .before .before .before .before .before .before .before .before .before .args in
     let fit : bothFit (a .matrix .now) (a .out .now) (a .rows) (a .cols) (a .sides) ≡ true = sym (c .before .before .before .before .before .before .both-fit .ensures) ∙ not-false _ (c .before .before .before .before .before .if1 .left) in
     simp (fit, lt-ltb _ _ (c .before .before .before .before .if2 .left)) (c .before .before .answer .ensures)
 

@@ -45,7 +45,8 @@ shr-if1 c = search needs
 
 -- src/gf2_linalg.rt:200:13
 returns : tie.Need-returns Inv-loop μ-loop
-returns c = let a = c .before .before .before .before .args in
+returns c =
+    let a = c .before .before .before .before .args in
     let l = c .before .before .before .loop in
     let byte : getD (a .matrix .now) (a .row * rowBytes + l .q) 0 < 2 ^ 8 = omega (arith, c .before .shared-slice-known .given (a .row * rowBytes + l .q)) in
     sym (ends-not rowBytes (a .matrix .now) (a .row) (a .width) (l .q) (l .inside) (l .inv .2) (omega arith) byte (c .if1 .taken))
@@ -60,13 +61,15 @@ loop-less c = search needs
 
 -- src/gf2_linalg.rt:198:5
 loop-again : tie.Need-loop-again Inv-loop μ-loop
-loop-again c = let a = c .before .before .before .before .args in
+loop-again c =
+    let a = c .before .before .before .before .args in
     let l = c .before .before .before .loop in
     (search needs, search needs, omega arith, ends-more rowBytes (a .matrix .now) (a .row) (a .width) (l .q) (l .inside) (l .inv .2) (c .if1 .left) (l .inv .3))
 
 -- src/gf2_linalg.rt:191:1
 returns-2 : tie.Need-returns-2 Inv-loop μ-loop
-returns-2 c = let a = c .before .before .args in
+returns-2 c =
+    let a = c .before .before .args in
     let l = c .before .loop in
     let e : l .q ≡ rowBytes = omega arith in
     let f : EndsBefore rowBytes (a .matrix .now) (a .row) (a .width) (8 * rowBytes) = rw e at (l .inv .3) in

@@ -21,7 +21,8 @@ mask-requires c κs = search needs
 
 -- src/gf2_linalg.rt:224:16
 cast-out : tie.Need-cast-out
-cast-out c = let a = c .before .before .args in
+cast-out c =
+    let a = c .before .before .args in
     let e : a .k % 8 % 64 ≡ a .k % 8 = omega arith in
     omega (arith, c .mask .ensures, ap (λ (x : ℕ). 2 ^ x) e, pow-lt {i = a .k % 8} {j = 8} (omega arith))
 
@@ -39,7 +40,8 @@ same-length c = search needs
 
 -- src/gf2_linalg.rt:219:1
 returns : tie.Need-returns
-returns c = let a = c .before .before .before .args in
+returns c =
+    let a = c .before .before .before .args in
     let e : a .k % 8 % 64 ≡ a .k % 8 = omega arith in
     ap (λ (x : ℕ). set (a .out .now) (a .k / 8) (bitOr (getD (a .out .now) (a .k / 8) 0) x)) (c .before .mask .ensures ∙ ap (λ (x : ℕ). 2 ^ x) e)
 

@@ -60,7 +60,8 @@ loop-less c = search needs
 
 -- src/gf2_linalg.rt:41:5
 loop-again : tie.Need-loop-again Inv-loop μ-loop
-loop-again c = let a = c .before .before .before .before .args in
+loop-again c =
+    let a = c .before .before .before .before .args in
     let l = c .before .before .before .loop in
     (search needs, search needs, turns-more (xorByte (a .dst * rowBytes) (a .src * rowBytes)) (l .j) (a .matrix .now) (l .matrix) (l .inv .2))
 
@@ -70,7 +71,8 @@ same-length c = search needs
 
 -- src/gf2_linalg.rt:34:1
 returns : tie.Need-returns Inv-loop μ-loop
-returns c = let a = c .before .before .args in
+returns c =
+    let a = c .before .before .args in
     let l = c .before .loop in
     let p = c .before .before .pre in
     let e : l .j ≡ rowBytes = omega arith in
