@@ -1,5 +1,5 @@
 -- One row more among those that begin at a column.
-use mathlib.Core.Path.{_≡_, refl, sym, ap, ap₂, _∙_, fun-ext}
+use mathlib.Core.Path.{_≡_, refl, sym, ap, _∙_, fun-ext}
 use mathlib.Core.Bool.{Bool, true, false, cond, _&&_, _||_}
 use mathlib.Core.List.{List}
 use mathlib.Core.Option.{none, some}
@@ -11,7 +11,7 @@ use borrow.Author.Tests.{le-leb}
 use lib.Dec.{eqb, leb, ltb}
 use Rattle.nodes.specs.Row.{anyBelow}
 use Rattle.nodes.specs.NodeSet.{highest}
-use Rattle.nodes.proofs.Logic.{and-none, and-all, or-none, or-comm, eqb-no, eqb-yes}
+use Rattle.nodes.proofs.Logic.{and-none, and-all, or-none, or-comm, eqb-no}
 use Rattle.nodes.proofs.Row.{ltb-yes, ltb-no}
 use Rattle.solver.specs.Reduced.{lead, leads}
 use Rattle.solver.specs.WorkMatrix.{entryOf, bytesOf}

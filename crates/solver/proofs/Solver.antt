@@ -9,7 +9,7 @@ use native.Mathlib.Omega.{arith}
 use borrow.Author.Tests.{leb-true, eqb-true}
 use lib.Dec.{T, eqb, leb, ltb}
 use lib.ListN.{length}
-use Rattle.nodes.specs.Row.{allBelow, dot}
+use Rattle.nodes.specs.Row.{allBelow}
 use Rattle.nodes.proofs.Logic.{is-false, or-l, or-r, or-out, not-in, not-out, from-false, dec}
 use Rattle.nodes.proofs.Row.{all-in, all-out, dot-one, ltb-no}
 use Rattle.solver.specs.System.{solve, pivot}

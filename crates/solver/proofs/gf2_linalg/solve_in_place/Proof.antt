@@ -2,7 +2,7 @@ use mathlib.Core.Path.{_≡_, refl, sym, ap, _∙_, subst}
 use mathlib.Core.Bool.{Bool, true, false}
 use mathlib.Core.List.{List}
 use mathlib.Core.Option.{Option}
-use Prim.Native.Nat.{ℕ, _+_, _≤_, _<_, _*_}
+use Prim.Native.Nat.{ℕ, _≤_, _<_, _*_}
 use native.Mathlib.Omega.{arith}
 use borrow.Author.Tests.{lt-ltb, le-ltb, not-true, not-false}
 use lib.ListN.{length}
@@ -11,25 +11,16 @@ use Rattle.solver.proofs.Solver.{fits-out, both-fit-out, well-shaped-ou
 use borrow.Author.Needs.{needs}
 use Rattle.solver.proofs.gf2_linalg.solve_in_place.Statement.{statement}
 use Rattle.solver.proofs.gf2_linalg.solve_in_place.Tie as tie
-use Rattle.solver.proofs.gf2_linalg.solve_in_place.Reads as reads
-use Rattle.solver.proofs.gf2_linalg.solve_in_place.Lts as lts
-use Rattle.solver.proofs.gf2_linalg.answer.Reads as answer-reads
-use Rattle.solver.proofs.gf2_linalg.eliminate_columns.Reads as eliminate-columns-reads
-use Rattle.solver.proofs.gf2_linalg.well_shaped.Reads as well-shaped-reads
 
--- src/gf2_linalg.rt:372:9
 well-shaped-requires : tie.Need-well-shaped-requires
 well-shaped-requires c κs = search needs
 
--- src/gf2_linalg.rt:373:9
 same-length : tie.Need-same-length
 same-length c = search needs
 
--- src/gf2_linalg.rt:373:9
 same-length-2 : tie.Need-same-length-2
 same-length-2 c = search needs
 
--- src/gf2_linalg.rt:373:9
 returns : tie.Need-returns
 unfolding solveCall
 returns c =
@@ -37,15 +28,12 @@ returns c =
     let fit : wellShaped (a .matrix .now) (a .out .now) (a .rows) (a .cols) (a .sides) ≡ false = sym (c .before .well-shaped .ensures) ∙ not-true _ (c .if1 .taken) in
     (simp fit, rw fit refl)
 
--- src/gf2_linalg.rt:376:9
 same-length-3 : tie.Need-same-length-3
 same-length-3 c = search needs
 
--- src/gf2_linalg.rt:376:9
 same-length-4 : tie.Need-same-length-4
 same-length-4 c = search needs
 
--- src/gf2_linalg.rt:376:9
 returns-2 : tie.Need-returns-2
 unfolding solveCall
 returns-2 c =
@@ -53,7 +41,6 @@ returns-2 c =
     let fit : wellShaped (a .matrix .now) (a .out .now) (a .rows) (a .cols) (a .sides) ≡ true = sym (c .before .before .well-shaped .ensures) ∙ not-false _ (c .before .if1 .left) in
     (simp (fit, le-ltb _ _ (c .if2 .taken)), rw (fit, le-ltb _ _ (c .if2 .taken)) refl)
 
--- src/gf2_linalg.rt:378:5
 eliminate-columns-requires : tie.Need-eliminate-columns-requires
 eliminate-columns-requires c κs =
     let a = c .before .before .before .before .before .before .before .before .args in
@@ -61,7 +48,6 @@ eliminate-columns-requires c κs =
     let sizes = fits-out _ _ _ _ (both-fit-out _ _ _ _ _ (well-shaped-out _ _ _ _ _ fit) .0) in
     (omega arith, omega arith)
 
--- src/gf2_linalg.rt:379:37
 add-answer : tie.Need-add-answer
 add-answer c =
     let a = c .before .before .before .before .before .before .before .before .before .before .before .before .before .args in
@@ -69,7 +55,6 @@ add-answer c =
     let sizes = fits-out _ _ _ _ (both-fit-out _ _ _ _ _ (well-shaped-out _ _ _ _ _ fit) .0) in
     omega arith
 
--- src/gf2_linalg.rt:379:5
 answer-requires : tie.Need-answer-requires
 answer-requires c κs =
     let a = c .before .before .before .before .before .before .before .before .before .before .before .before .before .args in
@@ -78,15 +63,12 @@ answer-requires c κs =
     let sizes = fits-out _ _ _ _ (both .0) in
     (omega arith, omega arith, omega arith, both .1)
 
--- src/gf2_linalg.rt:368:1
 same-length-5 : tie.Need-same-length-5
 same-length-5 c = search needs
 
--- src/gf2_linalg.rt:368:1
 same-length-6 : tie.Need-same-length-6
 same-length-6 c = search needs
 
--- src/gf2_linalg.rt:368:1
 returns-3 : tie.Need-returns-3
 unfolding solveCall
 returns-3 c =
