@@ -247,6 +247,7 @@ fn put_lead(matrix: &[u8], out: &mut [u8], row: usize, cols: usize, asked: usize
     set_bit(out, k);
 }
 
+// Out bits that no row sets, those past the last column too, become zero.
 fn put_leads(matrix: &[u8], out: &mut [u8], rows: usize, cols: usize, asked: usize)
     requires { ⌜ (rows * rowBytes ≤ length (now matrix)) × (cols ≤ mostColumns) × (asked < mostColumns)
         × (length (now out) ≡ rowBytes) ⌝ }
