@@ -2,6 +2,7 @@ pub mod Answer
 pub mod Records
 pub mod JobFile
 pub mod FlowFile
+pub mod Encoding
 pub mod Verdict
 pub mod Calls
 pub mod Programs
