@@ -8,3 +8,5 @@ pub mod Calls
 pub mod Programs
 pub mod Published
 pub mod Demand
+pub mod Refusals
+pub mod Views
