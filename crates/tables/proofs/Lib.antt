@@ -5,3 +5,6 @@ pub mod Writing
 pub mod Questions
 pub mod Verdict
 pub mod Published
+pub mod ReadingLoops
+pub mod ReadingHead
+pub mod ReadingEntries

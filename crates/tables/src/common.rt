@@ -379,19 +379,19 @@ pub fn one_member(sets: &[u8]) -> bool
 
 // ---- The questions of each kind, in order.
 
-fn ask_open(open: &[u8]) -> Checked
-    ensures { λ r. ⌜ checkedOf r ≡ passed (openNo (now (open .entry))) true ⌝ }
+fn ask_open(opening: &[u8]) -> Checked
+    ensures { λ r. ⌜ checkedOf r ≡ passed (openNo (now (opening .entry))) true ⌝ }
 {
-    if open.len() != 2 {
+    if opening.len() != 2 {
         return Checked::Refused(Refused::WrongLength);
     }
-    if open[0] > MOST_NODES {
+    if opening[0] > MOST_NODES {
         return Checked::Refused(Refused::WrongOpening);
     }
-    if open[1] < MODE_CAUSAL {
+    if opening[1] < MODE_CAUSAL {
         return Checked::Refused(Refused::WrongOpening);
     }
-    if open[1] > MODE_PAULI {
+    if opening[1] > MODE_PAULI {
         return Checked::Refused(Refused::WrongOpening);
     }
     Checked::Passed
@@ -548,9 +548,9 @@ pub fn read_job(file: &[u8]) -> JobRead
     ensures { λ r. ⌜ (jobOfRead (now (file .entry)) r ≡ readJob (now (file .entry))) × JobInside (length (now (file .entry))) r ⌝ }
 {
     match checked_record(file, 0, KIND_OPEN, Asks::Open) {
-        Found::Payload(open) => {
-            let start = open.start;
-            let end = open.end;
+        Found::Payload(opening) => {
+            let start = opening.start;
+            let end = opening.end;
             let n = wide(file[start]);
             let mode = file[start + 1];
             read_edges(file, n, mode, end)

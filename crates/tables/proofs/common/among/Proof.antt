@@ -1,3 +1,12 @@
+use mathlib.Core.Path.{_≡_, refl, sym, ap, _∙_}
+use mathlib.Core.Bool.{Bool, true, false, _&&_, _||_}
+use Prim.Native.Nat.{ℕ, _+_, _*_, _-_, _<_, _≤_}
+use native.Mathlib.Omega.{arith}
+use lib.Dec.{eqb, leb, ltb}
+use lib.ListN.{length, getD, drop}
+use Rattle.nodes.specs.NodeSet.{member}
+use Rattle.nodes.specs.NodeSet.{wordsOf}
+use Rattle.nodes.proofs.NodeSet.{member-past}
 use borrow.Author.Needs.{needs}
 use Rattle.tables.proofs.common.among.Statement.{statement}
 use Rattle.tables.proofs.common.among.Tie as tie
@@ -11,7 +20,7 @@ cast-if1 c = search needs
 
 -- src/common.rt:256:9
 returns : tie.Need-returns
-returns c = ?
+returns c = let a = c .before .args in sym (member-past (wordsOf (a .set)) (a .node) (omega arith))
 
 -- src/common.rt:258:13
 cast-has : tie.Need-cast-has
@@ -23,7 +32,7 @@ has-requires c κs = search needs
 
 -- src/common.rt:252:1
 returns-2 : tie.Need-returns-2
-returns-2 c = search needs
+returns-2 c = c .has .ensures
 
 pub among-spec : {M : Type 1} → statement M
 among-spec = tie.close (tie.spec cast-if1 returns cast-has has-requires returns-2)

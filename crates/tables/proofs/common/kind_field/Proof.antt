@@ -1,3 +1,10 @@
+use mathlib.Core.Path.{_≡_, refl, sym, ap, _∙_}
+use mathlib.Core.Bool.{Bool, true, false, _&&_, _||_}
+use Prim.Native.Nat.{ℕ, _+_, _*_, _-_, _<_, _≤_}
+use native.Mathlib.Omega.{arith}
+use lib.Dec.{eqb, leb, ltb}
+use lib.ListN.{length, getD, drop}
+use Rattle.tables.proofs.ReadingHead.{kind-at}
 use borrow.Author.Needs.{needs}
 use Rattle.tables.proofs.common.kind_field.Statement.{statement}
 use Rattle.tables.proofs.common.kind_field.Tie as tie
@@ -39,7 +46,7 @@ add-result c = search needs
 
 -- src/common.rt:136:1
 returns : tie.Need-returns
-returns c = ?
+returns c = let a = c .before .before .before .before .before .args in rw (c .wide2 .ensures .0, c .before .before .wide .ensures .0) (kind-at (a .file .now) (a .at))
 
 pub kind-field-spec : {M : Type 1} → statement M
 kind-field-spec =

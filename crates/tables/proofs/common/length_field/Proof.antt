@@ -1,3 +1,10 @@
+use mathlib.Core.Path.{_≡_, refl, sym, ap, _∙_}
+use mathlib.Core.Bool.{Bool, true, false, _&&_, _||_}
+use Prim.Native.Nat.{ℕ, _+_, _*_, _-_, _<_, _≤_}
+use native.Mathlib.Omega.{arith}
+use lib.Dec.{eqb, leb, ltb}
+use lib.ListN.{length, getD, drop}
+use Rattle.tables.proofs.ReadingHead.{length-at}
 use borrow.Author.Needs.{needs}
 use Rattle.tables.proofs.common.length_field.Statement.{statement}
 use Rattle.tables.proofs.common.length_field.Tie as tie
@@ -75,7 +82,7 @@ add-result-3 c = search needs
 
 -- src/common.rt:125:1
 returns : tie.Need-returns
-returns c = ?
+returns c = let a = c .before .before .before .before .before .before .before .before .before .args in (rw (c .wide4 .ensures .0, c .before .before .wide3 .ensures .0, c .before .before .before .before .wide2 .ensures .0, c .before .before .before .before .before .before .wide .ensures .0) (length-at (a .file .now) (a .at)), search needs)
 
 pub length-field-spec : {M : Type 1} → statement M
 length-field-spec =

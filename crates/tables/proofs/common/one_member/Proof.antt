@@ -1,0 +1,26 @@
+use borrow.Author.Needs.{needs}
+use Rattle.tables.proofs.common.one_member.Statement.{statement}
+use Rattle.tables.proofs.common.one_member.Tie as tie
+use Rattle.tables.proofs.common.one_member.Reads as reads
+use Rattle.tables.proofs.common.one_member.Lts as lts
+use Rattle.tables.proofs.common.counts_one.Reads as counts-one-reads
+use Rattle.tables.proofs.common.entries_end.Reads as entries-end-reads
+
+-- src/common.rt:374:9
+entries-end-requires : tie.Need-entries-end-requires
+entries-end-requires c κs = search needs
+
+-- src/common.rt:375:9
+returns : tie.Need-returns
+returns c = ?
+
+-- src/common.rt:377:5
+counts-one-requires : tie.Need-counts-one-requires
+counts-one-requires c κs = ?
+
+-- src/common.rt:371:1
+returns-2 : tie.Need-returns-2
+returns-2 c = search needs
+
+pub one-member-spec : {M : Type 1} → statement M
+one-member-spec = tie.close (tie.spec entries-end-requires returns counts-one-requires returns-2)
