@@ -8,3 +8,4 @@ pub mod Published
 pub mod ReadingLoops
 pub mod ReadingHead
 pub mod ReadingEntries
+pub mod ReadingRecords

@@ -1,3 +1,9 @@
+use mathlib.Core.Path.{_≡_, refl, sym, ap, _∙_}
+use mathlib.Core.Bool.{Bool, true, false, _&&_, _||_}
+use Prim.Native.Nat.{ℕ, _+_, _*_, _-_, _<_, _≤_}
+use native.Mathlib.Omega.{arith}
+use lib.Dec.{eqb, leb, ltb}
+use lib.ListN.{length, getD, drop}
 use borrow.Author.Needs.{needs}
 use Rattle.tables.proofs.common.ask.Statement.{statement}
 use Rattle.tables.proofs.common.ask.Tie as tie
@@ -60,27 +66,27 @@ ask-sets-requires c κs = search needs
 
 -- src/common.rt:463:1
 returns : tie.Need-returns
-returns c = ?
+returns c = rw (c .before .enum-told .given .1) (c .ask-open .ensures)
 
 -- src/common.rt:463:1
 returns-2 : tie.Need-returns-2
-returns-2 c = ?
+returns-2 c = rw (c .before .before .asks .given .1) (c .ask-edges .ensures)
 
 -- src/common.rt:463:1
 returns-3 : tie.Need-returns-3
-returns-3 c = ?
+returns-3 c = rw (c .before .before .asks2 .given .1) (c .ask-nodes .ensures)
 
 -- src/common.rt:463:1
 returns-4 : tie.Need-returns-4
-returns-4 c = ?
+returns-4 c = rw (c .before .before .asks3 .given .1) (c .ask-measurements .ensures)
 
 -- src/common.rt:463:1
 returns-5 : tie.Need-returns-5
-returns-5 c = ?
+returns-5 c = rw (c .before .before .asks4 .given .1) (c .ask-layers .ensures)
 
 -- src/common.rt:463:1
 returns-6 : tie.Need-returns-6
-returns-6 c = ?
+returns-6 c = rw (c .before .before .asks5 .given .1) (c .ask-sets .ensures)
 
 pub ask-spec : {M : Type 1} → statement M
 ask-spec =

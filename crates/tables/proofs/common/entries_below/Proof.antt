@@ -1,3 +1,13 @@
+use mathlib.Core.Path.{_≡_, refl, sym, ap, _∙_}
+use mathlib.Core.Bool.{Bool, true, false, _&&_, _||_}
+use Prim.Native.Nat.{ℕ, _+_, _*_, _-_, _<_, _≤_}
+use native.Mathlib.Omega.{arith}
+use lib.Dec.{eqb, leb, ltb}
+use lib.ListN.{length, getD, drop}
+use borrow.Author.Tests.{not-true, not-false, le-leb, lt-leb, lt-ltb, le-ltb, eq-eqb, ne-eqb}
+use Rattle.tables.specs.FlowFile.{entriesOf, framed, listed, allEntries, entryBelow}
+use Rattle.tables.proofs.ReadingEntries.{two-more, fits, framed-next, below-node, below-set, below-next, below-last}
+use borrow.Author.Needs.{needs}
 use Rattle.tables.proofs.common.entries_below.Statement.{statement}
 use Rattle.tables.proofs.common.entries_below.Tie as tie
 use Rattle.tables.proofs.common.entries_below.Reads as reads
@@ -6,78 +16,129 @@ use Rattle.tables.proofs.common.below.Reads as below-reads
 use Rattle.tables.proofs.common.wide.Reads as wide-reads
 
 abbrev Inv-loop : tie.InvT-loop
-Inv-loop sets n i₀ i = ?
+Inv-loop p n i₀ i = (i ≤ length p) × (framed (entriesOf (drop i p)) ≡ true) × (allEntries (entryBelow n) (listed (entriesOf p)) ≡ allEntries (entryBelow n) (listed (entriesOf (drop i p))))
 
 abbrev μ-loop : tie.MeasureT-loop
-μ-loop sets n i₀ i = ?
+μ-loop p n i₀ i = length p - i
 
 -- src/common.rt:316:5
 loop-holds : tie.Need-loop-holds Inv-loop μ-loop
-loop-holds c = ?
+loop-holds c = (search needs, c .before .pre, refl)
 
 -- src/common.rt:317:31
 add-wide : tie.Need-add-wide Inv-loop μ-loop
-add-wide c = ?
+add-wide c = let l = c .before .loop in
+    let p = c .before .before .before .args .sets .now in
+    let x = two-more p (l .i) (l .inv .1) (omega arith) in
+    let y = fits p (l .i) (l .inv .1) (omega arith) in
+    search needs
 
 -- src/common.rt:317:26
 shared-slice-read-wide : tie.Need-shared-slice-read-wide Inv-loop μ-loop
-shared-slice-read-wide c = ?
+shared-slice-read-wide c = let l = c .before .before .loop in
+    let p = c .before .before .before .before .args .sets .now in
+    let x = two-more p (l .i) (l .inv .1) (omega arith) in
+    let y = fits p (l .i) (l .inv .1) (omega arith) in
+    omega arith
 
 -- src/common.rt:317:13
 wide-requires : tie.Need-wide-requires Inv-loop μ-loop
-wide-requires c κs = ?
+wide-requires c κs = search needs
 
 -- src/common.rt:318:21
 add-start : tie.Need-add-start Inv-loop μ-loop
-add-start c = ?
+add-start c = let l = c .before .before .before .loop in
+    let p = c .before .before .before .before .before .args .sets .now in
+    let x = two-more p (l .i) (l .inv .1) (omega arith) in
+    let y = fits p (l .i) (l .inv .1) (omega arith) in
+    search needs
 
 -- src/common.rt:319:19
 add-end : tie.Need-add-end Inv-loop μ-loop
-add-end c = ?
+add-end c = let l = c .before .before .before .loop in
+    let p = c .before .before .before .before .before .args .sets .now in
+    let x = two-more p (l .i) (l .inv .1) (omega arith) in
+    let y = fits p (l .i) (l .inv .1) (omega arith) in
+    search needs
 
 -- src/common.rt:320:17
 shared-slice-read-wide-2 : tie.Need-shared-slice-read-wide-2 Inv-loop μ-loop
-shared-slice-read-wide-2 c = ?
+shared-slice-read-wide-2 c = let l = c .before .before .before .before .loop in
+    let p = c .before .before .before .before .before .before .args .sets .now in
+    let x = two-more p (l .i) (l .inv .1) (omega arith) in
+    let y = fits p (l .i) (l .inv .1) (omega arith) in
+    omega arith
 
 -- src/common.rt:320:12
 wide-requires-2 : tie.Need-wide-requires-2 Inv-loop μ-loop
-wide-requires-2 c κs = ?
+wide-requires-2 c κs = search needs
 
 -- src/common.rt:321:13
 returns : tie.Need-returns Inv-loop μ-loop
-returns c = ?
+returns c = let l = c .before .before .before .before .before .before .loop in
+    let p = c .before .before .before .before .before .before .before .before .args .sets .now in
+    let x = two-more p (l .i) (l .inv .1) (omega arith) in
+    let y = fits p (l .i) (l .inv .1) (omega arith) in
+    sym (l .inv .2 ∙ below-node p (l .i) (l .i + 2 + getD p (l .i + 1) 0) refl y (l .inv .1) (c .before .before .before .before .before .before .before .before .args .n) (omega arith))
 
 -- src/common.rt:323:19
 sub-below : tie.Need-sub-below Inv-loop μ-loop
-sub-below c = ?
+sub-below c = let l = c .before .before .before .before .before .before .loop in
+    let p = c .before .before .before .before .before .before .before .before .args .sets .now in
+    let x = two-more p (l .i) (l .inv .1) (omega arith) in
+    let y = fits p (l .i) (l .inv .1) (omega arith) in
+    search needs
 
 -- src/common.rt:323:19
 part-below-start : tie.Need-part-below-start Inv-loop μ-loop
-part-below-start c = ?
+part-below-start c = let l = c .before .before .before .before .before .before .loop in
+    let p = c .before .before .before .before .before .before .before .before .args .sets .now in
+    let x = two-more p (l .i) (l .inv .1) (omega arith) in
+    let y = fits p (l .i) (l .inv .1) (omega arith) in
+    search needs
 
 -- src/common.rt:323:19
 part-below-end : tie.Need-part-below-end Inv-loop μ-loop
-part-below-end c = ?
+part-below-end c = let l = c .before .before .before .before .before .before .loop in
+    let p = c .before .before .before .before .before .before .before .before .args .sets .now in
+    let x = two-more p (l .i) (l .inv .1) (omega arith) in
+    let y = fits p (l .i) (l .inv .1) (omega arith) in
+    search needs
 
 -- src/common.rt:323:13
 below-requires : tie.Need-below-requires Inv-loop μ-loop
-below-requires c κs = ?
+below-requires c κs = search needs
 
 -- src/common.rt:324:13
 returns-2 : tie.Need-returns-2 Inv-loop μ-loop
-returns-2 c = ?
+returns-2 c = let l = c .before .before .before .before .before .before .before .before .before .loop in
+    let p = c .before .before .before .before .before .before .before .before .before .before .before .args .sets .now in
+    let x = two-more p (l .i) (l .inv .1) (omega arith) in
+    let y = fits p (l .i) (l .inv .1) (omega arith) in
+    let w = c .before .before .before .before .before .before .wide .ensures .0 in
+    sym (l .inv .2 ∙ below-set p (l .i) _ (ap (λ (x : ℕ). l .i + 2 + x) w) (omega arith) (l .inv .1) (c .before .before .before .before .before .before .before .before .before .before .before .args .n) (omega arith) (sym (c .before .below .ensures) ∙ not-true _ (c .if2 .taken)))
 
 -- src/common.rt:316:5
 loop-less : tie.Need-loop-less Inv-loop μ-loop
-loop-less c = ?
+loop-less c = search needs
 
 -- src/common.rt:316:5
 loop-again : tie.Need-loop-again Inv-loop μ-loop
-loop-again c = ?
+loop-again c = let l = c .before .before .before .before .before .before .before .before .before .loop in
+    let p = c .before .before .before .before .before .before .before .before .before .before .before .args .sets .now in
+    let x = two-more p (l .i) (l .inv .1) (omega arith) in
+    let y = fits p (l .i) (l .inv .1) (omega arith) in
+    let w = c .before .before .before .before .before .before .wide .ensures .0 in (
+      omega arith,
+      sym (framed-next p (l .i) _ (ap (λ (x : ℕ). l .i + 2 + x) w) (omega arith)) ∙ l .inv .1,
+      l .inv .2 ∙ below-next p (l .i) _ (ap (λ (x : ℕ). l .i + 2 + x) w) (omega arith) (l .inv .1) (c .before .before .before .before .before .before .before .before .before .before .before .args .n) (omega arith) (sym (c .before .below .ensures) ∙ not-false _ (c .if2 .left)),
+    )
 
 -- src/common.rt:311:1
 returns-3 : tie.Need-returns-3 Inv-loop μ-loop
-returns-3 c = ?
+returns-3 c = let l = c .before .loop in
+    let p = c .before .before .before .args .sets .now in
+    sym (l .inv .2 ∙ below-last p (l .i) (c .before .before .before .args .n) (omega arith))
 
 pub entries-below-spec : {M : Type 1} → statement M
 entries-below-spec =

@@ -1,3 +1,13 @@
+use mathlib.Core.Path.{_≡_, refl, sym, ap, _∙_}
+use mathlib.Core.Bool.{Bool, true, false, _&&_, _||_}
+use Prim.Native.Nat.{ℕ, _+_, _*_, _-_, _<_, _≤_}
+use native.Mathlib.Omega.{arith}
+use lib.Dec.{eqb, leb, ltb}
+use lib.ListN.{length, getD, drop}
+use borrow.Author.Tests.{not-true, not-false, le-leb, lt-leb, lt-ltb, le-ltb, eq-eqb, ne-eqb}
+use Rattle.tables.specs.FlowFile.{entriesOf, framed, listed, entriesRise}
+use Rattle.tables.proofs.ReadingEntries.{two-more, fits, framed-next, rise-node, rise-set, rise-next, rise-last}
+use borrow.Author.Needs.{needs}
 use Rattle.tables.proofs.common.entries_rising.Statement.{statement}
 use Rattle.tables.proofs.common.entries_rising.Tie as tie
 use Rattle.tables.proofs.common.entries_rising.Reads as reads
@@ -6,82 +16,130 @@ use Rattle.tables.proofs.common.rising.Reads as rising-reads
 use Rattle.tables.proofs.common.wide.Reads as wide-reads
 
 abbrev Inv-loop : tie.InvT-loop
-Inv-loop sets low₀ i₀ low i = ?
+Inv-loop p low₀ i₀ low i = (i ≤ length p) × (framed (entriesOf (drop i p)) ≡ true) × (entriesRise 0 (listed (entriesOf p)) ≡ entriesRise low (listed (entriesOf (drop i p))))
 
 abbrev μ-loop : tie.MeasureT-loop
-μ-loop sets low₀ i₀ low i = ?
+μ-loop p low₀ i₀ low i = length p - i
 
 -- src/common.rt:338:5
 loop-holds : tie.Need-loop-holds Inv-loop μ-loop
-loop-holds c = ?
+loop-holds c = (search needs, c .before .pre, refl)
 
 -- src/common.rt:339:22
 shared-slice-read-wide : tie.Need-shared-slice-read-wide Inv-loop μ-loop
-shared-slice-read-wide c = ?
+shared-slice-read-wide c = search needs
 
 -- src/common.rt:339:13
 wide-requires : tie.Need-wide-requires Inv-loop μ-loop
-wide-requires c κs = ?
+wide-requires c κs = search needs
 
 -- src/common.rt:340:31
 add-wide : tie.Need-add-wide Inv-loop μ-loop
-add-wide c = ?
+add-wide c = let l = c .before .before .before .loop in
+    let p = c .before .before .before .before .before .args .sets .now in
+    let x = two-more p (l .i) (l .inv .1) (omega arith) in
+    let y = fits p (l .i) (l .inv .1) (omega arith) in
+    search needs
 
 -- src/common.rt:340:26
 shared-slice-read-wide-2 : tie.Need-shared-slice-read-wide-2 Inv-loop μ-loop
-shared-slice-read-wide-2 c = ?
+shared-slice-read-wide-2 c = let l = c .before .before .before .before .loop in
+    let p = c .before .before .before .before .before .before .args .sets .now in
+    let x = two-more p (l .i) (l .inv .1) (omega arith) in
+    let y = fits p (l .i) (l .inv .1) (omega arith) in
+    omega arith
 
 -- src/common.rt:340:13
 wide-requires-2 : tie.Need-wide-requires-2 Inv-loop μ-loop
-wide-requires-2 c κs = ?
+wide-requires-2 c κs = search needs
 
 -- src/common.rt:341:21
 add-start : tie.Need-add-start Inv-loop μ-loop
-add-start c = ?
+add-start c = let l = c .before .before .before .before .before .loop in
+    let p = c .before .before .before .before .before .before .before .args .sets .now in
+    let x = two-more p (l .i) (l .inv .1) (omega arith) in
+    let y = fits p (l .i) (l .inv .1) (omega arith) in
+    search needs
 
 -- src/common.rt:342:19
 add-end : tie.Need-add-end Inv-loop μ-loop
-add-end c = ?
+add-end c = let l = c .before .before .before .before .before .loop in
+    let p = c .before .before .before .before .before .before .before .args .sets .now in
+    let x = two-more p (l .i) (l .inv .1) (omega arith) in
+    let y = fits p (l .i) (l .inv .1) (omega arith) in
+    search needs
 
 -- src/common.rt:344:13
 returns : tie.Need-returns Inv-loop μ-loop
-returns c = ?
+returns c = let l = c .before .before .before .before .before .before .loop in
+    let p = c .before .before .before .before .before .before .before .before .args .sets .now in
+    let x = two-more p (l .i) (l .inv .1) (omega arith) in
+    let y = fits p (l .i) (l .inv .1) (omega arith) in
+    sym (l .inv .2 ∙ rise-node p (l .i) (l .i + 2 + getD p (l .i + 1) 0) refl y (l .inv .1) (l .low) (omega arith))
 
 -- src/common.rt:346:20
 sub-rising : tie.Need-sub-rising Inv-loop μ-loop
-sub-rising c = ?
+sub-rising c = let l = c .before .before .before .before .before .before .loop in
+    let p = c .before .before .before .before .before .before .before .before .args .sets .now in
+    let x = two-more p (l .i) (l .inv .1) (omega arith) in
+    let y = fits p (l .i) (l .inv .1) (omega arith) in
+    search needs
 
 -- src/common.rt:346:20
 part-rising-start : tie.Need-part-rising-start Inv-loop μ-loop
-part-rising-start c = ?
+part-rising-start c = let l = c .before .before .before .before .before .before .loop in
+    let p = c .before .before .before .before .before .before .before .before .args .sets .now in
+    let x = two-more p (l .i) (l .inv .1) (omega arith) in
+    let y = fits p (l .i) (l .inv .1) (omega arith) in
+    search needs
 
 -- src/common.rt:346:20
 part-rising-end : tie.Need-part-rising-end Inv-loop μ-loop
-part-rising-end c = ?
+part-rising-end c = let l = c .before .before .before .before .before .before .loop in
+    let p = c .before .before .before .before .before .before .before .before .args .sets .now in
+    let x = two-more p (l .i) (l .inv .1) (omega arith) in
+    let y = fits p (l .i) (l .inv .1) (omega arith) in
+    search needs
 
 -- src/common.rt:346:13
 rising-requires : tie.Need-rising-requires Inv-loop μ-loop
-rising-requires c κs = ?
+rising-requires c κs = search needs
 
 -- src/common.rt:347:13
 returns-2 : tie.Need-returns-2 Inv-loop μ-loop
-returns-2 c = ?
+returns-2 c = let l = c .before .before .before .before .before .before .before .before .before .loop in
+    let p = c .before .before .before .before .before .before .before .before .before .before .before .args .sets .now in
+    let x = two-more p (l .i) (l .inv .1) (omega arith) in
+    let y = fits p (l .i) (l .inv .1) (omega arith) in
+    let w = c .before .before .before .before .wide2 .ensures .0 in
+    sym (l .inv .2 ∙ rise-set p (l .i) _ (ap (λ (x : ℕ). l .i + 2 + x) w) (omega arith) (l .inv .1) (l .low) (omega arith) (sym (c .before .rising .ensures) ∙ not-true _ (c .if2 .taken)))
 
 -- src/common.rt:349:15
 add-low : tie.Need-add-low Inv-loop μ-loop
-add-low c = ?
+add-low c = search needs
 
 -- src/common.rt:338:5
 loop-less : tie.Need-loop-less Inv-loop μ-loop
-loop-less c = ?
+loop-less c = search needs
 
 -- src/common.rt:338:5
 loop-again : tie.Need-loop-again Inv-loop μ-loop
-loop-again c = ?
+loop-again c = let l = c .before .before .before .before .before .before .before .before .before .loop in
+    let p = c .before .before .before .before .before .before .before .before .before .before .before .args .sets .now in
+    let x = two-more p (l .i) (l .inv .1) (omega arith) in
+    let y = fits p (l .i) (l .inv .1) (omega arith) in
+    let w = c .before .before .before .before .wide2 .ensures .0 in (
+      omega arith,
+      sym (framed-next p (l .i) _ (ap (λ (x : ℕ). l .i + 2 + x) w) (omega arith)) ∙ l .inv .1,
+      l .inv .2 ∙ rise-next p (l .i) _ (ap (λ (x : ℕ). l .i + 2 + x) w) (omega arith) (l .inv .1) (l .low) (omega arith) (sym (c .before .rising .ensures) ∙ not-false _ (c .if2 .left))
+          ∙ ap (λ (x : ℕ). entriesRise (x + 1) (listed (entriesOf (drop (l .i + 2 + c .before .before .before .before .wide2 .result) p)))) (sym (c .before .before .before .before .before .before .wide .ensures .0)),
+    )
 
 -- src/common.rt:332:1
 returns-3 : tie.Need-returns-3 Inv-loop μ-loop
-returns-3 c = ?
+returns-3 c = let l = c .before .loop in
+    let p = c .before .before .before .args .sets .now in
+    sym (l .inv .2 ∙ rise-last p (l .i) (l .low) (omega arith))
 
 pub entries-rising-spec : {M : Type 1} → statement M
 entries-rising-spec =

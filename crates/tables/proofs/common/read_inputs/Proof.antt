@@ -1,3 +1,11 @@
+use mathlib.Core.Path.{_≡_, refl, sym, ap, _∙_}
+use mathlib.Core.Bool.{Bool, true, false, _&&_, _||_}
+use Prim.Native.Nat.{ℕ, _+_, _*_, _-_, _<_, _≤_}
+use native.Mathlib.Omega.{arith}
+use lib.Dec.{eqb, leb, ltb}
+use lib.ListN.{length, getD, drop}
+use Rattle.tables.specs.JobFile.{readInputs}
+use Rattle.tables.proofs.ReadingRecords.{found-part, found-no, inside-of}
 use borrow.Author.Needs.{needs}
 use Rattle.tables.proofs.common.read_inputs.Statement.{statement}
 use Rattle.tables.proofs.common.read_inputs.Tie as tie
@@ -16,7 +24,9 @@ enum-known-inputs c = search needs
 
 -- src/common.rt:532:35
 read-outputs-requires : tie.Need-read-outputs-requires
-read-outputs-requires c κs = ?
+read-outputs-requires c κs = let s = c .before .before .before .before .before .args .file .now in
+    let r = c .before .before .before .checked-record in
+    (c .before .before .before .before .before .pre .0, c .before .before .before .before .before .pre .1, inside-of (length s) (r .result) (r .ensures .1) _ (c .before .inputs .given .1))
 
 -- src/common.rt:533:24
 enum-known-q : tie.Need-enum-known-q
@@ -24,11 +34,17 @@ enum-known-q c = search needs
 
 -- src/common.rt:526:1
 returns : tie.Need-returns
-returns c = ?
+unfolding readInputs
+returns c = let s = c .before .before .before .before .before .before .args .file .now in
+    let r = c .before .before .before .before .checked-record in
+    (rw (found-part s (r .result) (r .ensures .0) _ (c .before .before .inputs .given .1)) (c .read-outputs .ensures .0), c .read-outputs .ensures .1)
 
 -- src/common.rt:526:1
 returns-2 : tie.Need-returns-2
-returns-2 c = ?
+unfolding readInputs
+returns-2 c = let s = c .before .before .before .before .before .args .file .now in
+    let r = c .before .before .before .checked-record in
+    (rw (found-no s (r .result) (r .ensures .0) _ (c .before .q .given .1)) refl, tt)
 
 pub read-inputs-spec : {M : Type 1} → statement M
 read-inputs-spec =

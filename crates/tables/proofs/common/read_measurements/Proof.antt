@@ -1,3 +1,14 @@
+use mathlib.Core.Path.{_≡_, refl, sym, ap, _∙_}
+use mathlib.Core.Bool.{Bool, true, false, _&&_, _||_}
+use Prim.Native.Nat.{ℕ, _+_, _*_, _-_, _<_, _≤_}
+use native.Mathlib.Omega.{arith}
+use lib.Dec.{eqb, leb, ltb}
+use lib.ListN.{length, getD, drop}
+use Rattle.nodes.specs.NodeSet.{member}
+use Rattle.tables.specs.JobFile.{has, readMeasurements}
+use Rattle.tables.specs.Views.{bytesAt}
+use Rattle.tables.proofs.ReadingRecords.{found-part, found-no, inside-of, has-small}
+use mathlib.Core.Path.{fun-ext}
 use borrow.Author.Needs.{needs}
 use Rattle.tables.proofs.common.read_measurements.Statement.{statement}
 use Rattle.tables.proofs.common.read_measurements.Tie as tie
@@ -36,11 +47,19 @@ enum-known-q c = search needs
 
 -- src/common.rt:495:1
 returns : tie.Need-returns
-returns c = ?
+unfolding readMeasurements
+returns c = let s = c .before .before .before .before .before .before .before .args .file .now in
+    let r = c .before .before .before .checked-record in
+    let m : member (c .before .before .before .before .set-of .result) ≡ has (bytesAt (c .before .before .before .before .before .before .before .args .outputs) s) = c .before .before .before .before .set-of .ensures ∙ fun-ext (has-small (c .before .before .before .before .before .before .before .args .n) (bytesAt (c .before .before .before .before .before .before .before .args .outputs) s) (c .before .before .before .before .before .before .before .pre .0) (c .before .before .before .before .before .before .before .pre .4)) in
+    (rw (← m, found-part s (r .result) (r .ensures .0) _ (c .before .measurements .given .1)) refl, record { edges = c .before .before .before .before .before .before .before .pre .1; inputs = c .before .before .before .before .before .before .before .pre .2; outputs = c .before .before .before .before .before .before .before .pre .3; measurements = inside-of (length s) (r .result) (r .ensures .1) _ (c .before .measurements .given .1) })
 
 -- src/common.rt:495:1
 returns-2 : tie.Need-returns-2
-returns-2 c = ?
+unfolding readMeasurements
+returns-2 c = let s = c .before .before .before .before .before .before .before .args .file .now in
+    let r = c .before .before .before .checked-record in
+    let m : member (c .before .before .before .before .set-of .result) ≡ has (bytesAt (c .before .before .before .before .before .before .before .args .outputs) s) = c .before .before .before .before .set-of .ensures ∙ fun-ext (has-small (c .before .before .before .before .before .before .before .args .n) (bytesAt (c .before .before .before .before .before .before .before .args .outputs) s) (c .before .before .before .before .before .before .before .pre .0) (c .before .before .before .before .before .before .before .pre .4)) in
+    (rw (← m, found-no s (r .result) (r .ensures .0) _ (c .before .q .given .1)) refl, tt)
 
 pub read-measurements-spec : {M : Type 1} → statement M
 read-measurements-spec =

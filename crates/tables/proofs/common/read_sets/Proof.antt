@@ -1,3 +1,11 @@
+use mathlib.Core.Path.{_≡_, refl, sym, ap, _∙_}
+use mathlib.Core.Bool.{Bool, true, false, _&&_, _||_}
+use Prim.Native.Nat.{ℕ, _+_, _*_, _-_, _<_, _≤_}
+use native.Mathlib.Omega.{arith}
+use lib.Dec.{eqb, leb, ltb}
+use lib.ListN.{length, getD, drop}
+use Rattle.tables.specs.FlowFile.{readSets}
+use Rattle.tables.proofs.ReadingRecords.{found-part, found-no, inside-of}
 use borrow.Author.Needs.{needs}
 use Rattle.tables.proofs.common.read_sets.Statement.{statement}
 use Rattle.tables.proofs.common.read_sets.Tie as tie
@@ -19,11 +27,17 @@ enum-known-q c = search needs
 
 -- src/common.rt:564:1
 returns : tie.Need-returns
-returns c = ?
+unfolding readSets
+returns c = let s = c .before .before .before .before .before .args .file .now in
+    let r = c .before .before .before .checked-record in
+    (rw (found-part s (r .result) (r .ensures .0) _ (c .before .sets .given .1)) refl, record { layers = c .before .before .before .before .before .pre; sets = inside-of (length s) (r .result) (r .ensures .1) _ (c .before .sets .given .1) })
 
 -- src/common.rt:564:1
 returns-2 : tie.Need-returns-2
-returns-2 c = ?
+unfolding readSets
+returns-2 c = let s = c .before .before .before .before .before .args .file .now in
+    let r = c .before .before .before .checked-record in
+    (rw (found-no s (r .result) (r .ensures .0) _ (c .before .q .given .1)) refl, tt)
 
 pub read-sets-spec : {M : Type 1} → statement M
 read-sets-spec =
