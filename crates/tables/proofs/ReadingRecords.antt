@@ -47,8 +47,8 @@ module _ (s : List ℕ) (r : Found) {m : Answer Part} (e : partOf s r ≡ m) whe
   pub found-no : (q : Refused) → r ≡ NotFound q → m ≡ refuses (refusalOf q)
   found-no q h = sym e ∙ ap (partOf s) h
 
-pub inside-of : (n : ℕ) (r : Found) → Inside n r → (p : Place) → r ≡ Payload p → Lies n p
-inside-of n r h p e = rw e at h
+pub inside-of : (s : List ℕ) (r : Found) → Inside s r → (p : Place) → r ≡ Payload p → Lies s p
+inside-of s r h p e = rw e at h
 
 module _ (s t : List ℕ) (kind : ℕ) (r : Found) (e : partOf s r ≡ part kind t) (test : List ℕ → ℕ) where
   pub checked-stops : (q : Refused) → r ≡ NotFound q → refuses (refusalOf q) ≡ checked kind test t
@@ -79,7 +79,7 @@ two-and-few p e =
     let (g, h) = and-out (leb (getD p 0 0) 128 && leb 1 (getD p 1 0)) (leb (getD p 1 0) 3) d in
     (eqb-true (length p) 2 a, leb-true (getD p 0 0) 128 (and-out (leb (getD p 0 0) 128) (leb 1 (getD p 1 0)) g .0))
 
-pub opened : (s t : List ℕ) (p : Place) → Lies (length s) p → checked kindOpen openNo t ≡ gives (partAt s p) → Opened s p
+pub opened : (s t : List ℕ) (p : Place) → Lies s p → checked kindOpen openNo t ≡ gives (partAt s p) → Opened s p
 opened s t p i e =
     let (l, f) = two-and-few (bytesAt p s) (checked-passed kindOpen openNo t (partAt s p) e .1) in
     let d : p .end - p .start ≡ 2 = sym (between-length (p .start) (p .end) s (i .0) (i .1)) ∙ l in

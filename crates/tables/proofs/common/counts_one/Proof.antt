@@ -5,7 +5,7 @@ use native.Mathlib.Omega.{arith}
 use lib.Dec.{eqb, leb, ltb}
 use lib.ListN.{length, getD, drop}
 use Rattle.tables.specs.FlowFile.{entriesOf, framed, listed, allEntries}
-use Rattle.tables.proofs.ReadingEntries.{two-more, fits, framed-next, one-no, one-next, one-last}
+use Rattle.tables.proofs.ReadingEntries.{fits, framed-next, one-no, one-next, one-last}
 use borrow.Author.Needs.{needs}
 use Rattle.tables.proofs.common.counts_one.Statement.{statement}
 use Rattle.tables.proofs.common.counts_one.Tie as tie
@@ -18,40 +18,34 @@ Inv-loop p i₀ i = (i ≤ length p) × (framed (entriesOf (drop i p)) ≡ true)
 abbrev μ-loop : tie.MeasureT-loop
 μ-loop p i₀ i = length p - i
 
+-- the entry that starts at i lies in the payload
+fits-here : (c : tie.In-loop Inv-loop μ-loop) → let l = c .before .loop in let p = c .before .before .args .sets .now in l .i + 2 + getD p (l .i + 1) 0 ≤ length p
+fits-here c = let l = c .before .loop in fits (c .before .before .args .sets .now) (l .i) (l .inv .1) (omega arith)
+
 -- src/common.rt:361:5
 loop-holds : tie.Need-loop-holds Inv-loop μ-loop
 loop-holds c = (search needs, c .pre, refl)
 
 -- src/common.rt:362:17
 add-if1 : tie.Need-add-if1 Inv-loop μ-loop
-add-if1 c = let l = c .before .loop in
-    let p = c .before .before .args .sets .now in
-    let x = two-more p (l .i) (l .inv .1) (omega arith) in
-    let y = fits p (l .i) (l .inv .1) (omega arith) in
-    search needs
+add-if1 c = let y = fits-here c in search needs
 
 -- src/common.rt:362:12
 shared-slice-read-if1 : tie.Need-shared-slice-read-if1 Inv-loop μ-loop
-shared-slice-read-if1 c = let l = c .before .before .loop in
-    let p = c .before .before .before .args .sets .now in
-    let x = two-more p (l .i) (l .inv .1) (omega arith) in
-    let y = fits p (l .i) (l .inv .1) (omega arith) in
-    omega arith
+shared-slice-read-if1 c = let y = fits-here (c .before) in omega arith
 
 -- src/common.rt:363:13
 returns : tie.Need-returns Inv-loop μ-loop
 returns c = let l = c .before .before .before .loop in
     let p = c .before .before .before .before .args .sets .now in
-    let x = two-more p (l .i) (l .inv .1) (omega arith) in
-    let y = fits p (l .i) (l .inv .1) (omega arith) in
+    let y = fits-here (c .before .before) in
     sym (l .inv .2 ∙ one-no p (l .i) (l .i + 2 + getD p (l .i + 1) 0) refl y (l .inv .1) (c .if1 .taken))
 
 -- src/common.rt:365:9
 add-i : tie.Need-add-i Inv-loop μ-loop
 add-i c = let l = c .before .before .before .loop in
     let p = c .before .before .before .before .args .sets .now in
-    let x = two-more p (l .i) (l .inv .1) (omega arith) in
-    let y = fits p (l .i) (l .inv .1) (omega arith) in
+    let y = fits-here (c .before .before) in
     let o : getD p (l .i + 1) 0 ≡ 1 = c .if1 .left in
     search needs
 
@@ -63,8 +57,7 @@ loop-less c = search needs
 loop-again : tie.Need-loop-again Inv-loop μ-loop
 loop-again c = let l = c .before .before .before .loop in
     let p = c .before .before .before .before .args .sets .now in
-    let x = two-more p (l .i) (l .inv .1) (omega arith) in
-    let y = fits p (l .i) (l .inv .1) (omega arith) in
+    let y = fits-here (c .before .before) in
     let o : getD p (l .i + 1) 0 ≡ 1 = c .if1 .left in (
       omega arith,
       sym (framed-next p (l .i) (l .i + 3) (omega arith) (omega arith)) ∙ l .inv .1,

@@ -6,7 +6,7 @@ use lib.Dec.{eqb, leb, ltb}
 use lib.ListN.{length, getD, drop}
 use borrow.Author.Tests.{not-true, not-false, le-leb, lt-leb, lt-ltb, le-ltb, eq-eqb, ne-eqb}
 use Rattle.tables.specs.FlowFile.{entriesOf, framed, listed, entriesRise}
-use Rattle.tables.proofs.ReadingEntries.{two-more, fits, framed-next, rise-node, rise-set, rise-next, rise-last}
+use Rattle.tables.proofs.ReadingEntries.{fits, framed-next, rise-node, rise-set, rise-next, rise-last}
 use borrow.Author.Needs.{needs}
 use Rattle.tables.proofs.common.entries_rising.Statement.{statement}
 use Rattle.tables.proofs.common.entries_rising.Tie as tie
@@ -20,6 +20,10 @@ Inv-loop p low₀ i₀ low i = (i ≤ length p) × (framed (entriesOf (drop i p)
 
 abbrev μ-loop : tie.MeasureT-loop
 μ-loop p low₀ i₀ low i = length p - i
+
+-- the entry that starts at i lies in the payload
+fits-here : (c : tie.In-loop Inv-loop μ-loop) → let l = c .before .loop in let p = c .before .before .before .args .sets .now in l .i + 2 + getD p (l .i + 1) 0 ≤ length p
+fits-here c = let l = c .before .loop in fits (c .before .before .before .args .sets .now) (l .i) (l .inv .1) (omega arith)
 
 -- src/common.rt:338:5
 loop-holds : tie.Need-loop-holds Inv-loop μ-loop
@@ -35,19 +39,11 @@ wide-requires c κs = search needs
 
 -- src/common.rt:340:31
 add-wide : tie.Need-add-wide Inv-loop μ-loop
-add-wide c = let l = c .before .before .before .loop in
-    let p = c .before .before .before .before .before .args .sets .now in
-    let x = two-more p (l .i) (l .inv .1) (omega arith) in
-    let y = fits p (l .i) (l .inv .1) (omega arith) in
-    search needs
+add-wide c = let y = fits-here (c .before .before) in search needs
 
 -- src/common.rt:340:26
 shared-slice-read-wide-2 : tie.Need-shared-slice-read-wide-2 Inv-loop μ-loop
-shared-slice-read-wide-2 c = let l = c .before .before .before .before .loop in
-    let p = c .before .before .before .before .before .before .args .sets .now in
-    let x = two-more p (l .i) (l .inv .1) (omega arith) in
-    let y = fits p (l .i) (l .inv .1) (omega arith) in
-    omega arith
+shared-slice-read-wide-2 c = let y = fits-here (c .before .before .before) in omega arith
 
 -- src/common.rt:340:13
 wide-requires-2 : tie.Need-wide-requires-2 Inv-loop μ-loop
@@ -55,51 +51,30 @@ wide-requires-2 c κs = search needs
 
 -- src/common.rt:341:21
 add-start : tie.Need-add-start Inv-loop μ-loop
-add-start c = let l = c .before .before .before .before .before .loop in
-    let p = c .before .before .before .before .before .before .before .args .sets .now in
-    let x = two-more p (l .i) (l .inv .1) (omega arith) in
-    let y = fits p (l .i) (l .inv .1) (omega arith) in
-    search needs
+add-start c = let y = fits-here (c .before .before .before .before) in search needs
 
 -- src/common.rt:342:19
 add-end : tie.Need-add-end Inv-loop μ-loop
-add-end c = let l = c .before .before .before .before .before .loop in
-    let p = c .before .before .before .before .before .before .before .args .sets .now in
-    let x = two-more p (l .i) (l .inv .1) (omega arith) in
-    let y = fits p (l .i) (l .inv .1) (omega arith) in
-    search needs
+add-end c = let y = fits-here (c .before .before .before .before) in search needs
 
 -- src/common.rt:344:13
 returns : tie.Need-returns Inv-loop μ-loop
 returns c = let l = c .before .before .before .before .before .before .loop in
     let p = c .before .before .before .before .before .before .before .before .args .sets .now in
-    let x = two-more p (l .i) (l .inv .1) (omega arith) in
-    let y = fits p (l .i) (l .inv .1) (omega arith) in
+    let y = fits-here (c .before .before .before .before .before) in
     sym (l .inv .2 ∙ rise-node p (l .i) (l .i + 2 + getD p (l .i + 1) 0) refl y (l .inv .1) (l .low) (omega arith))
 
 -- src/common.rt:346:20
 sub-rising : tie.Need-sub-rising Inv-loop μ-loop
-sub-rising c = let l = c .before .before .before .before .before .before .loop in
-    let p = c .before .before .before .before .before .before .before .before .args .sets .now in
-    let x = two-more p (l .i) (l .inv .1) (omega arith) in
-    let y = fits p (l .i) (l .inv .1) (omega arith) in
-    search needs
+sub-rising c = let y = fits-here (c .before .before .before .before .before) in search needs
 
 -- src/common.rt:346:20
 part-rising-start : tie.Need-part-rising-start Inv-loop μ-loop
-part-rising-start c = let l = c .before .before .before .before .before .before .loop in
-    let p = c .before .before .before .before .before .before .before .before .args .sets .now in
-    let x = two-more p (l .i) (l .inv .1) (omega arith) in
-    let y = fits p (l .i) (l .inv .1) (omega arith) in
-    search needs
+part-rising-start c = let y = fits-here (c .before .before .before .before .before) in search needs
 
 -- src/common.rt:346:20
 part-rising-end : tie.Need-part-rising-end Inv-loop μ-loop
-part-rising-end c = let l = c .before .before .before .before .before .before .loop in
-    let p = c .before .before .before .before .before .before .before .before .args .sets .now in
-    let x = two-more p (l .i) (l .inv .1) (omega arith) in
-    let y = fits p (l .i) (l .inv .1) (omega arith) in
-    search needs
+part-rising-end c = let y = fits-here (c .before .before .before .before .before) in search needs
 
 -- src/common.rt:346:13
 rising-requires : tie.Need-rising-requires Inv-loop μ-loop
@@ -109,8 +84,7 @@ rising-requires c κs = search needs
 returns-2 : tie.Need-returns-2 Inv-loop μ-loop
 returns-2 c = let l = c .before .before .before .before .before .before .before .before .before .loop in
     let p = c .before .before .before .before .before .before .before .before .before .before .before .args .sets .now in
-    let x = two-more p (l .i) (l .inv .1) (omega arith) in
-    let y = fits p (l .i) (l .inv .1) (omega arith) in
+    let y = fits-here (c .before .before .before .before .before .before .before .before) in
     let w = c .before .before .before .before .wide2 .ensures .0 in
     sym (l .inv .2 ∙ rise-set p (l .i) _ (ap (λ (x : ℕ). l .i + 2 + x) w) (omega arith) (l .inv .1) (l .low) (omega arith) (sym (c .before .rising .ensures) ∙ not-true _ (c .if2 .taken)))
 
@@ -126,8 +100,7 @@ loop-less c = search needs
 loop-again : tie.Need-loop-again Inv-loop μ-loop
 loop-again c = let l = c .before .before .before .before .before .before .before .before .before .loop in
     let p = c .before .before .before .before .before .before .before .before .before .before .before .args .sets .now in
-    let x = two-more p (l .i) (l .inv .1) (omega arith) in
-    let y = fits p (l .i) (l .inv .1) (omega arith) in
+    let y = fits-here (c .before .before .before .before .before .before .before .before) in
     let w = c .before .before .before .before .wide2 .ensures .0 in (
       omega arith,
       sym (framed-next p (l .i) _ (ap (λ (x : ℕ). l .i + 2 + x) w) (omega arith)) ∙ l .inv .1,

@@ -26,7 +26,7 @@ enum-known-edges c = search needs
 read-inputs-requires : tie.Need-read-inputs-requires
 read-inputs-requires c κs = let s = c .before .before .before .before .before .args .file .now in
     let r = c .before .before .before .checked-record in
-    (c .before .before .before .before .before .pre, inside-of (length s) (r .result) (r .ensures .1) _ (c .before .edges .given .1))
+    (c .before .before .before .before .before .pre, inside-of s (r .result) (r .ensures .1) _ (c .before .edges .given .1))
 
 -- src/common.rt:543:24
 enum-known-q : tie.Need-enum-known-q

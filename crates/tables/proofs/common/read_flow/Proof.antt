@@ -26,7 +26,7 @@ enum-known-layers c = search needs
 read-sets-requires : tie.Need-read-sets-requires
 read-sets-requires c κs = let s = c .before .before .before .before .before .args .file .now in
     let r = c .before .before .before .checked-record in
-    inside-of (length s) (r .result) (r .ensures .1) _ (c .before .layers .given .1)
+    inside-of s (r .result) (r .ensures .1) _ (c .before .layers .given .1)
 
 -- src/common.rt:581:24
 enum-known-q : tie.Need-enum-known-q

@@ -26,7 +26,7 @@ enum-known-inputs c = search needs
 read-outputs-requires : tie.Need-read-outputs-requires
 read-outputs-requires c κs = let s = c .before .before .before .before .before .args .file .now in
     let r = c .before .before .before .checked-record in
-    (c .before .before .before .before .before .pre .0, c .before .before .before .before .before .pre .1, inside-of (length s) (r .result) (r .ensures .1) _ (c .before .inputs .given .1))
+    (c .before .before .before .before .before .pre .0, (c .before .before .before .before .before .pre .1, inside-of s (r .result) (r .ensures .1) _ (c .before .inputs .given .1)))
 
 -- src/common.rt:533:24
 enum-known-q : tie.Need-enum-known-q

@@ -50,16 +50,19 @@ returns : tie.Need-returns
 unfolding readMeasurements
 returns c = let s = c .before .before .before .before .before .before .before .args .file .now in
     let r = c .before .before .before .checked-record in
-    let m : member (c .before .before .before .before .set-of .result) ≡ has (bytesAt (c .before .before .before .before .before .before .before .args .outputs) s) = c .before .before .before .before .set-of .ensures ∙ fun-ext (has-small (c .before .before .before .before .before .before .before .args .n) (bytesAt (c .before .before .before .before .before .before .before .args .outputs) s) (c .before .before .before .before .before .before .before .pre .0) (c .before .before .before .before .before .before .before .pre .4)) in
-    (rw (← m, found-part s (r .result) (r .ensures .0) _ (c .before .measurements .given .1)) refl, record { edges = c .before .before .before .before .before .before .before .pre .1; inputs = c .before .before .before .before .before .before .before .pre .2; outputs = c .before .before .before .before .before .before .before .pre .3; measurements = inside-of (length s) (r .result) (r .ensures .1) _ (c .before .measurements .given .1) })
+    let set : member (c .before .before .before .before .set-of .result) ≡ has (bytesAt (c .before .before .before .before .before .before .before .args .outputs) s) = c .before .before .before .before .set-of .ensures ∙ fun-ext (has-small (c .before .before .before .before .before .before .before .args .n) (bytesAt (c .before .before .before .before .before .before .before .args .outputs) s) (c .before .before .before .before .before .before .before .pre .0 .0) (c .before .before .before .before .before .before .before .pre .0 .1)) in
+    (
+      rw (← set, found-part s (r .result) (r .ensures .0) _ (c .before .measurements .given .1)) refl,
+      record { edges = c .before .before .before .before .before .before .before .pre .1 .0; inputs = c .before .before .before .before .before .before .before .pre .1 .1; outputs = c .before .before .before .before .before .before .before .pre .1 .2; measurements = inside-of s (r .result) (r .ensures .1) _ (c .before .measurements .given .1) },
+    )
 
 -- src/common.rt:495:1
 returns-2 : tie.Need-returns-2
 unfolding readMeasurements
 returns-2 c = let s = c .before .before .before .before .before .before .before .args .file .now in
     let r = c .before .before .before .checked-record in
-    let m : member (c .before .before .before .before .set-of .result) ≡ has (bytesAt (c .before .before .before .before .before .before .before .args .outputs) s) = c .before .before .before .before .set-of .ensures ∙ fun-ext (has-small (c .before .before .before .before .before .before .before .args .n) (bytesAt (c .before .before .before .before .before .before .before .args .outputs) s) (c .before .before .before .before .before .before .before .pre .0) (c .before .before .before .before .before .before .before .pre .4)) in
-    (rw (← m, found-no s (r .result) (r .ensures .0) _ (c .before .q .given .1)) refl, tt)
+    let set : member (c .before .before .before .before .set-of .result) ≡ has (bytesAt (c .before .before .before .before .before .before .before .args .outputs) s) = c .before .before .before .before .set-of .ensures ∙ fun-ext (has-small (c .before .before .before .before .before .before .before .args .n) (bytesAt (c .before .before .before .before .before .before .before .args .outputs) s) (c .before .before .before .before .before .before .before .pre .0 .0) (c .before .before .before .before .before .before .before .pre .0 .1)) in
+    (rw (← set, found-no s (r .result) (r .ensures .0) _ (c .before .q .given .1)) refl, tt)
 
 pub read-measurements-spec : {M : Type 1} → statement M
 read-measurements-spec =

@@ -27,7 +27,8 @@ enum-known-outputs c = search needs
 read-measurements-requires : tie.Need-read-measurements-requires
 read-measurements-requires c κs = let s = c .before .before .before .before .before .args .file .now in
     let r = c .before .before .before .checked-record in
-    (c .before .before .before .before .before .pre .0, c .before .before .before .before .before .pre .1, c .before .before .before .before .before .pre .2, inside-of (length s) (r .result) (r .ensures .1) _ (c .before .outputs .given .1), nodes-below (c .before .before .before .before .before .args .n) _ (checked-passed _ _ _ _ (found-part s (r .result) (r .ensures .0) _ (c .before .outputs .given .1)) .1))
+    let below = nodes-below (c .before .before .before .before .before .args .n) _ (checked-passed _ _ _ _ (found-part s (r .result) (r .ensures .0) _ (c .before .outputs .given .1)) .1) in
+    ((c .before .before .before .before .before .pre .0, below), (c .before .before .before .before .before .pre .1 .0, c .before .before .before .before .before .pre .1 .1, inside-of s (r .result) (r .ensures .1) _ (c .before .outputs .given .1)))
 
 -- src/common.rt:522:24
 enum-known-q : tie.Need-enum-known-q
