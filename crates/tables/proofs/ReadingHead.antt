@@ -1,16 +1,14 @@
 -- Bytes at a place of the file, and the record that starts there, from what the code tests.
-use mathlib.Core.Path.{_≡_, refl, sym, ap, ap₂, _∙_}
-use mathlib.Core.Bool.{Bool, true, false, _&&_}
+use mathlib.Core.Path.{_≡_, _∙_}
 use mathlib.Core.List.{List}
 use Prim.Native.Nat.{ℕ, _+_, _*_, _-_, _<_, _≤_}
 use native.Mathlib.Nat.{add-zero}
 use native.Mathlib.Omega.{arith}
 use borrow.Author.Tests.{le-leb, lt-leb, eq-eqb, ne-eqb}
-use lib.Dec.{leb, eqb}
-use lib.ListN.{length, getD, take, drop, length-drop}
+use lib.ListN.{length, getD, drop, length-drop}
 use lib.Seq.{getD-take, getD-drop, drop-drop, length-take-le}
-use Rattle.tables.specs.Answer.{Answer, gives, refuses, refusal}
-use Rattle.tables.specs.Records.{Part, part, lengthField, kindField}
+use Rattle.tables.specs.Answer.{gives, refuses, refusal}
+use Rattle.tables.specs.Records.{part, lengthField, kindField}
 use Rattle.tables.specs.Views.{between}
 
 pub between-at : (a b : ℕ) (s : List ℕ) (k : ℕ) → k < b - a → getD (between a b s) k 0 ≡ getD s (a + k) 0

@@ -7,9 +7,9 @@ use native.Mathlib.Nat.{add-zero}
 use native.Mathlib.Omega.{arith}
 use borrow.Author.Tests.{leb-true, ltb-true, eqb-true, le-leb}
 use lib.Dec.{eqb, ltb, leb}
-use lib.ListN.{length, getD, drop}
+use lib.ListN.{length, getD}
 use Rattle.nodes.specs.NodeSet.{highest}
-use Rattle.tables.specs.Answer.{Answer, gives, refuses, refusal, no, passed, _>>=_}
+use Rattle.tables.specs.Answer.{Answer, gives, refuses, refusal, no, passed}
 use Rattle.tables.specs.Records.{Part, part, checked, kindOpen}
 use Rattle.tables.specs.JobFile.{mostNodes, all, has, rises, openNo, nodesNo}
 use Rattle.tables.specs.Refusals.{refusalOf}

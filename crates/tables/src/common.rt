@@ -1,11 +1,11 @@
 // The records of job and flow files, and reading them: questions 1 to 7 of document 01, and 9.
 ghost use mathlib.Core.Path.{_≡_};
-ghost use mathlib.Core.Bool.{Bool, true, false, _&&_};
-ghost use Prim.Native.Nat.{ℕ, _+_, _<_, _≤_};
+ghost use mathlib.Core.Bool.{true, false, _&&_};
+ghost use Prim.Native.Nat.{_+_, _<_, _≤_};
 ghost use lib.Dec.{eqb, leb, ltb};
-ghost use lib.ListN.{length, getD, drop};
+ghost use lib.ListN.{length, drop};
 ghost use Rattle.nodes.specs.NodeSet.{member, highest};
-ghost use Rattle.tables.specs.Answer.{Answer, passed};
+ghost use Rattle.tables.specs.Answer.{passed};
 ghost use Rattle.tables.specs.Records.{lengthField, kindField, headBytes, part, checked};
 ghost use Rattle.tables.specs.JobFile.{mostNodes, all, has, rises, pairsRise, highestOf, allows, allAllowed, openNo, edgesNo, nodesNo, measurementsNo, readJob, readEdges, readInputs, readOutputs, readMeasurements};
 ghost use Rattle.tables.specs.FlowFile.{entriesOf, framed, listed, allEntries, entryBelow, entriesRise, layersNo, setsNo, readFlow, readSets};

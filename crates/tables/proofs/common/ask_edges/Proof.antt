@@ -1,43 +1,28 @@
-use mathlib.Core.Path.{_≡_, refl, sym, ap, _∙_}
-use mathlib.Core.Bool.{Bool, true, false, _&&_, _||_}
-use Prim.Native.Nat.{ℕ, _+_, _*_, _-_, _<_, _≤_}
-use native.Mathlib.Omega.{arith}
-use lib.Dec.{eqb, leb, ltb}
-use lib.ListN.{length, getD, drop}
-use borrow.Author.Tests.{not-true, not-false, le-leb, lt-leb, lt-ltb, le-ltb, eq-eqb, ne-eqb}
+use mathlib.Core.Path.{sym, _∙_}
+use borrow.Author.Tests.{not-true, not-false, eq-eqb, ne-eqb}
 use Rattle.tables.specs.JobFile.{edgesNo}
 use borrow.Author.Needs.{needs}
 use Rattle.tables.proofs.common.ask_edges.Statement.{statement}
 use Rattle.tables.proofs.common.ask_edges.Tie as tie
-use Rattle.tables.proofs.common.ask_edges.Reads as reads
-use Rattle.tables.proofs.common.ask_edges.Lts as lts
-use Rattle.tables.proofs.common.below.Reads as below-reads
-use Rattle.tables.proofs.common.pairs_rising.Reads as pairs-rising-reads
 
--- src/common.rt:404:9
 returns : tie.Need-returns
 unfolding edgesNo
 returns c = simp (ne-eqb _ 0 (c .if1 .taken))
 
--- src/common.rt:406:9
 below-requires : tie.Need-below-requires
 below-requires c κs = search needs
 
--- src/common.rt:407:9
 returns-2 : tie.Need-returns-2
 unfolding edgesNo
 returns-2 c = simp (eq-eqb _ 0 (c .before .before .if1 .left), sym (c .before .below .ensures) ∙ not-true _ (c .if2 .taken))
 
--- src/common.rt:409:9
 pairs-rising-requires : tie.Need-pairs-rising-requires
 pairs-rising-requires c κs = search needs
 
--- src/common.rt:410:9
 returns-3 : tie.Need-returns-3
 unfolding edgesNo
 returns-3 c = simp (eq-eqb _ 0 (c .before .before .before .before .if1 .left), sym (c .before .before .before .below .ensures) ∙ not-false _ (c .before .before .if2 .left), sym (c .before .pairs-rising .ensures) ∙ not-true _ (c .if3 .taken))
 
--- src/common.rt:400:1
 returns-4 : tie.Need-returns-4
 unfolding edgesNo
 returns-4 c = simp (eq-eqb _ 0 (c .before .before .before .before .if1 .left), sym (c .before .before .before .below .ensures) ∙ not-false _ (c .before .before .if2 .left), sym (c .before .pairs-rising .ensures) ∙ not-false _ (c .if3 .left))

@@ -1,50 +1,34 @@
-use mathlib.Core.Path.{_≡_, refl, sym, ap, _∙_}
-use mathlib.Core.Bool.{Bool, true, false, _&&_, _||_}
-use Prim.Native.Nat.{ℕ, _+_, _*_, _-_, _<_, _≤_}
-use native.Mathlib.Omega.{arith}
-use lib.Dec.{eqb, leb, ltb}
-use lib.ListN.{length, getD, drop}
-use borrow.Author.Tests.{not-true, not-false, le-leb, lt-leb, lt-ltb, le-ltb, eq-eqb, ne-eqb}
+use borrow.Author.Tests.{le-leb, lt-leb, eq-eqb, ne-eqb}
 use Rattle.tables.specs.JobFile.{openNo}
 use borrow.Author.Needs.{needs}
 use Rattle.tables.proofs.common.ask_open.Statement.{statement}
 use Rattle.tables.proofs.common.ask_open.Tie as tie
-use Rattle.tables.proofs.common.ask_open.Reads as reads
-use Rattle.tables.proofs.common.ask_open.Lts as lts
 
--- src/common.rt:386:9
 returns : tie.Need-returns
 unfolding openNo
 returns c = simp (ne-eqb _ 2 (c .if1 .taken))
 
--- src/common.rt:388:8
 shared-slice-read-if2 : tie.Need-shared-slice-read-if2
 shared-slice-read-if2 c = search needs
 
--- src/common.rt:389:9
 returns-2 : tie.Need-returns-2
 unfolding openNo
 returns-2 c = simp (eq-eqb _ 2 (c .before .before .if1 .left), lt-leb _ 128 (c .if2 .taken))
 
--- src/common.rt:391:8
 shared-slice-read-if3 : tie.Need-shared-slice-read-if3
 shared-slice-read-if3 c = search needs
 
--- src/common.rt:392:9
 returns-3 : tie.Need-returns-3
 unfolding openNo
 returns-3 c = simp (eq-eqb _ 2 (c .before .before .before .before .if1 .left), le-leb _ 128 (c .before .before .if2 .left), lt-leb 1 _ (c .if3 .taken))
 
--- src/common.rt:394:8
 shared-slice-read-if4 : tie.Need-shared-slice-read-if4
 shared-slice-read-if4 c = search needs
 
--- src/common.rt:395:9
 returns-4 : tie.Need-returns-4
 unfolding openNo
 returns-4 c = simp (eq-eqb _ 2 (c .before .before .before .before .before .before .if1 .left), le-leb _ 128 (c .before .before .before .before .if2 .left), le-leb 1 _ (c .before .before .if3 .left), lt-leb _ 3 (c .if4 .taken))
 
--- src/common.rt:382:1
 returns-5 : tie.Need-returns-5
 unfolding openNo
 returns-5 c = simp (eq-eqb _ 2 (c .before .before .before .before .before .before .if1 .left), le-leb _ 128 (c .before .before .before .before .if2 .left), le-leb 1 _ (c .before .before .if3 .left), le-leb _ 3 (c .if4 .left))

@@ -1,48 +1,31 @@
-use mathlib.Core.Path.{_≡_, refl, sym, ap, _∙_}
-use mathlib.Core.Bool.{Bool, true, false, _&&_, _||_}
-use Prim.Native.Nat.{ℕ, _+_, _*_, _-_, _<_, _≤_}
-use native.Mathlib.Omega.{arith}
-use lib.Dec.{eqb, leb, ltb}
-use lib.ListN.{length, getD, drop}
-use borrow.Author.Tests.{not-true, not-false, le-leb, lt-leb, lt-ltb, le-ltb, eq-eqb, ne-eqb}
+use mathlib.Core.Path.{sym, _∙_}
+use borrow.Author.Tests.{not-true, not-false}
 use Rattle.tables.specs.FlowFile.{setsNo}
 use borrow.Author.Needs.{needs}
 use Rattle.tables.proofs.common.ask_sets.Statement.{statement}
 use Rattle.tables.proofs.common.ask_sets.Tie as tie
-use Rattle.tables.proofs.common.ask_sets.Reads as reads
-use Rattle.tables.proofs.common.ask_sets.Lts as lts
-use Rattle.tables.proofs.common.entries_below.Reads as entries-below-reads
-use Rattle.tables.proofs.common.entries_end.Reads as entries-end-reads
-use Rattle.tables.proofs.common.entries_rising.Reads as entries-rising-reads
 
--- src/common.rt:451:9
 entries-end-requires : tie.Need-entries-end-requires
 entries-end-requires c κs = search needs
 
--- src/common.rt:452:9
 returns : tie.Need-returns
 unfolding setsNo
 returns c = simp (sym (c .before .entries-end .ensures) ∙ not-true _ (c .if1 .taken))
 
--- src/common.rt:454:9
 entries-below-requires : tie.Need-entries-below-requires
 entries-below-requires c κs = sym (c .before .entries-end .ensures) ∙ not-false _ (c .if1 .left)
 
--- src/common.rt:455:9
 returns-2 : tie.Need-returns-2
 unfolding setsNo
 returns-2 c = simp (sym (c .before .before .before .entries-end .ensures) ∙ not-false _ (c .before .before .if1 .left), sym (c .before .entries-below .ensures) ∙ not-true _ (c .if2 .taken))
 
--- src/common.rt:457:9
 entries-rising-requires : tie.Need-entries-rising-requires
 entries-rising-requires c κs = sym (c .before .before .before .entries-end .ensures) ∙ not-false _ (c .before .before .if1 .left)
 
--- src/common.rt:458:9
 returns-3 : tie.Need-returns-3
 unfolding setsNo
 returns-3 c = simp (sym (c .before .before .before .before .before .entries-end .ensures) ∙ not-false _ (c .before .before .before .before .if1 .left), sym (c .before .before .before .entries-below .ensures) ∙ not-false _ (c .before .before .if2 .left), sym (c .before .entries-rising .ensures) ∙ not-true _ (c .if3 .taken))
 
--- src/common.rt:448:1
 returns-4 : tie.Need-returns-4
 unfolding setsNo
 returns-4 c = simp (sym (c .before .before .before .before .before .entries-end .ensures) ∙ not-false _ (c .before .before .before .before .if1 .left), sym (c .before .before .before .entries-below .ensures) ∙ not-false _ (c .before .before .if2 .left), sym (c .before .entries-rising .ensures) ∙ not-false _ (c .if3 .left))

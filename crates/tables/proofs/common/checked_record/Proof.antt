@@ -1,79 +1,64 @@
-use mathlib.Core.Path.{_≡_, refl, sym, ap, _∙_}
-use mathlib.Core.Bool.{Bool, true, false, _&&_, _||_}
-use Prim.Native.Nat.{ℕ, _+_, _*_, _-_, _<_, _≤_}
-use native.Mathlib.Omega.{arith}
-use lib.Dec.{eqb, leb, ltb}
-use lib.ListN.{length, getD, drop}
+use lib.ListN.{drop}
 use Rattle.tables.specs.Views.{askOf}
 use Rattle.tables.proofs.ReadingRecords.{inside-of, checked-stops, checked-no, checked-yes}
 use borrow.Author.Needs.{needs}
 use Rattle.tables.proofs.common.checked_record.Statement.{statement}
 use Rattle.tables.proofs.common.checked_record.Tie as tie
-use Rattle.tables.proofs.common.checked_record.Reads as reads
-use Rattle.tables.proofs.common.checked_record.Lts as lts
-use Rattle.tables.proofs.common.ask.Reads as ask-reads
-use Rattle.tables.proofs.common.head.Reads as head-reads
 
--- src/common.rt:480:11
 head-requires : tie.Need-head-requires
 head-requires c κs = search needs
 
--- src/common.rt:481:24
 enum-known-place : tie.Need-enum-known-place
 enum-known-place c = search needs
 
--- src/common.rt:484:29
 sub-ask : tie.Need-sub-ask
-sub-ask c = let a = c .before .before .before .before .before .args in
+sub-ask c =
+    let a = c .before .before .before .before .before .args in
     let h = c .before .before .before .head in
     let i = inside-of _ (h .result) (h .ensures .1) _ (c .before .place .given .1) in
     search needs
 
--- src/common.rt:484:29
 part-ask-start : tie.Need-part-ask-start
-part-ask-start c = let a = c .before .before .before .before .before .args in
+part-ask-start c =
+    let a = c .before .before .before .before .before .args in
     let h = c .before .before .before .head in
     let i = inside-of _ (h .result) (h .ensures .1) _ (c .before .place .given .1) in
     search needs
 
--- src/common.rt:484:29
 part-ask-end : tie.Need-part-ask-end
-part-ask-end c = let a = c .before .before .before .before .before .args in
+part-ask-end c =
+    let a = c .before .before .before .before .before .args in
     let h = c .before .before .before .head in
     let i = inside-of _ (h .result) (h .ensures .1) _ (c .before .place .given .1) in
     search needs
 
--- src/common.rt:484:19
 ask-requires : tie.Need-ask-requires
 ask-requires c κs = search needs
 
--- src/common.rt:485:36
 enum-told : tie.Need-enum-told
 enum-told c = search needs
 
--- src/common.rt:486:34
 enum-known-q : tie.Need-enum-known-q
 enum-known-q c = search needs
 
--- src/common.rt:489:24
 enum-known-q-2 : tie.Need-enum-known-q-2
 enum-known-q-2 c = search needs
 
--- src/common.rt:477:1
 returns : tie.Need-returns
-returns c = let a = c .before .before .before .before .before .before .before .before .before .args in
+returns c =
+    let a = c .before .before .before .before .before .before .before .before .before .args in
     let h = c .before .before .before .before .before .before .before .head in
     (checked-yes (a .file .now) (drop (a .at) (a .file .now)) (a .kind) (h .result) (h .ensures .0) (askOf (a .asks)) _ (c .before .before .before .before .before .place .given .1) (c .before .before .ask .result) (c .before .before .ask .ensures) (c .enum-told .given .1), inside-of _ (h .result) (h .ensures .1) _ (c .before .before .before .before .before .place .given .1))
 
--- src/common.rt:477:1
 returns-2 : tie.Need-returns-2
-returns-2 c = let a = c .before .before .before .before .before .before .before .before .before .before .args in
+returns-2 c =
+    let a = c .before .before .before .before .before .before .before .before .before .before .args in
     let h = c .before .before .before .before .before .before .before .before .head in
     (checked-no (a .file .now) (drop (a .at) (a .file .now)) (a .kind) (h .result) (h .ensures .0) (askOf (a .asks)) _ (c .before .before .before .before .before .before .place .given .1) (c .before .before .before .ask .result) (c .before .before .before .ask .ensures) _ (c .before .q .given .1), tt)
 
--- src/common.rt:477:1
 returns-3 : tie.Need-returns-3
-returns-3 c = let a = c .before .before .before .before .before .args in
+returns-3 c =
+    let a = c .before .before .before .before .before .args in
     let h = c .before .before .before .head in
     (checked-stops (a .file .now) (drop (a .at) (a .file .now)) (a .kind) (h .result) (h .ensures .0) (askOf (a .asks)) _ (c .before .q2 .given .1), tt)
 

@@ -1,19 +1,14 @@
 use mathlib.Core.Path.{_≡_, refl, sym, ap, _∙_}
-use mathlib.Core.Bool.{Bool, true, false, _&&_, _||_}
-use Prim.Native.Nat.{ℕ, _+_, _*_, _-_, _<_, _≤_}
+use mathlib.Core.Bool.{true}
+use Prim.Native.Nat.{ℕ, _+_, _-_, _≤_}
 use native.Mathlib.Omega.{arith}
-use lib.Dec.{eqb, leb, ltb}
 use lib.ListN.{length, getD, drop}
-use borrow.Author.Tests.{not-true, not-false, le-leb, lt-leb, lt-ltb, le-ltb, eq-eqb, ne-eqb}
+use borrow.Author.Tests.{not-true, not-false}
 use Rattle.tables.specs.FlowFile.{entriesOf, framed, listed, entriesRise}
 use Rattle.tables.proofs.ReadingEntries.{fits, framed-next, rise-node, rise-set, rise-next, rise-last}
 use borrow.Author.Needs.{needs}
 use Rattle.tables.proofs.common.entries_rising.Statement.{statement}
 use Rattle.tables.proofs.common.entries_rising.Tie as tie
-use Rattle.tables.proofs.common.entries_rising.Reads as reads
-use Rattle.tables.proofs.common.entries_rising.Lts as lts
-use Rattle.tables.proofs.common.rising.Reads as rising-reads
-use Rattle.tables.proofs.common.wide.Reads as wide-reads
 
 abbrev Inv-loop : tie.InvT-loop
 Inv-loop p low₀ i₀ low i = (i ≤ length p) × (framed (entriesOf (drop i p)) ≡ true) × (entriesRise 0 (listed (entriesOf p)) ≡ entriesRise low (listed (entriesOf (drop i p))))
@@ -25,80 +20,66 @@ abbrev μ-loop : tie.MeasureT-loop
 fits-here : (c : tie.In-loop Inv-loop μ-loop) → let l = c .before .loop in let p = c .before .before .before .args .sets .now in l .i + 2 + getD p (l .i + 1) 0 ≤ length p
 fits-here c = let l = c .before .loop in fits (c .before .before .before .args .sets .now) (l .i) (l .inv .1) (omega arith)
 
--- src/common.rt:338:5
 loop-holds : tie.Need-loop-holds Inv-loop μ-loop
 loop-holds c = (search needs, c .before .pre, refl)
 
--- src/common.rt:339:22
 shared-slice-read-wide : tie.Need-shared-slice-read-wide Inv-loop μ-loop
 shared-slice-read-wide c = search needs
 
--- src/common.rt:339:13
 wide-requires : tie.Need-wide-requires Inv-loop μ-loop
 wide-requires c κs = search needs
 
--- src/common.rt:340:31
 add-wide : tie.Need-add-wide Inv-loop μ-loop
 add-wide c = let y = fits-here (c .before .before) in search needs
 
--- src/common.rt:340:26
 shared-slice-read-wide-2 : tie.Need-shared-slice-read-wide-2 Inv-loop μ-loop
 shared-slice-read-wide-2 c = let y = fits-here (c .before .before .before) in omega arith
 
--- src/common.rt:340:13
 wide-requires-2 : tie.Need-wide-requires-2 Inv-loop μ-loop
 wide-requires-2 c κs = search needs
 
--- src/common.rt:341:21
 add-start : tie.Need-add-start Inv-loop μ-loop
 add-start c = let y = fits-here (c .before .before .before .before) in search needs
 
--- src/common.rt:342:19
 add-end : tie.Need-add-end Inv-loop μ-loop
 add-end c = let y = fits-here (c .before .before .before .before) in search needs
 
--- src/common.rt:344:13
 returns : tie.Need-returns Inv-loop μ-loop
-returns c = let l = c .before .before .before .before .before .before .loop in
+returns c =
+    let l = c .before .before .before .before .before .before .loop in
     let p = c .before .before .before .before .before .before .before .before .args .sets .now in
     let y = fits-here (c .before .before .before .before .before) in
     sym (l .inv .2 ∙ rise-node p (l .i) (l .i + 2 + getD p (l .i + 1) 0) refl y (l .inv .1) (l .low) (omega arith))
 
--- src/common.rt:346:20
 sub-rising : tie.Need-sub-rising Inv-loop μ-loop
 sub-rising c = let y = fits-here (c .before .before .before .before .before) in search needs
 
--- src/common.rt:346:20
 part-rising-start : tie.Need-part-rising-start Inv-loop μ-loop
 part-rising-start c = let y = fits-here (c .before .before .before .before .before) in search needs
 
--- src/common.rt:346:20
 part-rising-end : tie.Need-part-rising-end Inv-loop μ-loop
 part-rising-end c = let y = fits-here (c .before .before .before .before .before) in search needs
 
--- src/common.rt:346:13
 rising-requires : tie.Need-rising-requires Inv-loop μ-loop
 rising-requires c κs = search needs
 
--- src/common.rt:347:13
 returns-2 : tie.Need-returns-2 Inv-loop μ-loop
-returns-2 c = let l = c .before .before .before .before .before .before .before .before .before .loop in
+returns-2 c =
+    let l = c .before .before .before .before .before .before .before .before .before .loop in
     let p = c .before .before .before .before .before .before .before .before .before .before .before .args .sets .now in
     let y = fits-here (c .before .before .before .before .before .before .before .before) in
     let w = c .before .before .before .before .wide2 .ensures .0 in
     sym (l .inv .2 ∙ rise-set p (l .i) _ (ap (λ (x : ℕ). l .i + 2 + x) w) (omega arith) (l .inv .1) (l .low) (omega arith) (sym (c .before .rising .ensures) ∙ not-true _ (c .if2 .taken)))
 
--- src/common.rt:349:15
 add-low : tie.Need-add-low Inv-loop μ-loop
 add-low c = search needs
 
--- src/common.rt:338:5
 loop-less : tie.Need-loop-less Inv-loop μ-loop
 loop-less c = search needs
 
--- src/common.rt:338:5
 loop-again : tie.Need-loop-again Inv-loop μ-loop
-loop-again c = let l = c .before .before .before .before .before .before .before .before .before .loop in
+loop-again c =
+    let l = c .before .before .before .before .before .before .before .before .before .loop in
     let p = c .before .before .before .before .before .before .before .before .before .before .before .args .sets .now in
     let y = fits-here (c .before .before .before .before .before .before .before .before) in
     let w = c .before .before .before .before .wide2 .ensures .0 in (
@@ -108,9 +89,9 @@ loop-again c = let l = c .before .before .before .before .before .before .before
           ∙ ap (λ (x : ℕ). entriesRise (x + 1) (listed (entriesOf (drop (l .i + 2 + c .before .before .before .before .wide2 .result) p)))) (sym (c .before .before .before .before .before .before .wide .ensures .0)),
     )
 
--- src/common.rt:332:1
 returns-3 : tie.Need-returns-3 Inv-loop μ-loop
-returns-3 c = let l = c .before .loop in
+returns-3 c =
+    let l = c .before .loop in
     let p = c .before .before .before .args .sets .now in
     sym (l .inv .2 ∙ rise-last p (l .i) (l .low) (omega arith))
 

@@ -1,48 +1,36 @@
-use mathlib.Core.Path.{_≡_, refl, sym, ap, _∙_}
-use mathlib.Core.Bool.{Bool, true, false, _&&_, _||_}
-use Prim.Native.Nat.{ℕ, _+_, _*_, _-_, _<_, _≤_}
-use native.Mathlib.Omega.{arith}
-use lib.Dec.{eqb, leb, ltb}
-use lib.ListN.{length, getD, drop}
+use mathlib.Core.Path.{refl}
 use Rattle.tables.specs.JobFile.{readEdges}
 use Rattle.tables.proofs.ReadingRecords.{found-part, found-no, inside-of}
 use borrow.Author.Needs.{needs}
 use Rattle.tables.proofs.common.read_edges.Statement.{statement}
 use Rattle.tables.proofs.common.read_edges.Tie as tie
-use Rattle.tables.proofs.common.read_edges.Reads as reads
-use Rattle.tables.proofs.common.read_edges.Lts as lts
-use Rattle.tables.proofs.common.checked_record.Reads as checked-record-reads
-use Rattle.tables.proofs.common.read_inputs.Reads as read-inputs-reads
 
--- src/common.rt:541:11
 checked-record-requires : tie.Need-checked-record-requires
 checked-record-requires c κs = search needs
 
--- src/common.rt:542:24
 enum-known-edges : tie.Need-enum-known-edges
 enum-known-edges c = search needs
 
--- src/common.rt:542:34
 read-inputs-requires : tie.Need-read-inputs-requires
-read-inputs-requires c κs = let s = c .before .before .before .before .before .args .file .now in
+read-inputs-requires c κs =
+    let s = c .before .before .before .before .before .args .file .now in
     let r = c .before .before .before .checked-record in
     (c .before .before .before .before .before .pre, inside-of s (r .result) (r .ensures .1) _ (c .before .edges .given .1))
 
--- src/common.rt:543:24
 enum-known-q : tie.Need-enum-known-q
 enum-known-q c = search needs
 
--- src/common.rt:537:1
 returns : tie.Need-returns
 unfolding readEdges
-returns c = let s = c .before .before .before .before .before .before .args .file .now in
+returns c =
+    let s = c .before .before .before .before .before .before .args .file .now in
     let r = c .before .before .before .before .checked-record in
     (rw (found-part s (r .result) (r .ensures .0) _ (c .before .before .edges .given .1)) (c .read-inputs .ensures .0), c .read-inputs .ensures .1)
 
--- src/common.rt:537:1
 returns-2 : tie.Need-returns-2
 unfolding readEdges
-returns-2 c = let s = c .before .before .before .before .before .args .file .now in
+returns-2 c =
+    let s = c .before .before .before .before .before .args .file .now in
     let r = c .before .before .before .checked-record in
     (rw (found-no s (r .result) (r .ensures .0) _ (c .before .q .given .1)) refl, tt)
 

@@ -1,48 +1,36 @@
-use mathlib.Core.Path.{_≡_, refl, sym, ap, _∙_}
-use mathlib.Core.Bool.{Bool, true, false, _&&_, _||_}
-use Prim.Native.Nat.{ℕ, _+_, _*_, _-_, _<_, _≤_}
-use native.Mathlib.Omega.{arith}
-use lib.Dec.{eqb, leb, ltb}
-use lib.ListN.{length, getD, drop}
+use mathlib.Core.Path.{refl}
 use Rattle.tables.specs.FlowFile.{readFlow}
 use Rattle.tables.proofs.ReadingRecords.{found-part, found-no, inside-of}
 use borrow.Author.Needs.{needs}
 use Rattle.tables.proofs.common.read_flow.Statement.{statement}
 use Rattle.tables.proofs.common.read_flow.Tie as tie
-use Rattle.tables.proofs.common.read_flow.Reads as reads
-use Rattle.tables.proofs.common.read_flow.Lts as lts
-use Rattle.tables.proofs.common.checked_record.Reads as checked-record-reads
-use Rattle.tables.proofs.common.read_sets.Reads as read-sets-reads
 
--- src/common.rt:579:11
 checked-record-requires : tie.Need-checked-record-requires
 checked-record-requires c κs = search needs
 
--- src/common.rt:580:24
 enum-known-layers : tie.Need-enum-known-layers
 enum-known-layers c = search needs
 
--- src/common.rt:580:35
 read-sets-requires : tie.Need-read-sets-requires
-read-sets-requires c κs = let s = c .before .before .before .before .before .args .file .now in
+read-sets-requires c κs =
+    let s = c .before .before .before .before .before .args .file .now in
     let r = c .before .before .before .checked-record in
     inside-of s (r .result) (r .ensures .1) _ (c .before .layers .given .1)
 
--- src/common.rt:581:24
 enum-known-q : tie.Need-enum-known-q
 enum-known-q c = search needs
 
--- src/common.rt:576:1
 returns : tie.Need-returns
 unfolding readFlow
-returns c = let s = c .before .before .before .before .before .before .args .file .now in
+returns c =
+    let s = c .before .before .before .before .before .before .args .file .now in
     let r = c .before .before .before .before .checked-record in
     (rw (found-part s (r .result) (r .ensures .0) _ (c .before .before .layers .given .1)) (c .read-sets .ensures .0), c .read-sets .ensures .1)
 
--- src/common.rt:576:1
 returns-2 : tie.Need-returns-2
 unfolding readFlow
-returns-2 c = let s = c .before .before .before .before .before .args .file .now in
+returns-2 c =
+    let s = c .before .before .before .before .before .args .file .now in
     let r = c .before .before .before .checked-record in
     (rw (found-no s (r .result) (r .ensures .0) _ (c .before .q .given .1)) refl, tt)
 

@@ -1,50 +1,38 @@
-use mathlib.Core.Path.{_≡_, refl, sym, ap, _∙_}
-use mathlib.Core.Bool.{Bool, true, false, _&&_, _||_}
-use Prim.Native.Nat.{ℕ, _+_, _*_, _-_, _<_, _≤_}
-use native.Mathlib.Omega.{arith}
-use lib.Dec.{eqb, leb, ltb}
-use lib.ListN.{length, getD, drop}
+use mathlib.Core.Path.{refl}
 use Rattle.tables.specs.JobFile.{readOutputs}
 use Rattle.tables.proofs.ReadingRecords.{found-part, found-no, inside-of, nodes-below}
 use Rattle.tables.proofs.Records.{checked-passed}
 use borrow.Author.Needs.{needs}
 use Rattle.tables.proofs.common.read_outputs.Statement.{statement}
 use Rattle.tables.proofs.common.read_outputs.Tie as tie
-use Rattle.tables.proofs.common.read_outputs.Reads as reads
-use Rattle.tables.proofs.common.read_outputs.Lts as lts
-use Rattle.tables.proofs.common.checked_record.Reads as checked-record-reads
-use Rattle.tables.proofs.common.read_measurements.Reads as read-measurements-reads
 
--- src/common.rt:520:11
 checked-record-requires : tie.Need-checked-record-requires
 checked-record-requires c κs = search needs
 
--- src/common.rt:521:24
 enum-known-outputs : tie.Need-enum-known-outputs
 enum-known-outputs c = search needs
 
--- src/common.rt:521:36
 read-measurements-requires : tie.Need-read-measurements-requires
-read-measurements-requires c κs = let s = c .before .before .before .before .before .args .file .now in
+read-measurements-requires c κs =
+    let s = c .before .before .before .before .before .args .file .now in
     let r = c .before .before .before .checked-record in
     let below = nodes-below (c .before .before .before .before .before .args .n) _ (checked-passed _ _ _ _ (found-part s (r .result) (r .ensures .0) _ (c .before .outputs .given .1)) .1) in
     ((c .before .before .before .before .before .pre .0, below), (c .before .before .before .before .before .pre .1 .0, c .before .before .before .before .before .pre .1 .1, inside-of s (r .result) (r .ensures .1) _ (c .before .outputs .given .1)))
 
--- src/common.rt:522:24
 enum-known-q : tie.Need-enum-known-q
 enum-known-q c = search needs
 
--- src/common.rt:515:1
 returns : tie.Need-returns
 unfolding readOutputs
-returns c = let s = c .before .before .before .before .before .before .args .file .now in
+returns c =
+    let s = c .before .before .before .before .before .before .args .file .now in
     let r = c .before .before .before .before .checked-record in
     (rw (found-part s (r .result) (r .ensures .0) _ (c .before .before .outputs .given .1)) (c .read-measurements .ensures .0), c .read-measurements .ensures .1)
 
--- src/common.rt:515:1
 returns-2 : tie.Need-returns-2
 unfolding readOutputs
-returns-2 c = let s = c .before .before .before .before .before .args .file .now in
+returns-2 c =
+    let s = c .before .before .before .before .before .args .file .now in
     let r = c .before .before .before .checked-record in
     (rw (found-no s (r .result) (r .ensures .0) _ (c .before .q .given .1)) refl, tt)
 
