@@ -130,6 +130,7 @@ enum Asks {
     Sets(usize),
 }
 
+// A byte as a count or a place.
 fn wide(x: u8) -> usize
     ensures { λ r. ⌜ (r ≡ x) × (r < 256) ⌝ }
 {
@@ -265,7 +266,7 @@ fn allow(mode: u8, output: bool, byte: u8) -> bool
     byte <= highest_of(mode)
 }
 
-// Is the node in the set, of any number?
+// Is the node in the set? None past the highest is.
 fn among(set: NodeSet, node: usize) -> bool
     ensures { λ r. ⌜ r ≡ member set node ⌝ }
 {
@@ -290,7 +291,7 @@ fn all_allowed(measurements: &[u8], mode: u8, outputs: NodeSet) -> bool
     true
 }
 
-// The nodes of a payload as a set.
+// The nodes of a payload as a set; a set has no room for those past its highest.
 pub fn set_of(nodes: &[u8]) -> NodeSet
     ensures { λ r. ⌜ member r ≡ (λ u. has (now (nodes .entry)) u && leb u highest) ⌝ }
 {
@@ -508,7 +509,7 @@ fn checked_record(file: &[u8], at: usize, kind: u16, asks: Asks) -> Found
     }
 }
 
-// ---- A job: five records in order, each once. Every reader hands on to the next.
+// ---- A job: five records in order, each once. Each reader hands what was read so far on to the next.
 
 fn read_measurements(
     file: &[u8],
