@@ -10,3 +10,5 @@ pub mod Published
 pub mod Demand
 pub mod Solutions
 pub mod Cases
+pub mod Refusals
+pub mod Views
