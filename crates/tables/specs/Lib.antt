@@ -1,14 +1,5 @@
-pub mod Answer
-pub mod Records
-pub mod JobFile
-pub mod FlowFile
-pub mod Encoding
-pub mod Verdict
 pub mod Calls
-pub mod Programs
-pub mod Published
-pub mod Demand
-pub mod Solutions
 pub mod Cases
-pub mod Refusals
-pub mod Views
+pub mod Demand
+pub mod Programs
+pub mod Solutions

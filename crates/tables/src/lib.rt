@@ -1,2 +1,1 @@
-// Job and flow files.
-pub mod common; // common.rt: the records, and reading them
+// Files and verdicts: the public entries.
