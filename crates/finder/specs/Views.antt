@@ -1,6 +1,6 @@
 -- What the tries of a node are said of: sets of nodes by their members, the rows and columns of the work matrix, and what
 -- can be read off it.
-use Prim.Native.Nat.{ℕ, _+_, _*_, _≤_, _<_}
+use Prim.Native.Nat.{ℕ, _+_, _-_, _*_, _≤_, _<_}
 use mathlib.Core.Path.{_≡_}
 use mathlib.Core.Bool.{Bool, true, false, cond, not, _&&_, _||_}
 use mathlib.Core.Option.{Option, none, some}
@@ -80,7 +80,7 @@ pub record Added (f : ℕ → ℕ → Bool) (before after : List ℕ) : Type 0 w
 
 -- the upper rows, and after them the lower rows
 abbrev pub stacked : ℕ → (f g : ℕ → ℕ → Bool) → ℕ → ℕ → Bool
-stacked m f g i k = f i k || anyBelow capacity (λ q. eqb i (m + q) && g q k)
+stacked m f g i k = f i k || (leb m i && g (i - m) k)
 
 -- all coefficients that the sets ask for
 abbrev pub coefficients : List ℕ → Sets → ℕ → ℕ → Bool

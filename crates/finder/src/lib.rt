@@ -135,18 +135,26 @@ fn put_columns(work: &mut [u8], g: &[u64], rows: NodeSet, columns: NodeSet, lowe
     }
 }
 
-// What the rows ask for, for u in branch b: Odd meets the upper rows in u alone or nowhere, and where u is a member,
-// it has its part already.
+// Odd meets the upper rows in u alone, in branches XY and XZ, or nowhere; of the lower rows it asks nothing.
+fn asked_of(u: u8, b: u8, lower: bool) -> NodeSet
+    requires { ⌜ u < capacity ⌝ }
+    ensures { λ r. ⌜ member r ≡ (λ v. eqb v u && (not lower && inOdd b)) ⌝ }
+{
+    if lower {
+        return NodeSet::empty();
+    }
+    if in_odd(b) {
+        return NodeSet::empty().with(u);
+    }
+    NodeSet::empty()
+}
+
+// What the rows ask for, for u in branch b: where u is a member, it has its part already.
 fn side_of(g: &[u64], u: u8, b: u8, lower: bool) -> NodeSet
     requires { ⌜ u < capacity ⌝ }
     ensures { λ r. ⌜ member r ≡ sideBit (now (g .entry)) lower u b ⌝ }
 {
-    let mut asked = NodeSet::empty();
-    if !lower {
-        if in_odd(b) {
-            asked = asked.with(u);
-        }
-    }
+    let asked = asked_of(u, b, lower);
     if in_set(b) {
         return asked.xor(column_of(g, u, lower));
     }
@@ -185,6 +193,16 @@ fn has_bit(out: &[u8], k: usize) -> bool
     (out[k / 8] >> ((k % 8) as u8)) & 1 != 0
 }
 
+fn with_if(s: NodeSet, v: u8, yes: bool) -> NodeSet
+    requires { ⌜ v < capacity ⌝ }
+    ensures { λ r. ⌜ member r ≡ (λ u. member s u || (yes && eqb u v)) ⌝ }
+{
+    if yes {
+        return s.with(v);
+    }
+    s
+}
+
 // The columns whose bit is set in the out bits.
 fn unpack(out: &[u8], columns: NodeSet) -> NodeSet
     requires { ⌜ length (now out) ≡ rowBytes ⌝ }
@@ -194,9 +212,7 @@ fn unpack(out: &[u8], columns: NodeSet) -> NodeSet
     let mut found = NodeSet::empty();
     while !left.is_empty() {
         let k = left.lowest();
-        if has_bit(out, rank(columns, k)) {
-            found = found.with(k);
-        }
+        found = with_if(found, k, has_bit(out, rank(columns, k)));
         left = left.without_lowest();
     }
     found
