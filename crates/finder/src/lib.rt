@@ -8,10 +8,10 @@ ghost use Rattle.nodes.specs.Row.{count};
 ghost use Rattle.nodes.specs.NodeSet.{member, capacity};
 ghost use Rattle.nodes.specs.SetTable.{zeros};
 ghost use Rattle.solver.specs.WorkMatrix.{entryOf};
-ghost use Rattle.solver.specs.Solver.{rowBytes, mostRows, mostColumns};
+ghost use Rattle.solver.specs.Solver.{rowBytes, mostRows, mostColumns, Eliminated};
 ghost use Rattle.finder.specs.Branch.{inSet, inOdd, withNode, tryBranch};
 ghost use Rattle.finder.specs.Finder.{workBytes};
-ghost use Rattle.finder.specs.Views.{triedOf, contextOf, graphJob, rowsOf, columnsOf, Within, RowsApart, SidesApart, byRank, block, columnBit, sideBit, Added, coefficients, sideIn, sidesIn, answerIn, nodeIn, Opened};
+ghost use Rattle.finder.specs.Views.{triedOf, contextOf, graphJob, rowsOf, columnsOf, Within, RowsApart, SidesApart, byRank, block, columnBit, sideBit, Added, coefficients, sideIn, sidesIn, rowsIn, answerIn, nodeIn, Opened};
 use nodes::utils::NodeSet;
 use nodes::utils::mask;
 use nodes::utils::set_at;
@@ -174,6 +174,15 @@ fn fill(work: &mut [u8], g: &[u64], s: Sets)
     put_columns(&mut work[start..], g, lower, columns, true);
 }
 
+// The work matrix with nothing but the coefficients.
+fn lay_out(work: &mut [u8], g: &[u64], s: Sets)
+    requires { ⌜ rowsOf s * rowBytes ≤ length (now work) ⌝ }
+    ensures { λ _. ⌜ Added (coefficients (now (g .entry)) s) (zeros (length (now (work .entry)))) (now (work .exit)) ⌝ }
+{
+    clear(work);
+    fill(work, g, s);
+}
+
 // One right side, in column col.
 fn put_side(work: &mut [u8], g: &[u64], s: Sets, u: u8, b: u8, col: usize)
     requires { ⌜ (rowsOf s * rowBytes ≤ length (now work)) × (u < capacity) × (col < mostColumns) ⌝ }
@@ -184,6 +193,18 @@ fn put_side(work: &mut [u8], g: &[u64], s: Sets, u: u8, b: u8, col: usize)
     put_column(work, upper, side_of(g, u, b, false), col);
     let start = upper.count() * ROW_BYTES;
     put_column(&mut work[start..], lower, side_of(g, u, b, true), col);
+}
+
+// The rows of the sets are eliminated, for all their right sides at once.
+fn eliminate_rows(work: &mut [u8], s: Sets, sides: usize)
+    requires { ⌜ (length (now work) ≡ workBytes) × (rowsOf s ≤ mostRows) × (columnsOf s + sides ≤ mostColumns) ⌝ }
+    ensures { λ _. ⌜ Eliminated (rowsOf s) (columnsOf s) sides (rowsIn s (now (work .entry))) (rowsIn s (now (work .exit))) ⌝ }
+    ensures { λ _. ⌜ length (now (work .exit)) ≡ length (now (work .entry)) ⌝ }
+{
+    let rows = row_count(s);
+    let columns = s.columns;
+    let end = rows * ROW_BYTES;
+    eliminate(&mut work[..end], rows, columns.count(), sides);
 }
 
 fn has_bit(out: &[u8], k: usize) -> bool
@@ -263,14 +284,10 @@ fn try_branch(work: &mut [u8], g: &[u64], n: usize, s: Sets, u: u8, b: u8) -> Tr
     ensures { λ r. ⌜ triedOf r ≡ tryBranch (graphJob n (now (g .entry))) (contextOf s) u b ⌝ }
     ensures { λ _. ⌜ length (now (work .exit)) ≡ length (now (work .entry)) ⌝ }
 {
-    let rows = row_count(s);
     let columns = s.columns;
-    let cols = columns.count();
-    clear(work);
-    fill(work, g, s);
-    put_side(work, g, s, u, b, cols);
-    let end = rows * ROW_BYTES;
-    eliminate(&mut work[..end], rows, cols, 1);
+    lay_out(work, g, s);
+    put_side(work, g, s, u, b, columns.count());
+    eliminate_rows(work, s, 1);
     with_own(answer_at(work, s, 0), u, b)
 }
 
@@ -297,14 +314,10 @@ fn open_round(work: &mut [u8], g: &[u64], n: usize, s: Sets, measured: &[u8])
     ensures { λ _. ⌜ Opened n (now (g .entry)) s (now (measured .entry)) (now (work .exit)) ⌝ }
     ensures { λ _. ⌜ length (now (work .exit)) ≡ length (now (work .entry)) ⌝ }
 {
-    let rows = row_count(s);
     let upper = s.upper;
-    let columns = s.columns;
-    clear(work);
-    fill(work, g, s);
+    lay_out(work, g, s);
     put_sides(work, g, s, measured);
-    let end = rows * ROW_BYTES;
-    eliminate(&mut work[..end], rows, columns.count(), upper.count());
+    eliminate_rows(work, s, upper.count());
 }
 
 // What the open round has for u of the upper rows, in branch b.

@@ -1,0 +1,26 @@
+use borrow.Author.Needs.{needs}
+use Rattle.finder.proofs.lay_out.Statement.{statement}
+use Rattle.finder.proofs.lay_out.Tie as tie
+use Rattle.finder.proofs.lay_out.Reads as reads
+use Rattle.finder.proofs.lay_out.Lts as lts
+use Rattle.finder.proofs.clear.Reads as clear-reads
+use Rattle.finder.proofs.fill.Reads as fill-reads
+
+-- src/lib.rt:182:5
+clear-requires : tie.Need-clear-requires
+clear-requires c κs = search needs
+
+-- src/lib.rt:183:5
+fill-requires : tie.Need-fill-requires
+fill-requires c κs = search needs
+
+-- src/lib.rt:178:1
+same-length : tie.Need-same-length
+same-length c = search needs
+
+-- src/lib.rt:178:1
+returns : tie.Need-returns
+returns c = ?
+
+pub lay-out-spec : {M : Type 1} → statement M
+lay-out-spec = tie.close (tie.spec clear-requires fill-requires same-length returns)
