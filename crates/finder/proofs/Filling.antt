@@ -15,7 +15,7 @@ use lib.ListN.{length, getD, set, take, drop, length-set, length-append, length-
 use lib.Seq.{getD-set-same, getD-set-other, take-all, getD-take, getD-drop, getD-append-add, length-take-le}
 use Rattle.nodes.specs.Bit.{bit, _⊕_}
 use Rattle.nodes.specs.Row.{anyBelow, count, lowest}
-use Rattle.nodes.specs.NodeSet.{capacity, highest, member}
+use Rattle.nodes.specs.NodeSet.{capacity, highest, member, wordsOf}
 use Rattle.nodes.specs.declared.utils.NodeSet.{NodeSet}
 use Rattle.nodes.specs.SetTable.{setAt, zeros}
 use Rattle.nodes.proofs.Logic.{is-true, is-false, from-false, and-l, and-r, or-none, or-assoc, or-comm, and-none, and-all, eqb-no, eqb-yes, eqb-comm, lt-or-ge, ⊕-none}
@@ -23,6 +23,7 @@ use Rattle.nodes.proofs.Row.{any-none, any-in, ltb-yes, ltb-no}
 use Rattle.nodes.proofs.Count.{count-ext, count-past, rank-lt}
 use Rattle.nodes.proofs.Members.{lowest-some, lowest-member}
 use Rattle.nodes.proofs.Remove.{removed, removed-other, removed-same, any-remove}
+use Rattle.nodes.proofs.NodeSet.{member-past}
 use Rattle.nodes.proofs.Bit.{bit-or, bit-pow, bit-zero}
 use Rattle.solver.specs.WorkMatrix.{entryOf}
 use Rattle.solver.specs.Solver.{rowBytes, mostColumns}
@@ -198,6 +199,14 @@ side-added g s measured u v b col l m p q r a =
     (subst (λ (c : ℕ). Added (sideIn g s u (getD measured u 0) c) l m) r (subst (λ (x : ℕ). Added (sideIn g s u x col) l m) q a))
 
 -- ---- the answer is taken out of its bits
+-- nothing is left
+pub none-left : (s : NodeSet) → (T (anyBelow capacity (member s)) → ⊥) → (u : ℕ) → member s u ≡ false
+none-left s f u = by (lt-or-ge u capacity)
+  where
+    by : (u < capacity) ⊎ (capacity ≤ u) → member s u ≡ false
+    by (inl h) = is-false (member s u) (λ t. f (any-in capacity (member s) u h t))
+    by (inr h) = member-past (wordsOf s) u h
+
 pub unpack-step : (f left found next after : ℕ → Bool) (k : ℕ) (y : Bool) → T (left k) → y ≡ f k → next ≡ removed left k → after ≡ (λ u. found u || (y && eqb u k))
     → (u : ℕ) → (after u || (next u && f u)) ≡ (found u || (left u && f u))
 unpack-step f left found next after k y t e n a u = ap₂ (λ (x z : ℕ → Bool). x u || (z u && f u)) a n ∙ by (ℕ-discrete u k)

@@ -1,3 +1,13 @@
+use mathlib.Core.Path.{_≡_, refl, sym, ap, ap₂, _∙_, subst, fun-ext}
+use mathlib.Core.Bool.{Bool, true, false, not, _&&_, _||_}
+use Prim.Native.Nat.{ℕ, _+_, _-_, _*_, _/_, _%_, _^_, _≤_, _<_}
+use native.Mathlib.Omega.{arith}
+use lib.ListN.{length, getD}
+use Rattle.nodes.specs.Row.{anyBelow, count, lowest}
+use Rattle.nodes.specs.NodeSet.{member, capacity, highest}
+use Rattle.finder.proofs.Filling.{added-both}
+use Rattle.finder.specs.Views.{block, columnBit}
+use Rattle.solver.specs.Solver.{rowBytes}
 use borrow.Author.Needs.{needs}
 use Rattle.finder.proofs.fill.Statement.{statement}
 use Rattle.finder.proofs.fill.Tie as tie
@@ -40,7 +50,11 @@ same-length c = search needs
 
 -- src/lib.rt:165:1
 returns : tie.Need-returns
-returns c = ?
+returns c = let a = c .before .before .before .before .before .before .before .before .before .before .before .before .before .before .args in
+    let p = c .before .before .before .before .before .before .before in
+    added-both (count capacity (member (a .s .upper))) _ _ _ (a .work .now)
+    (block (member (a .s .upper)) (member (a .s .columns)) (columnBit (a .g .now) false)) (block (member (a .s .lower)) (member (a .s .columns)) (columnBit (a .g .now) true))
+    (ap (λ (x : ℕ). x * rowBytes) (c .before .before .before .before .count .ensures)) (omega (arith, p .put-columns .ensures .size)) (p .put-columns .ensures) (c .before .before .put-columns2 .ensures)
 
 pub fill-spec : {M : Type 1} → statement M
 fill-spec =

@@ -1,3 +1,4 @@
+use Rattle.finder.proofs.Filling.{none-left}
 use mathlib.Core.Path.{_≡_, refl, sym, ap, ap₂, _∙_, subst, fun-ext}
 use mathlib.Core.Bool.{Bool, true, false, not, _&&_, _||_}
 use Prim.Native.Nat.{ℕ, _+_, _-_, _*_, _/_, _%_, _^_, _≤_, _<_}
@@ -89,7 +90,7 @@ loop-again c = let e = c .before .before .before .before .before .before in
     let some = unless-in (e .is-empty .result) (anyBelow capacity (member s)) (e .is-empty .ensures) (c .before .before .before .before .before .if1 .taken) in
     let l = e .before .loop in
     let a = e .before .before .before .before .args in
-    let f = λ (u : ℕ). entryOf rowBytes (a .out .now) 0 (count u (member (a .columns))) in
+    let f : ℕ → Bool = λ u. entryOf rowBytes (a .out .now) 0 (count u (member (a .columns))) in
     let w = c .before in
     let v = w .before .before .before .lowest .result in
     let y = w .before .has-bit .ensures ∙ ap (entryOf rowBytes (a .out .now) 0) (w .before .before .rank .ensures) in
@@ -104,7 +105,8 @@ returns c = let e = c .before in
     let l = e .before .loop in
     let a = e .before .before .before .before .args in
     let none = unless-out (e .is-empty .result) (anyBelow capacity (member (l .left))) (e .is-empty .ensures) (c .if1 .left) in
-    fun-ext (λ u. sym (or-none (member (l .found) u)) ∙ ap (λ (b : Bool). member (l .found) u || b) (sym (nothing (member (l .left)) none u (entryOf rowBytes (a .out .now) 0 (count u (member (a .columns)))))) ∙ l .inv u)
+    fun-ext (λ u. sym (or-none (member (l .found) u))
+    ∙ ap (λ (b : Bool). member (l .found) u || (b && entryOf rowBytes (a .out .now) 0 (count u (member (a .columns))))) (sym (none-left (l .left) none u)) ∙ l .inv u)
 
 pub unpack-spec : {M : Type 1} → statement M
 unpack-spec =
