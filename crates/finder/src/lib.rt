@@ -258,7 +258,9 @@ fn answer_at(work: &[u8], s: Sets, side: usize) -> Tried
     );
     match solved {
         Solved::Solvable => Tried::Set(unpack(&out, columns)),
-        _ => Tried::Nothing,
+        Solved::Unsolvable => Tried::Nothing,
+        Solved::WrongShape => Tried::Nothing,
+        Solved::NoSuchEquation => Tried::Nothing,
     }
 }
 

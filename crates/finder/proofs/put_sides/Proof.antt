@@ -108,10 +108,9 @@ loop-again c = let e = c .before .before .before .before .before .before .before
     let some = unless-in (e .is-empty .result) (anyBelow capacity (member s)) (e .is-empty .ensures) (c .before .before .before .before .before .before .before .before .if1 .taken) in
     let a = e .before .before .before .before .before .before .before .before .args in
     let l = e .before .loop in
-    let q = c .before .before in
-    let p = q .before in
-    let v = p .before .before .before .before .lowest in
-    let r = ap₂ _+_ (e .before .before .count .ensures) (p .before .rank .ensures) in
+    let q = c .before .before .before in
+    let v = q .before .before .before .before .lowest in
+    let r = ap₂ _+_ (e .before .before .count .ensures) (q .before .rank .ensures) in
     adding-step (λ u. sideIn (a .g .now) (a .s) u (getD (a .measured .now) u 0) (columnsOf (a .s) + count u (member (a .s .upper)))) (member (a .s .upper)) (a .work .now) (member s) (l .work) _ _ some
     (c .without-lowest .ensures) (side-added (a .g .now) (a .s) (a .measured .now) (v .result) (lowest capacity (member s)) _ _ _ _ (v .ensures) refl r (q .put-side .ensures)) (l .inv)
 
