@@ -9,7 +9,7 @@ use native.Mathlib.Nat.{add-sub-cancel-left}
 use native.Mathlib.Decide.{ℕ-discrete}
 use native.Mathlib.Omega.{arith}
 use lib.Dec.{T, eqb, leb, ltb, le→leb, leb→le, eqb→eq, eqb-refl}
-use lib.ListN.{length, getD, take, drop, length-append, length-drop}
+use lib.ListN.{length, getD, take, drop, length-append, length-drop, length-replicate}
 use lib.Seq.{getD-take, take-at, length-take-le}
 use Rattle.nodes.specs.Bit.{bit, _⊕_}
 use Rattle.nodes.specs.Row.{anyBelow, count}
@@ -190,13 +190,13 @@ module _ (n : ℕ) (g : List ℕ) (s : Sets) (w : Within n s) where
 
     entries : ((i q : ℕ) → q < columnsOf s → f i q ≡ false) → (v k : ℕ) → T (sys .row v) → T (member (s .columns) k)
         → entryOf rowBytes l (count v (sys .row)) (count k (member (s .columns))) ≡ sys .entry v k
-    entries none v k r t =
+    entries clear v k r t =
         let c = member (s .columns) in
         let h = member-lt (s .columns) k t in
         let q = rank-lt k capacity c h t in
         let room = count-le k c in
         bits (count v (sys .row)) (count k c) (omega arith)
-        ∙ ap₂ (λ (x y : Bool). x || y) (coefficient v k r t) (none (count v (sys .row)) (count k c) q) ∙ or-none (sys .entry v k)
+        ∙ ap₂ (λ (x y : Bool). x || y) (coefficient v k r t) (clear (count v (sys .row)) (count k c) q) ∙ or-none (sys .entry v k)
 
     side-entries : (side u x : ℕ) → columnsOf s + side < mostColumns → u < n
         → ((i : ℕ) → f i (columnsOf s + side) ≡ two (member (s .upper)) (member (s .lower)) (sideBit g false u x) (sideBit g true u x) i)
@@ -229,7 +229,7 @@ module _ (n : ℕ) (g : List ℕ) (s : Sets) (w : Within n s) where
         → ((i : ℕ) → f i (columnsOf s + side) ≡ two (member (s .upper)) (member (s .lower)) (sideBit g false u x) (sideBit g true u x) i)
         → (work : List ℕ) → Eliminated (rowsOf s) (columnsOf s) sides (rowsIn s l) (rowsIn s work)
         → withNode (inSet x) u (answerIn s work side) ≡ tryBranch (graphJob n g) (contextOf s) u x
-    reads none sides side u x h room q e work el =
+    reads clear sides side u x h room q e work el =
         let before = rowsIn s l in
         let d = sideOf rowBytes before (columnsOf s) side in
         ap (withNode (inSet x) u)
@@ -241,7 +241,7 @@ module _ (n : ℕ) (g : List ℕ) (s : Sets) (w : Within n s) where
         agrees : (v k : ℕ) → v < n + n → k < n → T (sys .row v) → T (member (s .columns) k) → entryOf rowBytes (rowsIn s l) (count v (sys .row)) (count k (member (s .columns))) ≡ sys .entry v k
         agrees v k g' j r t =
             part-entry (count v (sys .row)) (count k (member (s .columns))) (row-lt v g' r) (let z = count-le k (member (s .columns)) in let y = w .nodes in omega arith)
-            ∙ entries none v k r t
+            ∙ entries clear v k r t
 
         sides-agree : (v : ℕ) → v < n + n → T (sys .row v) → sideOf rowBytes (rowsIn s l) (columnsOf s) side (count v (sys .row)) ≡ sideAt (graphJob n g) u x v
         sides-agree v g' r =
@@ -303,7 +303,15 @@ side-room s u h f =
     let q = count-disjoint capacity (member (s .columns)) (λ k. eqb k u) (λ k l a b. f (subst (λ (x : ℕ). T (member (s .columns) x)) (eqb→eq k u b) a)) in
     omega arith
 
+-- as many bytes as there were zeros
+pub laid-length : (f : ℕ → ℕ → Bool) (n : ℕ) (l : List ℕ) → Added f (zeros n) l → length l ≡ n
+laid-length f n l a = a .size ∙ length-replicate {A = ℕ} n 0
+
 -- ---- the calls of the solver
+-- what is read off
+abbrev pub foundIn : Sets → List ℕ → ℕ → Option (ℕ → Bool)
+foundIn s work side = readOff (rowsOf s) (columnsOf s) (entryOf rowBytes (rowsIn s work)) (sideOf rowBytes (rowsIn s work) (columnsOf s) side)
+
 pub part-length : (rows : ℕ) (work : List ℕ) → rows ≤ mostRows → length work ≡ workBytes → length (take (rows * rowBytes) work) ≡ rows * rowBytes
 part-length rows work h e = length-take-le (rows * rowBytes) work (omega arith)
 
@@ -332,12 +340,8 @@ module _ (s : Sets) (rows cols : ℕ) (work : List ℕ) (p : rows ≡ rowsOf s) 
         length-append last (drop (rows * rowBytes) work) ∙ omega (arith, z, length-drop (rows * rowBytes) work),
       )
 
-  -- what is read off
-  abbrev found : ℕ → Option (ℕ → Bool)
-  found side = readOff (rowsOf s) (columnsOf s) (entryOf rowBytes (rowsIn s work)) (sideOf rowBytes (rowsIn s work) (columnsOf s) side)
-
   pub read-outcome : (side : ℕ) (out : List ℕ) → columnsOf s + side < mostColumns → length out ≡ rowBytes
-      → readOffCall (take (rows * rowBytes) work) out rows cols (side + 1) side ≡ outcome (found side) out
+      → readOffCall (take (rows * rowBytes) work) out rows cols (side + 1) side ≡ outcome (foundIn s work side) out
   unfolding readOffCall bothFit
   read-outcome side out room o =
       let f = fits-here (take (rows * rowBytes) work) rows cols (side + 1) (omega arith) (omega arith) part-size in
@@ -378,3 +382,12 @@ pub solved-none : (columns : NodeSet) (o : Option (ℕ → Bool)) (out last : Li
     → _≡_ {A = Outcome} (record { answer = r; out = last }) (outcome o out) → none ≡ gathered (member columns) o
 solved-none columns none out last r d a = refl
 solved-none columns (some x) out last r d a = absurd (d (ap (λ (x : Outcome). x .answer) a))
+
+pub unsolvable-other : (r : Solved) → r ≡ Unsolvable → r ≢ Solvable
+unsolvable-other r e f = let z : _≡_ {A = ℕ} 0 1 = cc in omega arith
+
+pub wrong-other : (r : Solved) → r ≡ WrongShape → r ≢ Solvable
+wrong-other r e f = let z : _≡_ {A = ℕ} 0 1 = cc in omega arith
+
+pub no-equation-other : (r : Solved) → r ≡ NoSuchEquation → r ≢ Solvable
+no-equation-other r e f = let z : _≡_ {A = ℕ} 0 1 = cc in omega arith

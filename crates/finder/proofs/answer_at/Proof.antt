@@ -1,3 +1,13 @@
+use mathlib.Core.Path.{_≡_, refl, sym, ap, ap₂, _∙_, subst, fun-ext}
+use mathlib.Core.Bool.{Bool, true, false, not, _&&_, _||_}
+use Prim.Native.Nat.{ℕ, _+_, _-_, _*_, _/_, _%_, _^_, _≤_, _<_}
+use native.Mathlib.Omega.{arith}
+use lib.ListN.{length, getD}
+use Rattle.nodes.specs.Row.{anyBelow, count, lowest}
+use Rattle.nodes.specs.NodeSet.{member, capacity, highest}
+use Rattle.solver.specs.Solver.{rowBytes, mostRows, mostColumns}
+use mathlib.Core.List.{List}
+use Rattle.finder.proofs.Packing.{foundIn, part-length, read-outcome, solved-some, solved-none, unsolvable-other, wrong-other, no-equation-other}
 use borrow.Author.Needs.{needs}
 use Rattle.finder.proofs.answer_at.Statement.{statement}
 use Rattle.finder.proofs.answer_at.Tie as tie
@@ -18,7 +28,10 @@ mul-end c = search needs
 
 -- src/lib.rt:252:9
 slice-aggregate-read-off : tie.Need-slice-aggregate-read-off
-slice-aggregate-read-off c = ?
+slice-aggregate-read-off c = let a = c .before .before .before .before .args in
+    let p = c .before .before .before .before .pre in
+    let r = c .before .before .row-count in
+    sym (part-length (r .result) (a .work .now) (omega (arith, r .ensures)) (p .0))
 
 -- src/lib.rt:253:9
 slice-aggregate-read-off-2 : tie.Need-slice-aggregate-read-off-2
@@ -62,19 +75,43 @@ enum-told-4 c = search needs
 
 -- src/lib.rt:243:1
 returns : tie.Need-returns
-returns c = ?
+returns c = let a = c .before .before .before .before .before .before .before .before .before .before .before .before .args in
+    let p = c .before .before .before .before .before .before .before .before .before .before .before .before .pre in
+    let r = c .before .before .before .before .before .before .before .before .before .before .row-count in
+    let n = c .before .before .before .before .before .before .count in
+    let e = c .before .before .before .before .before .read-off in
+    let o = e .ensures ∙ read-outcome (a .s) (r .result) (n .result) (a .work .now) (r .ensures) (n .ensures) (p .0) (p .1) (a .side) _ (p .2) (search needs) in
+    solved-some (a .s .columns) (foundIn (a .s) (a .work .now) (a .side)) _ _ (e .result) (member (c .unpack .result)) (c .before .before .enum-told .given .1) o (c .unpack .ensures)
 
 -- src/lib.rt:243:1
 returns-2 : tie.Need-returns-2
-returns-2 c = ?
+returns-2 c = let a = c .before .before .before .before .before .before .before .before .before .before .args in
+    let p = c .before .before .before .before .before .before .before .before .before .before .pre in
+    let r = c .before .before .before .before .before .before .before .before .row-count in
+    let n = c .before .before .before .before .count in
+    let e = c .before .before .before .read-off in
+    let o = e .ensures ∙ read-outcome (a .s) (r .result) (n .result) (a .work .now) (r .ensures) (n .ensures) (p .0) (p .1) (a .side) _ (p .2) (search needs) in
+    solved-none (a .s .columns) (foundIn (a .s) (a .work .now) (a .side)) _ _ (e .result) (unsolvable-other (e .result) (c .enum-told2 .given .1)) o
 
 -- src/lib.rt:243:1
 returns-3 : tie.Need-returns-3
-returns-3 c = ?
+returns-3 c = let a = c .before .before .before .before .before .before .before .before .before .before .args in
+    let p = c .before .before .before .before .before .before .before .before .before .before .pre in
+    let r = c .before .before .before .before .before .before .before .before .row-count in
+    let n = c .before .before .before .before .count in
+    let e = c .before .before .before .read-off in
+    let o = e .ensures ∙ read-outcome (a .s) (r .result) (n .result) (a .work .now) (r .ensures) (n .ensures) (p .0) (p .1) (a .side) _ (p .2) (search needs) in
+    solved-none (a .s .columns) (foundIn (a .s) (a .work .now) (a .side)) _ _ (e .result) (wrong-other (e .result) (c .enum-told3 .given .1)) o
 
 -- src/lib.rt:243:1
 returns-4 : tie.Need-returns-4
-returns-4 c = ?
+returns-4 c = let a = c .before .before .before .before .before .before .before .before .before .before .args in
+    let p = c .before .before .before .before .before .before .before .before .before .before .pre in
+    let r = c .before .before .before .before .before .before .before .before .row-count in
+    let n = c .before .before .before .before .count in
+    let e = c .before .before .before .read-off in
+    let o = e .ensures ∙ read-outcome (a .s) (r .result) (n .result) (a .work .now) (r .ensures) (n .ensures) (p .0) (p .1) (a .side) _ (p .2) (search needs) in
+    solved-none (a .s .columns) (foundIn (a .s) (a .work .now) (a .side)) _ _ (e .result) (no-equation-other (e .result) (c .enum-told4 .given .1)) o
 
 pub answer-at-spec : {M : Type 1} → statement M
 answer-at-spec =
