@@ -4,7 +4,7 @@ use mathlib.Core.Path.{_≡_, refl, sym, ap, ap₂, _∙_, subst, fun-ext}
 use mathlib.Core.Bool.{Bool, true, false, not, _&&_, _||_}
 use mathlib.Core.List.{List, _++_, append-nil}
 use mathlib.Core.Logic.{_≢_, _⊎_, inl, inr}
-use mathlib.Core.Option.{Option, none, some}
+use mathlib.Core.Option.{some}
 use native.Mathlib.Nat.{le-of-eq}
 use native.Mathlib.Decide.{ℕ-discrete}
 use native.Mathlib.Omega.{arith}
@@ -18,7 +18,7 @@ use Rattle.nodes.specs.Row.{anyBelow, count, lowest}
 use Rattle.nodes.specs.NodeSet.{capacity, highest, member, wordsOf}
 use Rattle.nodes.specs.declared.utils.NodeSet.{NodeSet}
 use Rattle.nodes.specs.SetTable.{setAt, zeros}
-use Rattle.nodes.proofs.Logic.{is-true, is-false, from-false, and-l, and-r, or-none, or-assoc, or-comm, and-none, and-all, eqb-no, eqb-yes, eqb-comm, lt-or-ge, ⊕-none}
+use Rattle.nodes.proofs.Logic.{is-true, is-false, from-false, and-l, and-r, or-none, or-assoc, and-none, and-all, eqb-no, eqb-yes, eqb-comm, lt-or-ge, ⊕-none}
 use Rattle.nodes.proofs.Row.{any-none, any-in, ltb-yes, ltb-no}
 use Rattle.nodes.proofs.Count.{count-ext, count-past, rank-lt}
 use Rattle.nodes.proofs.Members.{lowest-some, lowest-member}
@@ -31,7 +31,7 @@ use Rattle.finder.specs.Branch.{inSet, inOdd, withNode}
 use Rattle.finder.specs.Views.{Added, stacked, byRank, columnBit, sideBit, sideIn, columnsOf, triedOf}
 use Rattle.finder.specs.declared.Sets.{Sets}
 use Rattle.finder.specs.declared.Tried.{Tried}
-use Rattle.finder.specs.declared.Tried.the-variants.{Set, Nothing}
+use Rattle.finder.specs.declared.Tried.the-variants.{Set}
 
 -- ---- a rank, counted in the part of the set below v
 pub rank-count : (s : ℕ → Bool) (v : ℕ) → v < capacity → count capacity (λ u. s u && (ltb u v && leb u highest)) ≡ count v s
@@ -132,10 +132,6 @@ pub record Adding (f : ℕ → ℕ → ℕ → Bool) (all : ℕ → Bool) (befor
 pub adding-start : (f : ℕ → ℕ → ℕ → Bool) (s : ℕ → Bool) (l : List ℕ) → Adding f s l s l
 adding-start f s l = record { within = λ v t. t; size = refl; bits = λ i k h. refl }
 
--- of a set that is said twice
-pub adding-from : (f : ℕ → ℕ → ℕ → Bool) (s t : ℕ → Bool) (l : List ℕ) → t ≡ s → Adding f s l t l
-adding-from f s t l e = rw e (adding-start f s l)
-
 pub adding-step : (f : ℕ → ℕ → ℕ → Bool) (all : ℕ → Bool) (before : List ℕ) (left : ℕ → Bool) (l : List ℕ) (next : ℕ → Bool) (m : List ℕ)
     → T (anyBelow capacity left) → next ≡ removed left (lowest capacity left) → Added (f (lowest capacity left)) l m → Adding f all before left l → Adding f all before next m
 adding-step f all before left l next m t e a g =
@@ -143,10 +139,10 @@ adding-step f all before left l next m t e a g =
       within = λ v q. g .within v (and-l (left v) (not (eqb v (lowest capacity left))) q);
       size = a .size ∙ g .size;
       bits = λ i k h.
-        ap (λ (b : Bool). b || anyBelow capacity (λ v. removed left (lowest capacity left) v && f v i k)) (a .bits i k h)
-        ∙ or-assoc (entryOf rowBytes l i k) (f (lowest capacity left) i k) (anyBelow capacity (λ v. removed left (lowest capacity left) v && f v i k))
-        ∙ ap (λ (b : Bool). entryOf rowBytes l i k || b) (sym (any-remove capacity left (λ v. f v i k) (lowest capacity left) (lowest-some capacity left t) (lowest-member capacity left t)))
-        ∙ g .bits i k h;
+          ap (λ (b : Bool). b || anyBelow capacity (λ v. removed left (lowest capacity left) v && f v i k)) (a .bits i k h)
+          ∙ or-assoc (entryOf rowBytes l i k) (f (lowest capacity left) i k) (anyBelow capacity (λ v. removed left (lowest capacity left) v && f v i k))
+          ∙ ap (λ (b : Bool). entryOf rowBytes l i k || b) (sym (any-remove capacity left (λ v. f v i k) (lowest capacity left) (lowest-some capacity left t) (lowest-member capacity left t)))
+          ∙ g .bits i k h;
     }
 
 pub adding-done : (f : ℕ → ℕ → ℕ → Bool) (all : ℕ → Bool) (before : List ℕ) (left : ℕ → Bool) (l : List ℕ)
@@ -154,8 +150,8 @@ pub adding-done : (f : ℕ → ℕ → ℕ → Bool) (all : ℕ → Bool) (befor
 adding-done f all before left l n g = record {
   size = g .size;
   bits = λ i k h.
-    sym (ap (λ (b : Bool). entryOf rowBytes l i k || b) (any-none capacity (λ v. left v && f v i k) (λ v p t. n (any-in capacity left v p (and-l (left v) (f v i k) t)))) ∙ or-none (entryOf rowBytes l i k))
-    ∙ g .bits i k h;
+      sym (ap (λ (b : Bool). entryOf rowBytes l i k || b) (any-none capacity (λ v. left v && f v i k) (λ v p t. n (any-in capacity left v p (and-l (left v) (f v i k) t)))) ∙ or-none (entryOf rowBytes l i k))
+      ∙ g .bits i k h;
 }
 
 -- the same bits, said in another way

@@ -1,7 +1,7 @@
 -- The filled work matrix is the system of a try, row by row and column by column, and what is read off it is the try's answer.
 use Prim.Native.Nat.{ℕ, _+_, _-_, _*_, _/_, _%_, _≤_, _<_}
 use mathlib.Core.Path.{_≡_, refl, sym, ap, ap₂, _∙_, subst, fun-ext}
-use mathlib.Core.Bool.{Bool, true, false, cond, not, _&&_, _||_}
+use mathlib.Core.Bool.{Bool, true, false, cond, _&&_, _||_}
 use mathlib.Core.List.{List, _++_}
 use mathlib.Core.Logic.{_≢_, _⊎_, inl, inr}
 use mathlib.Core.Option.{Option, none, some}
@@ -16,13 +16,13 @@ use Rattle.nodes.specs.Row.{anyBelow, count}
 use Rattle.nodes.specs.NodeSet.{capacity, member, wordsOf}
 use Rattle.nodes.specs.SetTable.{setAt, zeros}
 use Rattle.nodes.specs.declared.utils.NodeSet.{NodeSet}
-use Rattle.nodes.proofs.Logic.{is-true, is-false, from-true, dec, and-l, and-r, and-in, or-none, and-none, and-all, ⊕-none, eqb-no, eqb-yes, beq-eq, lt-or-ge}
+use Rattle.nodes.proofs.Logic.{is-true, is-false, dec, and-l, and-r, or-none, and-none, and-all, ⊕-none, eqb-no, eqb-yes, beq-eq, lt-or-ge}
 use Rattle.nodes.proofs.Row.{any-in, any-out, any-none, ltb-yes, ltb-no}
 use Rattle.nodes.proofs.Count.{count-le, count-ext, count-split, count-past, count-pos, rank-lt, rank-inj}
 use Rattle.nodes.proofs.NodeSet.{member-past}
 use Rattle.solver.specs.System.{System, solve}
 use Rattle.solver.specs.Reduced.{readOff}
-use Rattle.solver.specs.WorkMatrix.{entryOf, sideOf, bytesOf, digits}
+use Rattle.solver.specs.WorkMatrix.{entryOf, sideOf, bytesOf}
 use Rattle.solver.specs.Packed.{spread, spreadAll}
 use Rattle.solver.specs.Solver.{rowBytes, mostRows, mostColumns, fits, bothFit, Eliminated, MatrixAfter, Outcome, outcome, readOffCall}
 use Rattle.solver.specs.declared.gf2_linalg.Solved.{Solved}
@@ -30,12 +30,22 @@ use Rattle.solver.specs.declared.gf2_linalg.Solved.the-variants.{Solvable, Unso
 use Rattle.solver.proofs.Packed.{spread-answer}
 use Rattle.solver.proofs.Reduced.{plain, read-off}
 use Rattle.solver.proofs.WorkMatrix.{byte-at, bit-digits}
-use Rattle.finder.specs.Branch.{Context, inSet, inOdd, entryAt, systemAt, sideAt, withNode, tryBranch}
-use Rattle.finder.specs.Finder.{workBytes}
-use Rattle.finder.specs.Views.{contextOf, graphJob, rowsOf, columnsOf, Within, RowsApart, SidesApart, byRank, block, columnBit, sideBit, Added, stacked, coefficients, sideIn, sidesIn, gathered, rowsIn, answerIn, nodeIn, Opened}
+use Rattle.finder.specs.Branch.{Context, inSet, inOdd, systemAt, sideAt, withNode, tryBranch}
+use Rattle.finder.specs.Finder.{jobIn, workBytes}
+use Rattle.finder.specs.Views.{contextOf, graphJob, rowsOf, columnsOf, Within, RowsApart, SidesApart, byRank, block, columnBit, sideBit, Added, coefficients, sideIn, sidesIn, gathered, rowsIn, answerIn, Opened}
 use Rattle.finder.specs.declared.Sets.{Sets}
 use Rattle.finder.proofs.Sizes.{count-disjoint, rows-count}
 use Rattle.finder.proofs.Filling.{zeros-entry}
+
+-- ---- for the callers: a try asks only for the nodes and the graph of a job, and a context is its three sets
+pub same-try : (n : ℕ) (g : List ℕ) (inputs outputs : NodeSet) (measured : List ℕ) (c : Context) (u b : ℕ)
+    → tryBranch (graphJob n g) c u b ≡ tryBranch (jobIn n g inputs outputs measured) c u b
+same-try n g inputs outputs measured c u b = refl
+
+pub context-is : (s : Sets) (c : Context) → member (s .columns) ≡ c .column → member (s .upper) ≡ c .upper → member (s .lower) ≡ c .lower → contextOf s ≡ c
+context-is s c p q r =
+    ap₂ (λ (f g : ℕ → Bool). record { column = f; upper = g; lower = member (s .lower) }) p q
+    ∙ ap (λ (f : ℕ → Bool). record { column = c .column; upper = c .upper; lower = f }) r
 
 -- ---- members
 pub member-lt : (s : NodeSet) (v : ℕ) → T (member s v) → v < capacity
@@ -332,11 +342,10 @@ module _ (s : Sets) (rows cols : ℕ) (work : List ℕ) (p : rows ≡ rowsOf s) 
       let f = fits-here (take (rows * rowBytes) work) rows cols sides (omega arith) (omega arith) part-size in
       let d : Eliminated rows cols sides (take (rows * rowBytes) work) last = subst (λ (x : Bool). MatrixAfter x rows cols sides (take (rows * rowBytes) work) last) f m in
       let z : length last ≡ rows * rowBytes = d .size ∙ part-size in
-      let k : take (rows * rowBytes) (last ++ drop (rows * rowBytes) work) ≡ last = take-at last (drop (rows * rowBytes) work) (rows * rowBytes) z in
-      (
+      let k : take (rows * rowBytes) (last ++ drop (rows * rowBytes) work) ≡ last = take-at last (drop (rows * rowBytes) work) (rows * rowBytes) z in (
         subst (λ (r : ℕ). Eliminated r (columnsOf s) sides (take (r * rowBytes) work) (take (r * rowBytes) (last ++ drop (rows * rowBytes) work))) p
-        (subst (λ (c : ℕ). Eliminated rows c sides (take (rows * rowBytes) work) (take (rows * rowBytes) (last ++ drop (rows * rowBytes) work))) q
-        (subst (λ (x : List ℕ). Eliminated rows cols sides (take (rows * rowBytes) work) x) (sym k) d)),
+            (subst (λ (c : ℕ). Eliminated rows c sides (take (rows * rowBytes) work) (take (rows * rowBytes) (last ++ drop (rows * rowBytes) work))) q
+            (subst (λ (x : List ℕ). Eliminated rows cols sides (take (rows * rowBytes) work) x) (sym k) d)),
         length-append last (drop (rows * rowBytes) work) ∙ omega (arith, z, length-drop (rows * rowBytes) work),
       )
 

@@ -1,9 +1,9 @@
 // The finders' tries: the equations of a node in the lent work matrix, and the set that solves them.
 ghost use mathlib.Core.Path.{_≡_};
-ghost use mathlib.Core.Bool.{Bool, true, false, not, _&&_, _||_};
+ghost use mathlib.Core.Bool.{true, false, not, _&&_, _||_};
 ghost use Prim.Native.Nat.{ℕ, _+_, _*_, _<_, _≤_};
-ghost use lib.ListN.{length, getD};
-ghost use lib.Dec.{T, eqb, ltb};
+ghost use lib.ListN.{length};
+ghost use lib.Dec.{T, eqb};
 ghost use Rattle.nodes.specs.Row.{count};
 ghost use Rattle.nodes.specs.NodeSet.{member, capacity};
 ghost use Rattle.nodes.specs.SetTable.{zeros};
@@ -70,6 +70,7 @@ fn rank(s: NodeSet, v: u8) -> usize
     s.intersection(NodeSet::below(v as usize)).count()
 }
 
+// Upper and lower rows together.
 fn row_count(s: Sets) -> usize
     ensures { λ r. ⌜ r ≡ rowsOf s ⌝ }
 {
@@ -78,7 +79,7 @@ fn row_count(s: Sets) -> usize
     upper.count() + lower.count()
 }
 
-// The search clears the work matrix before each try, and at its end.
+// Every byte becomes 0.
 fn clear(work: &mut [u8])
     ensures { λ _. ⌜ now (work .exit) ≡ zeros (length (now (work .entry))) ⌝ }
 {
@@ -89,6 +90,7 @@ fn clear(work: &mut [u8])
     }
 }
 
+// The bit of the column is set in the row.
 fn put_bit(work: &mut [u8], row: usize, col: usize)
     requires { ⌜ (row * rowBytes + rowBytes ≤ length (now work)) × (col < mostColumns) ⌝ }
     ensures { λ _. ⌜ Added (λ i k. eqb k col && eqb row i) (now (work .entry)) (now (work .exit)) ⌝ }
@@ -207,6 +209,7 @@ fn eliminate_rows(work: &mut [u8], s: Sets, sides: usize)
     eliminate(&mut work[..end], rows, columns.count(), sides);
 }
 
+// Whether bit k of the out bits is set.
 fn has_bit(out: &[u8], k: usize) -> bool
     requires { ⌜ (length (now out) ≡ rowBytes) × (k < mostColumns) ⌝ }
     ensures { λ r. ⌜ r ≡ entryOf rowBytes (now (out .entry)) 0 k ⌝ }
@@ -214,6 +217,7 @@ fn has_bit(out: &[u8], k: usize) -> bool
     (out[k / 8] >> ((k % 8) as u8)) & 1 != 0
 }
 
+// v is added where `yes` says so.
 fn with_if(s: NodeSet, v: u8, yes: bool) -> NodeSet
     requires { ⌜ v < capacity ⌝ }
     ensures { λ r. ⌜ member r ≡ (λ u. member s u || (yes && eqb u v)) ⌝ }

@@ -1,79 +1,54 @@
-use mathlib.Core.Path.{_≡_, refl, sym, ap, ap₂, _∙_, subst, fun-ext}
-use mathlib.Core.Bool.{Bool, true, false, not, _&&_, _||_}
-use Prim.Native.Nat.{ℕ, _+_, _-_, _*_, _/_, _%_, _^_, _≤_, _<_}
+use mathlib.Core.Path.{sym, _∙_}
 use native.Mathlib.Omega.{arith}
-use lib.ListN.{length, getD}
-use Rattle.nodes.specs.Row.{anyBelow, count, lowest}
-use Rattle.nodes.specs.NodeSet.{member, capacity, highest}
-use Rattle.solver.specs.Solver.{rowBytes, mostRows, mostColumns}
-use mathlib.Core.List.{List}
+use Rattle.nodes.specs.Row.{count}
+use Rattle.nodes.specs.NodeSet.{member}
 use Rattle.finder.proofs.Packing.{foundIn, part-length, read-outcome, solved-some, solved-none, unsolvable-other, wrong-other, no-equation-other}
 use borrow.Author.Needs.{needs}
 use Rattle.finder.proofs.answer_at.Statement.{statement}
 use Rattle.finder.proofs.answer_at.Tie as tie
-use Rattle.finder.proofs.answer_at.Reads as reads
-use Rattle.finder.proofs.answer_at.Lts as lts
-use Rattle.finder.proofs.row_count.Reads as row-count-reads
-use Rattle.finder.proofs.unpack.Reads as unpack-reads
-use Rattle.nodes.proofs.utils.NodeSet.count.Reads as count-reads
-use Rattle.solver.proofs.gf2_linalg.read_off.Reads as read-off-reads
 
--- src/lib.rt:247:9
 row-count-requires : tie.Need-row-count-requires
 row-count-requires c κs = search needs
 
--- src/lib.rt:249:15
 mul-end : tie.Need-mul-end
 mul-end c = search needs
 
--- src/lib.rt:252:9
 slice-aggregate-read-off : tie.Need-slice-aggregate-read-off
 slice-aggregate-read-off c = let a = c .before .before .before .before .args in
     let p = c .before .before .before .before .pre in
     let r = c .before .before .row-count in
     sym (part-length (r .result) (a .work .now) (omega (arith, r .ensures)) (p .0))
 
--- src/lib.rt:253:9
 slice-aggregate-read-off-2 : tie.Need-slice-aggregate-read-off-2
 slice-aggregate-read-off-2 c = search needs
 
--- src/lib.rt:255:9
 count-requires : tie.Need-count-requires
 count-requires c κs = search needs
 
--- src/lib.rt:256:9
 add-read-off : tie.Need-add-read-off
 add-read-off c = search needs
 
--- src/lib.rt:251:9
 read-off-requires : tie.Need-read-off-requires
 read-off-requires c κs = search needs
 
--- src/lib.rt:260:47
 enum-told : tie.Need-enum-told
 enum-told c = search needs
 
--- src/lib.rt:260:47
 slice-aggregate-unpack : tie.Need-slice-aggregate-unpack
 slice-aggregate-unpack c = search needs
 
--- src/lib.rt:260:40
 unpack-requires : tie.Need-unpack-requires
 unpack-requires c κs = search needs
 
--- src/lib.rt:261:31
 enum-told-2 : tie.Need-enum-told-2
 enum-told-2 c = search needs
 
--- src/lib.rt:262:31
 enum-told-3 : tie.Need-enum-told-3
 enum-told-3 c = search needs
 
--- src/lib.rt:263:35
 enum-told-4 : tie.Need-enum-told-4
 enum-told-4 c = search needs
 
--- src/lib.rt:243:1
 returns : tie.Need-returns
 returns c = let a = c .before .before .before .before .before .before .before .before .before .before .before .before .args in
     let p = c .before .before .before .before .before .before .before .before .before .before .before .before .pre in
@@ -83,7 +58,6 @@ returns c = let a = c .before .before .before .before .before .before .before .b
     let o = e .ensures ∙ read-outcome (a .s) (r .result) (n .result) (a .work .now) (r .ensures) (n .ensures) (p .0) (p .1) (a .side) _ (p .2) (search needs) in
     solved-some (a .s .columns) (foundIn (a .s) (a .work .now) (a .side)) _ _ (e .result) (member (c .unpack .result)) (c .before .before .enum-told .given .1) o (c .unpack .ensures)
 
--- src/lib.rt:243:1
 returns-2 : tie.Need-returns-2
 returns-2 c = let a = c .before .before .before .before .before .before .before .before .before .before .args in
     let p = c .before .before .before .before .before .before .before .before .before .before .pre in
@@ -93,7 +67,6 @@ returns-2 c = let a = c .before .before .before .before .before .before .before 
     let o = e .ensures ∙ read-outcome (a .s) (r .result) (n .result) (a .work .now) (r .ensures) (n .ensures) (p .0) (p .1) (a .side) _ (p .2) (search needs) in
     solved-none (a .s .columns) (foundIn (a .s) (a .work .now) (a .side)) _ _ (e .result) (unsolvable-other (e .result) (c .enum-told2 .given .1)) o
 
--- src/lib.rt:243:1
 returns-3 : tie.Need-returns-3
 returns-3 c = let a = c .before .before .before .before .before .before .before .before .before .before .args in
     let p = c .before .before .before .before .before .before .before .before .before .before .pre in
@@ -103,7 +76,6 @@ returns-3 c = let a = c .before .before .before .before .before .before .before 
     let o = e .ensures ∙ read-outcome (a .s) (r .result) (n .result) (a .work .now) (r .ensures) (n .ensures) (p .0) (p .1) (a .side) _ (p .2) (search needs) in
     solved-none (a .s .columns) (foundIn (a .s) (a .work .now) (a .side)) _ _ (e .result) (wrong-other (e .result) (c .enum-told3 .given .1)) o
 
--- src/lib.rt:243:1
 returns-4 : tie.Need-returns-4
 returns-4 c = let a = c .before .before .before .before .before .before .before .before .before .before .args in
     let p = c .before .before .before .before .before .before .before .before .before .before .pre in

@@ -1,54 +1,37 @@
-use mathlib.Core.Path.{_≡_, refl, sym, ap, ap₂, _∙_, subst, fun-ext}
-use mathlib.Core.Bool.{Bool, true, false, not, _&&_, _||_}
-use Prim.Native.Nat.{ℕ, _+_, _-_, _*_, _/_, _%_, _^_, _≤_, _<_}
-use native.Mathlib.Omega.{arith}
-use lib.ListN.{length, getD}
-use Rattle.nodes.specs.Row.{anyBelow, count, lowest}
-use Rattle.nodes.specs.NodeSet.{member, capacity, highest}
+use mathlib.Core.Path.{_≡_, sym, ap, ap₂, _∙_}
+use mathlib.Core.Bool.{Bool, true, false, not, _&&_}
+use Rattle.nodes.specs.NodeSet.{member}
 use Rattle.finder.proofs.Filling.{one-node, asked-none, asked-one}
 use Rattle.finder.specs.Branch.{inOdd}
 use borrow.Author.Needs.{needs}
 use Rattle.finder.proofs.asked_of.Statement.{statement}
 use Rattle.finder.proofs.asked_of.Tie as tie
-use Rattle.finder.proofs.asked_of.Reads as reads
-use Rattle.finder.proofs.asked_of.Lts as lts
-use Rattle.finder.proofs.in_odd.Reads as in-odd-reads
-use Rattle.nodes.proofs.utils.NodeSet.empty.Reads as empty-reads
-use Rattle.nodes.proofs.utils.NodeSet.with.Reads as with-reads
 
--- src/lib.rt:144:9
 empty-requires : tie.Need-empty-requires
 empty-requires c κs = search needs
 
--- src/lib.rt:144:9
 returns : tie.Need-returns
 returns c = let a = c .before .before .args in
     asked-none (member (c .empty .result)) (a .u) (not (a .lower) && inOdd (a .b)) (ap (λ (x : Bool). not x && inOdd (a .b)) (c .before .if1 .taken)) (c .empty .ensures)
 
--- src/lib.rt:146:8
 in-odd-requires : tie.Need-in-odd-requires
 in-odd-requires c κs = search needs
 
--- src/lib.rt:147:16
 empty-requires-2 : tie.Need-empty-requires-2
 empty-requires-2 c κs = search needs
 
--- src/lib.rt:147:9
 with-requires : tie.Need-with-requires
 with-requires c κs = search needs
 
--- src/lib.rt:147:9
 returns-2 : tie.Need-returns-2
 returns-2 c = let a = c .before .before .before .before .before .args in
     let odd : inOdd (a .b) ≡ true = sym (c .before .before .before .in-odd .ensures) ∙ c .before .before .if2 .taken in
     asked-one (member (c .with .result)) (a .u) (not (a .lower) && inOdd (a .b)) (ap₂ (λ (x y : Bool). not x && y) (c .before .before .before .before .if1 .left) odd)
     (one-node (member (c .before .empty2 .result)) (member (c .with .result)) (a .u) (search needs) (c .before .empty2 .ensures) (c .with .ensures))
 
--- src/lib.rt:149:5
 empty-requires-3 : tie.Need-empty-requires-3
 empty-requires-3 c κs = search needs
 
--- src/lib.rt:139:1
 returns-3 : tie.Need-returns-3
 returns-3 c = let a = c .before .before .before .before .args in
     let odd : inOdd (a .b) ≡ false = sym (c .before .before .in-odd .ensures) ∙ c .before .if2 .left in

@@ -1,27 +1,17 @@
-use mathlib.Core.Path.{_≡_, refl, sym, ap, ap₂, _∙_, subst, fun-ext}
-use mathlib.Core.Bool.{Bool, true, false, not, _&&_, _||_}
-use Prim.Native.Nat.{ℕ, _+_, _-_, _*_, _/_, _%_, _^_, _≤_, _<_}
+use mathlib.Core.Path.{ap, _∙_}
+use mathlib.Core.Bool.{_&&_}
+use Prim.Native.Nat.{ℕ}
 use native.Mathlib.Omega.{arith}
-use lib.ListN.{length, getD}
 use Rattle.nodes.specs.Row.{anyBelow, count, lowest}
-use Rattle.nodes.specs.NodeSet.{member, capacity, highest}
-use Rattle.nodes.proofs.Logic.{unless-in, unless-out, or-none, is-false, and-l}
+use Rattle.nodes.specs.NodeSet.{member, capacity}
+use Rattle.nodes.proofs.Logic.{unless-in, unless-out}
 use Rattle.nodes.proofs.Remove.{count-lowest}
-use Rattle.nodes.proofs.Members.{lowest-some, lowest-member}
-use lib.Dec.{T, eqb}
+use Rattle.nodes.proofs.Members.{lowest-some}
+use lib.Dec.{eqb}
 use Rattle.finder.proofs.Filling.{Adding, adding-start, adding-step, adding-done, column-done, row-room, row-added}
-use Rattle.solver.specs.Solver.{rowBytes}
 use borrow.Author.Needs.{needs}
 use Rattle.finder.proofs.put_column.Statement.{statement}
 use Rattle.finder.proofs.put_column.Tie as tie
-use Rattle.finder.proofs.put_column.Reads as reads
-use Rattle.finder.proofs.put_column.Lts as lts
-use Rattle.finder.proofs.put_bit.Reads as put-bit-reads
-use Rattle.finder.proofs.rank.Reads as rank-reads
-use Rattle.nodes.proofs.utils.NodeSet.intersection.Reads as intersection-reads
-use Rattle.nodes.proofs.utils.NodeSet.is_empty.Reads as is-empty-reads
-use Rattle.nodes.proofs.utils.NodeSet.lowest.Reads as lowest-reads
-use Rattle.nodes.proofs.utils.NodeSet.without_lowest.Reads as without-lowest-reads
 
 abbrev Inv-loop : tie.InvT-loop
 Inv-loop work₀ rows col left₀ work left = Adding (λ v i k. eqb k col && eqb (count v (member rows)) i) (member left₀) work₀ (member left) work
@@ -29,31 +19,25 @@ Inv-loop work₀ rows col left₀ work left = Adding (λ v i k. eqb k col && eqb
 abbrev μ-loop : tie.MeasureT-loop
 μ-loop work₀ rows col left₀ work left = count capacity (member left)
 
--- src/lib.rt:105:9
 intersection-requires : tie.Need-intersection-requires Inv-loop μ-loop
 intersection-requires c κs = search needs
 
--- src/lib.rt:106:5
 loop-holds : tie.Need-loop-holds Inv-loop μ-loop
 loop-holds c = let a = c .before .before .args in
     adding-start (λ v i k. eqb k (a .col) && eqb (count v (member (a .rows))) i) (member (c .intersection .result)) (a .work .now)
 
--- src/lib.rt:106:12
 is-empty-requires : tie.Need-is-empty-requires Inv-loop μ-loop
 is-empty-requires c κs = search needs
 
--- src/lib.rt:107:13
 lowest-requires : tie.Need-lowest-requires Inv-loop μ-loop
 lowest-requires c κs = search needs
 
--- src/lib.rt:108:23
 rank-requires : tie.Need-rank-requires Inv-loop μ-loop
 rank-requires c κs = let e = c .before .before .before in
     let s = e .before .loop .left in
     let some = unless-in (e .is-empty .result) (anyBelow capacity (member s)) (e .is-empty .ensures) (c .before .before .if1 .taken) in
     omega (arith, c .before .lowest .ensures, lowest-some capacity (member s) some)
 
--- src/lib.rt:108:9
 put-bit-requires : tie.Need-put-bit-requires Inv-loop μ-loop
 put-bit-requires c κs = let e = c .before .before .before .before in
     let s = e .before .loop .left in
@@ -64,18 +48,15 @@ put-bit-requires c κs = let e = c .before .before .before .before in
     let r = c .rank .ensures ∙ ap (λ (v : ℕ). count v (member (a .rows))) (c .before .before .lowest .ensures) in
     (omega (arith, row-room (member (a .rows)) (member (a .s)) (member (i .result)) (member s) (c .rank .result) (i .ensures) some (g .within) r, g .size), search needs)
 
--- src/lib.rt:109:9
 without-lowest-requires : tie.Need-without-lowest-requires Inv-loop μ-loop
 without-lowest-requires c κs = search needs
 
--- src/lib.rt:106:5
 loop-less : tie.Need-loop-less Inv-loop μ-loop
 loop-less c = let e = c .before .before .before .before .before .before .before .before in
     let s = e .before .loop .left in
     let some = unless-in (e .is-empty .result) (anyBelow capacity (member s)) (e .is-empty .ensures) (c .before .before .before .before .before .before .before .if1 .taken) in
     omega (arith, count-lowest capacity (member s) some, ap (count capacity) (c .without-lowest .ensures))
 
--- src/lib.rt:106:5
 loop-again : tie.Need-loop-again Inv-loop μ-loop
 loop-again c = let e = c .before .before .before .before .before .before .before .before in
     let s = e .before .loop .left in
@@ -86,13 +67,11 @@ loop-again c = let e = c .before .before .before .before .before .before .before
     let q = c .before .before .before .before in
     let r = q .rank .ensures ∙ ap (λ (v : ℕ). count v (member (a .rows))) (q .before .before .lowest .ensures) in
     adding-step (λ v i k. eqb k (a .col) && eqb (count v (member (a .rows))) i) (member (i .result)) (a .work .now) (member s) (l .work) _ _ some
-    (c .without-lowest .ensures ∙ refl) (row-added (a .col) _ _ _ _ r (c .before .before .before .put-bit .ensures)) (l .inv)
+    (c .without-lowest .ensures) (row-added (a .col) _ _ _ _ r (c .before .before .before .put-bit .ensures)) (l .inv)
 
--- src/lib.rt:101:1
 same-length : tie.Need-same-length Inv-loop μ-loop
 same-length c = search needs
 
--- src/lib.rt:101:1
 returns : tie.Need-returns Inv-loop μ-loop
 returns c = let e = c .before in
     let l = e .before .loop in

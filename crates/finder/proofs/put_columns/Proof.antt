@@ -1,29 +1,19 @@
-use mathlib.Core.Path.{_≡_, refl, sym, ap, ap₂, _∙_, subst, fun-ext}
-use mathlib.Core.Bool.{Bool, true, false, not, _&&_, _||_}
-use Prim.Native.Nat.{ℕ, _+_, _-_, _*_, _/_, _%_, _^_, _≤_, _<_}
+use mathlib.Core.Path.{ap, _∙_}
+use mathlib.Core.Bool.{_&&_}
+use Prim.Native.Nat.{ℕ}
 use native.Mathlib.Omega.{arith}
-use lib.ListN.{length, getD}
 use Rattle.nodes.specs.Row.{anyBelow, count, lowest}
-use Rattle.nodes.specs.NodeSet.{member, capacity, highest}
-use Rattle.nodes.proofs.Logic.{unless-in, unless-out, or-none, is-false, and-l}
+use Rattle.nodes.specs.NodeSet.{member, capacity}
+use Rattle.nodes.proofs.Logic.{unless-in, unless-out}
 use Rattle.nodes.proofs.Remove.{count-lowest}
-use Rattle.nodes.proofs.Members.{lowest-some, lowest-member}
-use lib.Dec.{T, eqb}
+use Rattle.nodes.proofs.Members.{lowest-some}
+use lib.Dec.{eqb}
 use Rattle.finder.proofs.Filling.{Adding, adding-start, adding-step, adding-done, column-added}
 use Rattle.finder.specs.Views.{byRank, columnBit}
 use Rattle.nodes.proofs.Count.{count-le}
-use Rattle.solver.specs.Solver.{rowBytes}
 use borrow.Author.Needs.{needs}
 use Rattle.finder.proofs.put_columns.Statement.{statement}
 use Rattle.finder.proofs.put_columns.Tie as tie
-use Rattle.finder.proofs.put_columns.Reads as reads
-use Rattle.finder.proofs.put_columns.Lts as lts
-use Rattle.finder.proofs.column_of.Reads as column-of-reads
-use Rattle.finder.proofs.put_column.Reads as put-column-reads
-use Rattle.finder.proofs.rank.Reads as rank-reads
-use Rattle.nodes.proofs.utils.NodeSet.is_empty.Reads as is-empty-reads
-use Rattle.nodes.proofs.utils.NodeSet.lowest.Reads as lowest-reads
-use Rattle.nodes.proofs.utils.NodeSet.without_lowest.Reads as without-lowest-reads
 
 abbrev Inv-loop : tie.InvT-loop
 Inv-loop work₀ g rows columns lower left₀ work left = Adding (λ v i k. eqb k (count v (member columns)) && byRank (member rows) (columnBit g lower v) i) (member left₀) work₀ (member left) work
@@ -31,34 +21,28 @@ Inv-loop work₀ g rows columns lower left₀ work left = Adding (λ v i k. eqb 
 abbrev μ-loop : tie.MeasureT-loop
 μ-loop work₀ g rows columns lower left₀ work left = count capacity (member left)
 
--- src/lib.rt:131:5
 loop-holds : tie.Need-loop-holds Inv-loop μ-loop
 loop-holds c = let a = c .before .before .args in
     adding-start (λ v i k. eqb k (count v (member (a .columns))) && byRank (member (a .rows)) (columnBit (a .g .now) (a .lower) v) i) (member (a .columns)) (a .work .now)
 
--- src/lib.rt:131:12
 is-empty-requires : tie.Need-is-empty-requires Inv-loop μ-loop
 is-empty-requires c κs = search needs
 
--- src/lib.rt:132:13
 lowest-requires : tie.Need-lowest-requires Inv-loop μ-loop
 lowest-requires c κs = search needs
 
--- src/lib.rt:133:32
 column-of-requires : tie.Need-column-of-requires Inv-loop μ-loop
 column-of-requires c κs = let e = c .before .before .before in
     let s = e .before .loop .left in
     let some = unless-in (e .is-empty .result) (anyBelow capacity (member s)) (e .is-empty .ensures) (c .before .before .if1 .taken) in
     omega (arith, c .before .lowest .ensures, lowest-some capacity (member s) some)
 
--- src/lib.rt:133:56
 rank-requires : tie.Need-rank-requires Inv-loop μ-loop
 rank-requires c κs = let e = c .before .before .before .before in
     let s = e .before .loop .left in
     let some = unless-in (e .is-empty .result) (anyBelow capacity (member s)) (e .is-empty .ensures) (c .before .before .before .if1 .taken) in
     omega (arith, c .before .before .lowest .ensures, lowest-some capacity (member s) some)
 
--- src/lib.rt:133:9
 put-column-requires : tie.Need-put-column-requires Inv-loop μ-loop
 put-column-requires c κs = let e = c .before .before .before .before .before in
     let s = e .before .loop .left in
@@ -67,18 +51,15 @@ put-column-requires c κs = let e = c .before .before .before .before .before in
     let v = c .before .before .before .lowest in
     (omega (arith, e .before .loop .inv .size), omega (arith, c .rank .ensures, v .ensures, lowest-some capacity (member s) some, count-le (v .result) (member (a .columns))))
 
--- src/lib.rt:134:9
 without-lowest-requires : tie.Need-without-lowest-requires Inv-loop μ-loop
 without-lowest-requires c κs = search needs
 
--- src/lib.rt:131:5
 loop-less : tie.Need-loop-less Inv-loop μ-loop
 loop-less c = let e = c .before .before .before .before .before .before .before .before .before in
     let s = e .before .loop .left in
     let some = unless-in (e .is-empty .result) (anyBelow capacity (member s)) (e .is-empty .ensures) (c .before .before .before .before .before .before .before .before .if1 .taken) in
     omega (arith, count-lowest capacity (member s) some, ap (count capacity) (c .without-lowest .ensures))
 
--- src/lib.rt:131:5
 loop-again : tie.Need-loop-again Inv-loop μ-loop
 loop-again c = let e = c .before .before .before .before .before .before .before .before .before in
     let s = e .before .loop .left in
@@ -92,11 +73,9 @@ loop-again c = let e = c .before .before .before .before .before .before .before
     adding-step (λ v i k. eqb k (count v (member (a .columns))) && byRank (member (a .rows)) (columnBit (a .g .now) (a .lower) v) i) (member (a .columns)) (a .work .now) (member s) (l .work) _ _ some
     (c .without-lowest .ensures) (column-added (member (a .rows)) _ _ _ _ _ _ r t (q .put-column .ensures)) (l .inv)
 
--- src/lib.rt:126:1
 same-length : tie.Need-same-length Inv-loop μ-loop
 same-length c = search needs
 
--- src/lib.rt:126:1
 returns : tie.Need-returns Inv-loop μ-loop
 returns c = let e = c .before in
     let l = e .before .loop in

@@ -1,29 +1,18 @@
-use mathlib.Core.Path.{_≡_, refl, sym, ap, ap₂, _∙_, subst, fun-ext}
-use mathlib.Core.Bool.{Bool, true, false, not, _&&_, _||_}
-use Prim.Native.Nat.{ℕ, _+_, _-_, _*_, _/_, _%_, _^_, _≤_, _<_}
+use mathlib.Core.Path.{refl, ap, ap₂, _∙_}
+use Prim.Native.Nat.{ℕ, _+_}
 use native.Mathlib.Omega.{arith}
-use lib.ListN.{length, getD}
+use lib.ListN.{getD}
 use Rattle.nodes.specs.Row.{anyBelow, count, lowest}
-use Rattle.nodes.specs.NodeSet.{member, capacity, highest}
-use Rattle.nodes.proofs.Logic.{unless-in, unless-out, or-none, is-false, and-l}
+use Rattle.nodes.specs.NodeSet.{member, capacity}
+use Rattle.nodes.proofs.Logic.{unless-in, unless-out}
 use Rattle.nodes.proofs.Remove.{count-lowest}
 use Rattle.nodes.proofs.Members.{lowest-some, lowest-member}
-use lib.Dec.{T, eqb}
 use Rattle.finder.proofs.Filling.{Adding, adding-start, adding-step, adding-done, side-added}
-use Rattle.finder.specs.Views.{sideIn, rowsOf, columnsOf}
+use Rattle.finder.specs.Views.{sideIn, columnsOf}
 use Rattle.nodes.proofs.Count.{count-le, rank-lt}
-use Rattle.solver.specs.Solver.{rowBytes}
 use borrow.Author.Needs.{needs}
 use Rattle.finder.proofs.put_sides.Statement.{statement}
 use Rattle.finder.proofs.put_sides.Tie as tie
-use Rattle.finder.proofs.put_sides.Reads as reads
-use Rattle.finder.proofs.put_sides.Lts as lts
-use Rattle.finder.proofs.put_side.Reads as put-side-reads
-use Rattle.finder.proofs.rank.Reads as rank-reads
-use Rattle.nodes.proofs.utils.NodeSet.count.Reads as count-reads
-use Rattle.nodes.proofs.utils.NodeSet.is_empty.Reads as is-empty-reads
-use Rattle.nodes.proofs.utils.NodeSet.lowest.Reads as lowest-reads
-use Rattle.nodes.proofs.utils.NodeSet.without_lowest.Reads as without-lowest-reads
 
 abbrev Inv-loop : tie.InvT-loop
 Inv-loop work₀ g s measured upper cols left₀ work left = Adding (λ u. sideIn g s u (getD measured u 0) (columnsOf s + count u (member (s .upper)))) (member left₀) work₀ (member left) work
@@ -31,28 +20,22 @@ Inv-loop work₀ g s measured upper cols left₀ work left = Adding (λ u. sideI
 abbrev μ-loop : tie.MeasureT-loop
 μ-loop work₀ g s measured upper cols left₀ work left = count capacity (member left)
 
--- src/lib.rt:261:9
 count-requires : tie.Need-count-requires Inv-loop μ-loop
 count-requires c κs = search needs
 
--- src/lib.rt:263:5
 loop-holds : tie.Need-loop-holds Inv-loop μ-loop
 loop-holds c = let a = c .before .before .before .before .before .before .args in
     adding-start (λ u. sideIn (a .g .now) (a .s) u (getD (a .measured .now) u 0) (columnsOf (a .s) + count u (member (a .s .upper)))) (member (a .s .upper)) (a .work .now)
 
--- src/lib.rt:263:12
 is-empty-requires : tie.Need-is-empty-requires Inv-loop μ-loop
 is-empty-requires c κs = search needs
 
--- src/lib.rt:264:13
 lowest-requires : tie.Need-lowest-requires Inv-loop μ-loop
 lowest-requires c κs = search needs
 
--- src/lib.rt:265:26
 cast-b : tie.Need-cast-b Inv-loop μ-loop
 cast-b c = search needs
 
--- src/lib.rt:265:17
 shared-slice-read-b : tie.Need-shared-slice-read-b Inv-loop μ-loop
 shared-slice-read-b c = let e = c .before .before .before in
     let s = e .before .loop .left in
@@ -63,14 +46,12 @@ shared-slice-read-b c = let e = c .before .before .before in
     let t = e .before .loop .inv .within (lowest capacity (member s)) (lowest-member capacity (member s) some) in
     omega (arith, v .ensures, n (lowest capacity (member s)) t)
 
--- src/lib.rt:266:43
 rank-requires : tie.Need-rank-requires Inv-loop μ-loop
 rank-requires c κs = let e = c .before .before .before .before in
     let s = e .before .loop .left in
     let some = unless-in (e .is-empty .result) (anyBelow capacity (member s)) (e .is-empty .ensures) (c .before .before .before .if1 .taken) in
     omega (arith, c .before .before .lowest .ensures, lowest-some capacity (member s) some)
 
--- src/lib.rt:266:36
 add-put-side : tie.Need-add-put-side Inv-loop μ-loop
 add-put-side c = let e = c .before .before .before .before .before in
     let s = e .before .loop .left in
@@ -78,7 +59,6 @@ add-put-side c = let e = c .before .before .before .before .before in
     let a = e .before .before .before .before .before .before .before .before .args in
     omega (arith, c .rank .ensures, e .before .before .count .ensures, count-le capacity (member (a .s .columns)), lowest-some capacity (member s) some, c .before .before .before .lowest .ensures, count-le (c .before .before .before .lowest .result) (member (a .s .upper)))
 
--- src/lib.rt:266:9
 put-side-requires : tie.Need-put-side-requires Inv-loop μ-loop
 put-side-requires c κs = let e = c .before .before .before .before .before in
     let s = e .before .loop .left in
@@ -90,18 +70,15 @@ put-side-requires c κs = let e = c .before .before .before .before .before in
     let r = c .rank .ensures ∙ ap (λ (x : ℕ). count x (member (a .s .upper))) (v .ensures) in
     (omega (arith, e .before .loop .inv .size), omega (arith, v .ensures), omega (arith, r, e .before .before .count .ensures, rank-lt (lowest capacity (member s)) capacity (member (a .s .upper)) low t))
 
--- src/lib.rt:267:9
 without-lowest-requires : tie.Need-without-lowest-requires Inv-loop μ-loop
 without-lowest-requires c κs = search needs
 
--- src/lib.rt:263:5
 loop-less : tie.Need-loop-less Inv-loop μ-loop
 loop-less c = let e = c .before .before .before .before .before .before .before .before .before in
     let s = e .before .loop .left in
     let some = unless-in (e .is-empty .result) (anyBelow capacity (member s)) (e .is-empty .ensures) (c .before .before .before .before .before .before .before .before .if1 .taken) in
     omega (arith, count-lowest capacity (member s) some, ap (count capacity) (c .without-lowest .ensures))
 
--- src/lib.rt:263:5
 loop-again : tie.Need-loop-again Inv-loop μ-loop
 loop-again c = let e = c .before .before .before .before .before .before .before .before .before in
     let s = e .before .loop .left in
@@ -114,11 +91,9 @@ loop-again c = let e = c .before .before .before .before .before .before .before
     adding-step (λ u. sideIn (a .g .now) (a .s) u (getD (a .measured .now) u 0) (columnsOf (a .s) + count u (member (a .s .upper)))) (member (a .s .upper)) (a .work .now) (member s) (l .work) _ _ some
     (c .without-lowest .ensures) (side-added (a .g .now) (a .s) (a .measured .now) (v .result) (lowest capacity (member s)) _ _ _ _ (v .ensures) refl r (q .put-side .ensures)) (l .inv)
 
--- src/lib.rt:255:1
 same-length : tie.Need-same-length Inv-loop μ-loop
 same-length c = search needs
 
--- src/lib.rt:255:1
 returns : tie.Need-returns Inv-loop μ-loop
 returns c = let e = c .before in
     let l = e .before .loop in

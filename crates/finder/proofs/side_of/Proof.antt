@@ -1,46 +1,30 @@
-use mathlib.Core.Path.{_≡_, refl, sym, ap, ap₂, _∙_, subst, fun-ext}
-use mathlib.Core.Bool.{Bool, true, false, not, _&&_, _||_}
-use Prim.Native.Nat.{ℕ, _+_, _-_, _*_, _/_, _%_, _^_, _≤_, _<_}
-use native.Mathlib.Omega.{arith}
-use lib.ListN.{length, getD}
-use Rattle.nodes.specs.Row.{anyBelow, count, lowest}
-use Rattle.nodes.specs.NodeSet.{member, capacity, highest}
+use mathlib.Core.Path.{_≡_, sym, _∙_}
+use mathlib.Core.Bool.{true, false}
+use Rattle.nodes.specs.NodeSet.{member}
 use Rattle.finder.proofs.Filling.{side-in, side-out}
 use Rattle.finder.specs.Branch.{inSet}
 use borrow.Author.Needs.{needs}
 use Rattle.finder.proofs.side_of.Statement.{statement}
 use Rattle.finder.proofs.side_of.Tie as tie
-use Rattle.finder.proofs.side_of.Reads as reads
-use Rattle.finder.proofs.side_of.Lts as lts
-use Rattle.finder.proofs.asked_of.Reads as asked-of-reads
-use Rattle.finder.proofs.column_of.Reads as column-of-reads
-use Rattle.finder.proofs.in_set.Reads as in-set-reads
-use Rattle.nodes.proofs.utils.NodeSet.xor.Reads as xor-reads
 
--- src/lib.rt:157:9
 asked-of-requires : tie.Need-asked-of-requires
 asked-of-requires c κs = search needs
 
--- src/lib.rt:158:8
 in-set-requires : tie.Need-in-set-requires
 in-set-requires c κs = search needs
 
--- src/lib.rt:159:26
 column-of-requires : tie.Need-column-of-requires
 column-of-requires c κs = search needs
 
--- src/lib.rt:159:9
 xor-requires : tie.Need-xor-requires
 xor-requires c κs = search needs
 
--- src/lib.rt:159:9
 returns : tie.Need-returns
 returns c = let a = c .before .before .before .before .before .before .args in
     let q = c .before .before .before .before in
     let own : inSet (a .b) ≡ true = sym (c .before .before .before .in-set .ensures) ∙ c .before .before .if1 .taken in
     side-in (a .g .now) (a .lower) (a .u) (a .b) (member (q .asked-of .result)) (q .asked-of .ensures) (member (c .before .column-of .result)) (member (c .xor .result)) own (c .before .column-of .ensures) (c .xor .ensures)
 
--- src/lib.rt:153:1
 returns-2 : tie.Need-returns-2
 returns-2 c = let a = c .before .before .before .before .args in
     let q = c .before .before in

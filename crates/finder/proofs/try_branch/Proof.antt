@@ -1,74 +1,53 @@
-use mathlib.Core.Path.{_≡_, refl, sym, ap, ap₂, _∙_, subst, fun-ext}
-use mathlib.Core.Bool.{Bool, true, false, not, _&&_, _||_}
-use Prim.Native.Nat.{ℕ, _+_, _-_, _*_, _/_, _%_, _^_, _≤_, _<_}
+use mathlib.Core.Path.{ap, _∙_}
 use native.Mathlib.Omega.{arith}
-use lib.ListN.{length, getD}
-use Rattle.nodes.specs.Row.{anyBelow, count, lowest}
-use Rattle.nodes.specs.NodeSet.{member, capacity, highest}
-use Rattle.solver.specs.Solver.{rowBytes, mostRows, mostColumns}
-use mathlib.Core.List.{List}
+use lib.ListN.{length}
+use Rattle.nodes.specs.Row.{count}
 use Rattle.finder.proofs.Packing.{rows-room, side-room, laid-length, reads-one}
-use Rattle.finder.specs.Views.{coefficients}
 use Rattle.finder.specs.Branch.{inSet, withNode}
 use borrow.Author.Needs.{needs}
 use Rattle.finder.proofs.try_branch.Statement.{statement}
 use Rattle.finder.proofs.try_branch.Tie as tie
-use Rattle.finder.proofs.try_branch.Reads as reads
-use Rattle.finder.proofs.try_branch.Lts as lts
-use Rattle.finder.proofs.answer_at.Reads as answer-at-reads
-use Rattle.finder.proofs.eliminate_rows.Reads as eliminate-rows-reads
-use Rattle.finder.proofs.lay_out.Reads as lay-out-reads
-use Rattle.finder.proofs.put_side.Reads as put-side-reads
-use Rattle.finder.proofs.with_own.Reads as with-own-reads
-use Rattle.nodes.proofs.utils.NodeSet.count.Reads as count-reads
 
--- src/lib.rt:288:5
 lay-out-requires : tie.Need-lay-out-requires
 lay-out-requires c κs = let a = c .before .before .before .before .args in
     let p = c .before .before .before .before .pre in
     omega (arith, p .0, rows-room (a .s) (p .2))
 
--- src/lib.rt:289:32
 count-requires : tie.Need-count-requires
 count-requires c κs = search needs
 
--- src/lib.rt:289:5
 put-side-requires : tie.Need-put-side-requires
 put-side-requires c κs = let a = c .before .before .before .before .before .before .before .before .before .args in
     let p = c .before .before .before .before .before .before .before .before .before .pre in
     let l = laid-length _ (length (a .work .now)) _ (c .before .before .before .before .lay-out .ensures) in
     (omega (arith, p .0, l, rows-room (a .s) (p .2)), omega (arith, p .1 .nodes, p .3), omega (arith, c .count .ensures, side-room (a .s) (a .u) (omega (arith, p .1 .nodes, p .3)) (p .4)))
 
--- src/lib.rt:290:5
 eliminate-rows-requires : tie.Need-eliminate-rows-requires
 eliminate-rows-requires c κs = let a = c .before .before .before .before .before .before .before .before .before .before .before .before .before .args in
     let p = c .before .before .before .before .before .before .before .before .before .before .before .before .before .pre in
     (c .before .before .before .put-side .ensures .size ∙ laid-length _ (length (a .work .now)) _ (c .before .before .before .before .before .before .before .before .lay-out .ensures) ∙ p .0, rows-room (a .s) (p .2), side-room (a .s) (a .u) (omega (arith, p .1 .nodes, p .3)) (p .4))
 
--- src/lib.rt:291:14
 answer-at-requires : tie.Need-answer-at-requires
 answer-at-requires c κs = let a = c .before .before .before .before .before .before .before .before .before .before .before .before .before .before .before .before .before .args in
-    let p = c .before .before .before .before .before .before .before .before .before .before .before .before .before .before .before .before .before .pre in
-    (c .before .before .before .eliminate-rows .ensures .1 ∙ c .before .before .before .before .before .before .before .put-side .ensures .size ∙ laid-length _ (length (a .work .now)) _ (c .before .before .before .before .before .before .before .before .before .before .before .before .lay-out .ensures) ∙ p .0, rows-room (a .s) (p .2),
-      omega (arith, side-room (a .s) (a .u) (omega (arith, p .1 .nodes, p .3)) (p .4)))
+    let p = c .before .before .before .before .before .before .before .before .before .before .before .before .before .before .before .before .before .pre in (
+      c .before .before .before .eliminate-rows .ensures .1 ∙ c .before .before .before .before .before .before .before .put-side .ensures .size ∙ laid-length _ (length (a .work .now)) _ (c .before .before .before .before .before .before .before .before .before .before .before .before .lay-out .ensures) ∙ p .0,
+      rows-room (a .s) (p .2),
+      omega (arith, side-room (a .s) (a .u) (omega (arith, p .1 .nodes, p .3)) (p .4)),
+    )
 
--- src/lib.rt:291:5
 with-own-requires : tie.Need-with-own-requires
 with-own-requires c κs = let p = c .before .before .before .before .before .before .before .before .before .before .before .before .before .before .before .before .before .before .pre in
     omega (arith, p .1 .nodes, p .3)
 
--- src/lib.rt:282:1
 same-length : tie.Need-same-length
 same-length c = search needs
 
--- src/lib.rt:282:1
 returns : tie.Need-returns
 returns c = let a = c .before .before .before .before .before .before .before .before .before .before .before .before .before .before .before .before .before .before .before .args in
     let p = c .before .before .before .before .before .before .before .before .before .before .before .before .before .before .before .before .before .before .before .pre in
     let l = c .before .before .before .before .before .before .before .before .before .before .before .before .before .before .lay-out in
     let s = c .before .before .before .before .before .before .before .before .before .put-side in
-    let e = c .before .before .before .before .before .eliminate-rows in
-    (
+    let e = c .before .before .before .before .before .eliminate-rows in (
       c .with-own .ensures ∙ ap (withNode (inSet (a .b)) (a .u)) (c .before .answer-at .ensures)
           ∙ reads-one (a .n) (a .g .now) (a .s) (p .1) (length (a .work .now)) (l .last .0) (s .last .0) (e .last .0) (a .u) (a .b) _ (c .before .before .before .before .before .before .before .before .before .before .count .ensures) (p .3) (side-room (a .s) (a .u) (omega (arith, p .1 .nodes, p .3)) (p .4))
           (l .ensures) (s .ensures) (e .ensures .0),

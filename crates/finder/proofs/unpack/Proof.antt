@@ -1,31 +1,20 @@
-use Rattle.finder.proofs.Filling.{none-left}
-use mathlib.Core.Path.{_≡_, refl, sym, ap, ap₂, _∙_, subst, fun-ext}
-use mathlib.Core.Bool.{Bool, true, false, not, _&&_, _||_}
-use Prim.Native.Nat.{ℕ, _+_, _-_, _*_, _/_, _%_, _^_, _≤_, _<_}
+use Rattle.finder.proofs.Filling.{none-left, unpack-step}
+use mathlib.Core.Path.{_≡_, sym, ap, _∙_, subst, fun-ext}
+use mathlib.Core.Bool.{Bool, not, _&&_, _||_}
+use Prim.Native.Nat.{ℕ}
 use native.Mathlib.Omega.{arith}
-use lib.ListN.{length, getD}
 use Rattle.nodes.specs.Row.{anyBelow, count, lowest}
-use Rattle.nodes.specs.NodeSet.{member, capacity, highest}
-use Rattle.nodes.proofs.Logic.{unless-in, unless-out, or-none, is-false, and-l}
+use Rattle.nodes.specs.NodeSet.{member, capacity}
+use Rattle.nodes.proofs.Logic.{unless-in, unless-out, or-none}
 use Rattle.nodes.proofs.Remove.{count-lowest}
 use Rattle.nodes.proofs.Members.{lowest-some, lowest-member}
 use lib.Dec.{T, eqb}
-use Rattle.finder.proofs.Filling.{unpack-step}
 use Rattle.nodes.proofs.Count.{count-le}
 use Rattle.solver.specs.WorkMatrix.{entryOf}
 use Rattle.solver.specs.Solver.{rowBytes}
 use borrow.Author.Needs.{needs}
 use Rattle.finder.proofs.unpack.Statement.{statement}
 use Rattle.finder.proofs.unpack.Tie as tie
-use Rattle.finder.proofs.unpack.Reads as reads
-use Rattle.finder.proofs.unpack.Lts as lts
-use Rattle.finder.proofs.has_bit.Reads as has-bit-reads
-use Rattle.finder.proofs.rank.Reads as rank-reads
-use Rattle.finder.proofs.with_if.Reads as with-if-reads
-use Rattle.nodes.proofs.utils.NodeSet.empty.Reads as empty-reads
-use Rattle.nodes.proofs.utils.NodeSet.is_empty.Reads as is-empty-reads
-use Rattle.nodes.proofs.utils.NodeSet.lowest.Reads as lowest-reads
-use Rattle.nodes.proofs.utils.NodeSet.without_lowest.Reads as without-lowest-reads
 
 abbrev Inv-loop : tie.InvT-loop
 Inv-loop out columns left₀ found₀ left found = (u : ℕ) → (member found u || (member left u && entryOf rowBytes out 0 (count u (member columns)))) ≡ (member left₀ u && entryOf rowBytes out 0 (count u (member columns)))
@@ -33,31 +22,25 @@ Inv-loop out columns left₀ found₀ left found = (u : ℕ) → (member found u
 abbrev μ-loop : tie.MeasureT-loop
 μ-loop out columns left₀ found₀ left found = count capacity (member left)
 
--- src/lib.rt:212:9
 empty-requires : tie.Need-empty-requires Inv-loop μ-loop
 empty-requires c κs = search needs
 
--- src/lib.rt:213:5
 loop-holds : tie.Need-loop-holds Inv-loop μ-loop
 loop-holds c = let a = c .before .before .args in
     λ u. ap (λ (f : ℕ → Bool). f u || (member (a .columns) u && entryOf rowBytes (a .out .now) 0 (count u (member (a .columns))))) (c .empty .ensures)
 
--- src/lib.rt:213:12
 is-empty-requires : tie.Need-is-empty-requires Inv-loop μ-loop
 is-empty-requires c κs = search needs
 
--- src/lib.rt:214:13
 lowest-requires : tie.Need-lowest-requires Inv-loop μ-loop
 lowest-requires c κs = search needs
 
--- src/lib.rt:215:48
 rank-requires : tie.Need-rank-requires Inv-loop μ-loop
 rank-requires c κs = let e = c .before .before in
     let s = e .before .loop .left in
     let some = unless-in (e .is-empty .result) (anyBelow capacity (member s)) (e .is-empty .ensures) (c .before .if1 .taken) in
     omega (arith, c .lowest .ensures, lowest-some capacity (member s) some)
 
--- src/lib.rt:215:35
 has-bit-requires : tie.Need-has-bit-requires Inv-loop μ-loop
 has-bit-requires c κs = let e = c .before .before .before in
     let s = e .before .loop .left in
@@ -65,25 +48,21 @@ has-bit-requires c κs = let e = c .before .before .before in
     let a = e .before .before .before .before .args in
     (search needs, omega (arith, c .rank .ensures, c .before .lowest .ensures, lowest-some capacity (member s) some, count-le (c .before .lowest .result) (member (a .columns))))
 
--- src/lib.rt:215:9
 with-if-requires : tie.Need-with-if-requires Inv-loop μ-loop
 with-if-requires c κs = let e = c .before .before .before .before in
     let s = e .before .loop .left in
     let some = unless-in (e .is-empty .result) (anyBelow capacity (member s)) (e .is-empty .ensures) (c .before .before .before .if1 .taken) in
     omega (arith, c .before .before .lowest .ensures, lowest-some capacity (member s) some)
 
--- src/lib.rt:216:9
 without-lowest-requires : tie.Need-without-lowest-requires Inv-loop μ-loop
 without-lowest-requires c κs = search needs
 
--- src/lib.rt:213:5
 loop-less : tie.Need-loop-less Inv-loop μ-loop
 loop-less c = let e = c .before .before .before .before .before .before in
     let s = e .before .loop .left in
     let some = unless-in (e .is-empty .result) (anyBelow capacity (member s)) (e .is-empty .ensures) (c .before .before .before .before .before .if1 .taken) in
     omega (arith, count-lowest capacity (member s) some, ap (count capacity) (c .without-lowest .ensures))
 
--- src/lib.rt:213:5
 loop-again : tie.Need-loop-again Inv-loop μ-loop
 loop-again c = let e = c .before .before .before .before .before .before in
     let s = e .before .loop .left in
@@ -99,7 +78,6 @@ loop-again c = let e = c .before .before .before .before .before .before in
     (subst (λ (z : ℕ). T (member s z)) (sym k) (lowest-member capacity (member s) some)) y
     (c .without-lowest .ensures ∙ ap {B = ℕ → Bool} (λ (z u : ℕ). member s u && not (eqb u z)) (sym k)) (w .with-if .ensures) u ∙ l .inv u
 
--- src/lib.rt:207:1
 returns : tie.Need-returns Inv-loop μ-loop
 returns c = let e = c .before in
     let l = e .before .loop in
