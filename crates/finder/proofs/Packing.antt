@@ -34,18 +34,15 @@ use Rattle.finder.specs.Branch.{Context, inSet, inOdd, systemAt, sideAt,
 use Rattle.finder.specs.Finder.{jobIn, workBytes}
 use Rattle.finder.specs.Views.{contextOf, graphJob, rowsOf, columnsOf, Within, RowsApart, SidesApart, byRank, block, columnBit, sideBit, Added, coefficients, sideIn, sidesIn, gathered, rowsIn, answerIn, Opened}
 use Rattle.finder.specs.declared.Sets.{Sets}
+use Rattle.finder.proofs.Tries.{SameContext, branch-ext}
 use Rattle.finder.proofs.Sizes.{count-disjoint, rows-count}
 use Rattle.finder.proofs.Filling.{zeros-entry}
 
--- ---- for the callers: a try asks only for the nodes and the graph of a job, and a context is its three sets
-pub same-try : (n : ℕ) (g : List ℕ) (inputs outputs : NodeSet) (measured : List ℕ) (c : Context) (u b : ℕ)
-    → tryBranch (graphJob n g) c u b ≡ tryBranch (jobIn n g inputs outputs measured) c u b
-same-try n g inputs outputs measured c u b = refl
-
-pub context-is : (s : Sets) (c : Context) → member (s .columns) ≡ c .column → member (s .upper) ≡ c .upper → member (s .lower) ≡ c .lower → contextOf s ≡ c
-context-is s c p q r =
-    ap₂ (λ (f g : ℕ → Bool). record { column = f; upper = g; lower = member (s .lower) }) p q
-    ∙ ap (λ (f : ℕ → Bool). record { column = c .column; upper = c .upper; lower = f }) r
+-- ---- for the callers: a try asks only for the nodes and the graph of a job, and for the sets below n
+pub tried-in : (n : ℕ) (g : List ℕ) (inputs outputs : NodeSet) (measured : List ℕ) (s : Sets) (c : Context) (u b : ℕ)
+    → SameContext (jobIn n g inputs outputs measured) (contextOf s) c
+    → tryBranch (graphJob n g) (contextOf s) u b ≡ tryBranch (jobIn n g inputs outputs measured) c u b
+tried-in n g inputs outputs measured s c u b e = branch-ext (jobIn n g inputs outputs measured) (contextOf s) c e u b
 
 -- ---- members
 pub member-lt : (s : NodeSet) (v : ℕ) → T (member s v) → v < capacity
