@@ -20,7 +20,7 @@ use Rattle.tables.specs.Published.{Measured, CausalAccepted, PlanesAccep
 use Rattle.tables.proofs.Records.{give-inj, never, bind-out}
 use Rattle.tables.proofs.JobFile.{job-asked, job-append, behind, measured-range, output-zero, measured-most, measured-plane}
 use Rattle.tables.proofs.FlowFile.{flow-asked, set-entry, members-below, nodes-below, nothing-left, one-member-asked, one-member-other, one-member}
-use Rattle.tables.proofs.Published.{Readable, planes-accepts, accepts-planes, paulis-accepts, accepts-paulis, causal-accepts, accepts-causal}
+use Rattle.tables.proofs.Published.{one-to-three, Readable, planes-accepts, accepts-planes, paulis-accepts, accepts-paulis, causal-accepts, accepts-causal}
 
 verdict-out : (o : Option Refusal) (b : Bool) → verdict o ≡ gives b → o ≡ none
 verdict-out none b e = refl
@@ -86,20 +86,7 @@ module _ (f : JobFile) (v : ValidJob f) (g : FlowFile) (w : ValidFlow (f .n) g) 
       same k = is-true (eqb k k) (eqb-refl k)
 
   mode-cases : (f .mode ≡ modeCausal) ⊎ ((f .mode ≡ modePlanes) ⊎ (f .mode ≡ modePauli))
-  mode-cases = go (f .mode) (v .modeFrom) (v .modeTo)
-    where
-      go : (m : ℕ) → 1 ≤ m → m ≤ 3 → (m ≡ 1) ⊎ ((m ≡ 2) ⊎ (m ≡ 3))
-      go zero a b = absurd (none-of a)
-        where
-          none-of : 1 ≤ 0 → ⊥
-          none-of a = omega arith
-      go (suc zero) a b = inl refl
-      go (suc (suc zero)) a b = inr (inl refl)
-      go (suc (suc (suc zero))) a b = inr (inr refl)
-      go (suc (suc (suc (suc m)))) a b = absurd (large m b)
-        where
-          large : (m : ℕ) → suc (suc (suc (suc m))) ≤ 3 → ⊥
-          large m b = omega arith
+  mode-cases = one-to-three (f .mode) (v .modeFrom) (v .modeTo)
 
   pub verify-published : verify (jobOf f) (flowOf g) (f .mode) ≡ none → Conditions (f .mode) (jobOf f) g
   verify-published e = go mode-cases

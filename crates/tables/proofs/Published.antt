@@ -33,6 +33,20 @@ by-layer layer = record { irreflexive = λ i l. not-below (layer i) l; transitiv
     through : (a b c : ℕ) → a < b → b < c → a < c
     through a b c p q = omega arith
 
+-- the modes, and the planes, are 1, 2 and 3
+pub one-to-three : (m : ℕ) → 0 < m → m ≤ 3 → (m ≡ 1) ⊎ ((m ≡ 2) ⊎ (m ≡ 3))
+one-to-three zero a b = absurd (none-of a)
+  where
+    none-of : 0 < 0 → ⊥
+    none-of a = omega arith
+one-to-three (suc zero) a b = inl refl
+one-to-three (suc (suc zero)) a b = inr (inl refl)
+one-to-three (suc (suc (suc zero))) a b = inr (inr refl)
+one-to-three (suc (suc (suc (suc m)))) a b = absurd (large m b)
+  where
+    large : (m : ℕ) → suc (suc (suc (suc m))) ≤ 3 → ⊥
+    large m b = omega arith
+
 -- ---- a node's own measurement, said by measurement
 pairs-in : (a b : Bool) → (T a → ⊥) → T b → T (not a && b)
 pairs-in true b f t = absurd (f tt)
@@ -151,20 +165,7 @@ module _ (j : Job) (f : Flow) (r : Readable j f) where
   -- ---- planes
   module _ (planes : (u : ℕ) → Measured j u → j .measured u ≤ planeXZ) where
     plane : (i : ℕ) → Measured j i → (j .measured i ≡ planeXY) ⊎ ((j .measured i ≡ planeYZ) ⊎ (j .measured i ≡ planeXZ))
-    plane i s = go (j .measured i) (r .measured i s .0) (planes i s)
-      where
-        go : (m : ℕ) → 0 < m → m ≤ 3 → (m ≡ 1) ⊎ ((m ≡ 2) ⊎ (m ≡ 3))
-        go zero a b = absurd (none-of a)
-          where
-            none-of : 0 < 0 → ⊥
-            none-of a = omega arith
-        go (suc zero) a b = inl refl
-        go (suc (suc zero)) a b = inr (inl refl)
-        go (suc (suc (suc zero))) a b = inr (inr refl)
-        go (suc (suc (suc (suc m)))) a b = absurd (large m b)
-          where
-            large : (m : ℕ) → suc (suc (suc (suc m))) ≤ 3 → ⊥
-            large m b = omega arith
+    plane i s = one-to-three (j .measured i) (r .measured i s .0) (planes i s)
 
     planes-ok : PlaneConditions j (byLayer (f .layer)) (f .set) → NoOtherInputs j (f .set) → (i : ℕ) → Measured j i → Ok j false (earlierThan (f .layer) i) (f .set i) i
     planes-ok p n i s = record {

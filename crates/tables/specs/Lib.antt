@@ -9,3 +9,4 @@ pub mod Programs
 pub mod Published
 pub mod Demand
 pub mod Solutions
+pub mod Cases
