@@ -1,9 +1,10 @@
 -- The work matrix is filled bit by bit: a bit, a set as a column, the columns of a block, and a block that is lent on.
 use Prim.Native.Nat.{ℕ, _+_, _-_, _*_, _/_, _%_, _^_, _≤_, _<_}
-use mathlib.Core.Path.{_≡_, refl, sym, ap, ap₂, _∙_, fun-ext}
+use mathlib.Core.Path.{_≡_, refl, sym, ap, ap₂, _∙_, subst, fun-ext}
 use mathlib.Core.Bool.{Bool, true, false, not, _&&_, _||_}
 use mathlib.Core.List.{List, _++_, append-nil}
 use mathlib.Core.Logic.{_≢_, _⊎_, inl, inr}
+use mathlib.Core.Option.{some}
 use native.Mathlib.Nat.{le-of-eq}
 use native.Mathlib.Decide.{ℕ-discrete}
 use native.Mathlib.Omega.{arith}
@@ -14,18 +15,23 @@ use lib.ListN.{length, getD, set, take, drop, length-set, length-append, length-
 use lib.Seq.{getD-set-same, getD-set-other, take-all, getD-take, getD-drop, getD-append-add, length-take-le}
 use Rattle.nodes.specs.Bit.{bit, _⊕_}
 use Rattle.nodes.specs.Row.{anyBelow, count, lowest}
-use Rattle.nodes.specs.NodeSet.{capacity, highest}
+use Rattle.nodes.specs.NodeSet.{capacity, highest, member, wordsOf}
+use Rattle.nodes.specs.declared.utils.NodeSet.{NodeSet}
 use Rattle.nodes.specs.SetTable.{setAt, zeros}
-use Rattle.nodes.proofs.Logic.{is-true, is-false, from-false, and-l, or-none, or-assoc, or-comm, and-none, and-all, eqb-no, eqb-yes, eqb-comm, lt-or-ge, ⊕-none}
+use Rattle.nodes.proofs.Logic.{is-true, is-false, from-false, and-l, and-r, or-none, or-assoc, and-none, and-all, eqb-no, eqb-yes, eqb-comm, lt-or-ge, ⊕-none}
 use Rattle.nodes.proofs.Row.{any-none, any-in, ltb-yes, ltb-no}
-use Rattle.nodes.proofs.Count.{count-ext, count-past}
+use Rattle.nodes.proofs.Count.{count-ext, count-past, rank-lt}
 use Rattle.nodes.proofs.Members.{lowest-some, lowest-member}
-use Rattle.nodes.proofs.Remove.{removed, any-remove}
+use Rattle.nodes.proofs.Remove.{removed, removed-other, removed-same, any-remove}
+use Rattle.nodes.proofs.NodeSet.{member-past}
 use Rattle.nodes.proofs.Bit.{bit-or, bit-pow, bit-zero}
 use Rattle.solver.specs.WorkMatrix.{entryOf}
 use Rattle.solver.specs.Solver.{rowBytes, mostColumns}
-use Rattle.finder.specs.Branch.{inSet, inOdd}
-use Rattle.finder.specs.Views.{Added, stacked, byRank, columnBit, sideBit}
+use Rattle.finder.specs.Branch.{inSet, inOdd, withNode}
+use Rattle.finder.specs.Views.{Added, stacked, byRank, columnBit, sideBit, sideIn, columnsOf, triedOf}
+use Rattle.finder.specs.declared.Sets.{Sets}
+use Rattle.finder.specs.declared.Tried.{Tried}
+use Rattle.finder.specs.declared.Tried.the-variants.{Set}
 
 -- ---- a rank, counted in the part of the set below v
 pub rank-count : (s : ℕ → Bool) (v : ℕ) → v < capacity → count capacity (λ u. s u && (ltb u v && leb u highest)) ≡ count v s
@@ -95,11 +101,7 @@ put-bit l row col h g = record { size = length-set l p v; bits = λ i k q. by i 
     there = omega arith
 
     apart : (i k : ℕ) → i * rowBytes + k / 8 ≢ p → T (eqb k col && eqb row i) → ⊥
-    apart i k n t = n (let a : k ≡ col = eqb→eq k col (and-l (eqb k col) (eqb row i) t) in let b : row ≡ i = eqb→eq row i (and-right (eqb k col) (eqb row i) t) in omega arith)
-      where
-        and-right : (a b : Bool) → T (a && b) → T b
-        and-right true b t = t
-        and-right false b t = absurd t
+    apart i k n t = n (let a : k ≡ col = eqb→eq k col (and-l (eqb k col) (eqb row i) t) in let b : row ≡ i = eqb→eq row i (and-r (eqb k col) (eqb row i) t) in omega arith)
 
     same : (i k : ℕ) → i ≡ row → k / 8 ≡ col / 8 → Dec (k % 8 ≡ col % 8) → eqb (k % 8) (col % 8) ≡ (eqb k col && eqb row i)
     same i k a b (yes e) =
@@ -130,10 +132,6 @@ pub record Adding (f : ℕ → ℕ → ℕ → Bool) (all : ℕ → Bool) (befor
 pub adding-start : (f : ℕ → ℕ → ℕ → Bool) (s : ℕ → Bool) (l : List ℕ) → Adding f s l s l
 adding-start f s l = record { within = λ v t. t; size = refl; bits = λ i k h. refl }
 
--- of a set that is said twice
-pub adding-from : (f : ℕ → ℕ → ℕ → Bool) (s t : ℕ → Bool) (l : List ℕ) → t ≡ s → Adding f s l t l
-adding-from f s t l e = rw e (adding-start f s l)
-
 pub adding-step : (f : ℕ → ℕ → ℕ → Bool) (all : ℕ → Bool) (before : List ℕ) (left : ℕ → Bool) (l : List ℕ) (next : ℕ → Bool) (m : List ℕ)
     → T (anyBelow capacity left) → next ≡ removed left (lowest capacity left) → Added (f (lowest capacity left)) l m → Adding f all before left l → Adding f all before next m
 adding-step f all before left l next m t e a g =
@@ -141,10 +139,10 @@ adding-step f all before left l next m t e a g =
       within = λ v q. g .within v (and-l (left v) (not (eqb v (lowest capacity left))) q);
       size = a .size ∙ g .size;
       bits = λ i k h.
-        ap (λ (b : Bool). b || anyBelow capacity (λ v. removed left (lowest capacity left) v && f v i k)) (a .bits i k h)
-        ∙ or-assoc (entryOf rowBytes l i k) (f (lowest capacity left) i k) (anyBelow capacity (λ v. removed left (lowest capacity left) v && f v i k))
-        ∙ ap (λ (b : Bool). entryOf rowBytes l i k || b) (sym (any-remove capacity left (λ v. f v i k) (lowest capacity left) (lowest-some capacity left t) (lowest-member capacity left t)))
-        ∙ g .bits i k h;
+          ap (λ (b : Bool). b || anyBelow capacity (λ v. removed left (lowest capacity left) v && f v i k)) (a .bits i k h)
+          ∙ or-assoc (entryOf rowBytes l i k) (f (lowest capacity left) i k) (anyBelow capacity (λ v. removed left (lowest capacity left) v && f v i k))
+          ∙ ap (λ (b : Bool). entryOf rowBytes l i k || b) (sym (any-remove capacity left (λ v. f v i k) (lowest capacity left) (lowest-some capacity left t) (lowest-member capacity left t)))
+          ∙ g .bits i k h;
     }
 
 pub adding-done : (f : ℕ → ℕ → ℕ → Bool) (all : ℕ → Bool) (before : List ℕ) (left : ℕ → Bool) (l : List ℕ)
@@ -152,8 +150,8 @@ pub adding-done : (f : ℕ → ℕ → ℕ → Bool) (all : ℕ → Bool) (befor
 adding-done f all before left l n g = record {
   size = g .size;
   bits = λ i k h.
-    sym (ap (λ (b : Bool). entryOf rowBytes l i k || b) (any-none capacity (λ v. left v && f v i k) (λ v p t. n (any-in capacity left v p (and-l (left v) (f v i k) t)))) ∙ or-none (entryOf rowBytes l i k))
-    ∙ g .bits i k h;
+      sym (ap (λ (b : Bool). entryOf rowBytes l i k || b) (any-none capacity (λ v. left v && f v i k) (λ v p t. n (any-in capacity left v p (and-l (left v) (f v i k) t)))) ∙ or-none (entryOf rowBytes l i k))
+      ∙ g .bits i k h;
 }
 
 -- the same bits, said in another way
@@ -171,6 +169,66 @@ pub column-done : (rows s all : ℕ → Bool) (col : ℕ) (l m : List ℕ) → a
 column-done rows s all col l m e a =
     added-as (λ i k. anyBelow capacity (λ v. all v && (eqb k col && eqb (count v rows) i))) (λ i k. eqb k col && byRank rows s i) l m
     (λ i k. ap (λ (t : ℕ → Bool). anyBelow capacity (λ v. t v && (eqb k col && eqb (count v rows) i))) e ∙ any-and capacity (eqb k col) (λ v. rows v && s v) (λ v. eqb (count v rows) i)) a
+
+-- the row of the least that is left
+pub row-room : (rows s all left : ℕ → Bool) (r : ℕ) → all ≡ (λ v. rows v && s v) → T (anyBelow capacity left) → ((v : ℕ) → T (left v) → T (all v))
+    → r ≡ count (lowest capacity left) rows → r < count capacity rows
+row-room rows s all left r e t w q =
+    let v = lowest capacity left in
+    let m : T (rows v && s v) = subst (λ (f : ℕ → Bool). T (f v)) e (w v (lowest-member capacity left t)) in
+    let l : count v rows < count capacity rows = rank-lt v capacity rows (lowest-some capacity left t) (and-l (rows v) (s v) m) in
+    omega arith
+
+-- ---- what was added, said of equal numbers and sets
+pub row-added : (col r q : ℕ) (l m : List ℕ) → r ≡ q → Added (λ i k. eqb k col && eqb r i) l m → Added (λ i k. eqb k col && eqb q i) l m
+row-added col r q l m e a = added-as (λ i k. eqb k col && eqb r i) (λ i k. eqb k col && eqb q i) l m (λ i k. ap (λ (x : ℕ). eqb k col && eqb x i) e) a
+
+pub column-added : (rows s t : ℕ → Bool) (col place : ℕ) (l m : List ℕ) → col ≡ place → s ≡ t
+    → Added (λ i k. eqb k col && byRank rows s i) l m → Added (λ i k. eqb k place && byRank rows t i) l m
+column-added rows s t col place l m p q a =
+    added-as (λ i k. eqb k col && byRank rows s i) (λ i k. eqb k place && byRank rows t i) l m (λ i k. ap₂ (λ (c : ℕ) (f : ℕ → Bool). eqb k c && byRank rows f i) p q) a
+
+pub side-added : (g : List ℕ) (s : Sets) (measured : List ℕ) (u v b col : ℕ) (l m : List ℕ) → u ≡ v → b ≡ getD measured u 0 → col ≡ columnsOf s + count u (member (s .upper))
+    → Added (sideIn g s u b col) l m → Added (sideIn g s v (getD measured v 0) (columnsOf s + count v (member (s .upper)))) l m
+side-added g s measured u v b col l m p q r a =
+    subst (λ (w : ℕ). Added (sideIn g s w (getD measured w 0) (columnsOf s + count w (member (s .upper)))) l m) p
+    (subst (λ (c : ℕ). Added (sideIn g s u (getD measured u 0) c) l m) r (subst (λ (x : ℕ). Added (sideIn g s u x col) l m) q a))
+
+-- ---- the answer is taken out of its bits
+-- nothing is left
+pub none-left : (s : NodeSet) → (T (anyBelow capacity (member s)) → ⊥) → (u : ℕ) → member s u ≡ false
+none-left s f u = by (lt-or-ge u capacity)
+  where
+    by : (u < capacity) ⊎ (capacity ≤ u) → member s u ≡ false
+    by (inl h) = is-false (member s u) (λ t. f (any-in capacity (member s) u h t))
+    by (inr h) = member-past (wordsOf s) u h
+
+pub unpack-step : (f left found next after : ℕ → Bool) (k : ℕ) (y : Bool) → T (left k) → y ≡ f k → next ≡ removed left k → after ≡ (λ u. found u || (y && eqb u k))
+    → (u : ℕ) → (after u || (next u && f u)) ≡ (found u || (left u && f u))
+unpack-step f left found next after k y t e n a u = ap₂ (λ (x z : ℕ → Bool). x u || (z u && f u)) a n ∙ by (ℕ-discrete u k)
+  where
+    by : Dec (u ≡ k) → ((found u || (y && eqb u k)) || (removed left k u && f u)) ≡ (found u || (left u && f u))
+    by (yes q) =
+        ap (λ (z : ℕ). (found z || (y && eqb z k)) || (removed left k z && f z)) q
+        ∙ ap₂ (λ (p r : Bool). (found k || p) || (r && f k)) (ap (λ (b : Bool). y && b) (eqb-yes k) ∙ and-all y ∙ e) (removed-same left k)
+        ∙ or-none (found k || f k)
+        ∙ ap (λ (b : Bool). found k || (b && f k)) (sym (is-true (left k) t))
+        ∙ ap (λ (z : ℕ). found z || (left z && f z)) (sym q)
+    by (no q) =
+        ap₂ (λ (p r : Bool). (found u || p) || (r && f u)) (ap (λ (b : Bool). y && b) (eqb-no u k q) ∙ and-none y) (removed-other left k u q)
+        ∙ ap (λ (b : Bool). b || (left u && f u)) (or-none (found u))
+
+-- u joins the set where its branch has it
+pub own-in : (t : Tried) (s r : NodeSet) (u b : ℕ) → t ≡ Set s → inSet b ≡ true → u < capacity → member r ≡ (λ k. member s k || (eqb k u && leb u highest))
+    → some (member r) ≡ withNode (inSet b) u (triedOf t)
+own-in t s r u b e i h w =
+    ap some (with-node (member s) (member r) u h w) ∙ ap (λ (c : Bool). some (λ k. member s k || c && eqb k u)) (sym i)
+    ∙ ap (λ (q : Tried). withNode (inSet b) u (triedOf q)) (sym e)
+
+pub own-out : (t : Tried) (s : NodeSet) (u b : ℕ) → t ≡ Set s → inSet b ≡ false → some (member s) ≡ withNode (inSet b) u (triedOf t)
+own-out t s u b e i =
+    ap some (fun-ext (λ k. sym (or-none (member s k)))) ∙ ap (λ (c : Bool). some (λ k. member s k || c && eqb k u)) (sym i)
+    ∙ ap (λ (q : Tried). withNode (inSet b) u (triedOf q)) (sym e)
 
 -- ---- a part is lent on
 pub mid-rest : (a : ℕ) (xs : List ℕ) → midOf a (length xs - a) xs ≡ drop a xs

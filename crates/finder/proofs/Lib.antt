@@ -7,4 +7,5 @@ pub mod Premise
 pub mod Flows
 pub mod Sizes
 pub mod Filling
+pub mod Packing
 pub mod Progress

@@ -2,16 +2,15 @@
 -- can be read off it.
 use Prim.Native.Nat.{ℕ, _+_, _-_, _*_, _≤_, _<_}
 use mathlib.Core.Path.{_≡_}
-use mathlib.Core.Bool.{Bool, true, false, cond, not, _&&_, _||_}
+use mathlib.Core.Bool.{Bool, true, false, not, _&&_, _||_}
 use mathlib.Core.Option.{Option, none, some}
 use mathlib.Core.List.{List}
-use lib.Dec.{T, eqb, leb, ltb}
+use lib.Dec.{T, eqb, leb}
 use lib.ListN.{length, getD, take}
 use Rattle.nodes.specs.Bit.{_⊕_}
 use Rattle.nodes.specs.Row.{anyBelow, count}
 use Rattle.nodes.specs.NodeSet.{member, capacity}
 use Rattle.nodes.specs.SetTable.{setAt}
-use Rattle.nodes.specs.declared.utils.NodeSet.{NodeSet}
 use Rattle.solver.specs.Reduced.{readOff}
 use Rattle.solver.specs.WorkMatrix.{entryOf, sideOf}
 use Rattle.solver.specs.Solver.{rowBytes, mostColumns}

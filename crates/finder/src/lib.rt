@@ -1,17 +1,17 @@
 // The finders' tries: the equations of a node in the lent work matrix, and the set that solves them.
 ghost use mathlib.Core.Path.{_≡_};
-ghost use mathlib.Core.Bool.{Bool, true, false, not, _&&_, _||_};
+ghost use mathlib.Core.Bool.{true, false, not, _&&_, _||_};
 ghost use Prim.Native.Nat.{ℕ, _+_, _*_, _<_, _≤_};
-ghost use lib.ListN.{length, getD};
-ghost use lib.Dec.{T, eqb, ltb};
+ghost use lib.ListN.{length};
+ghost use lib.Dec.{T, eqb};
 ghost use Rattle.nodes.specs.Row.{count};
 ghost use Rattle.nodes.specs.NodeSet.{member, capacity};
 ghost use Rattle.nodes.specs.SetTable.{zeros};
 ghost use Rattle.solver.specs.WorkMatrix.{entryOf};
-ghost use Rattle.solver.specs.Solver.{rowBytes, mostRows, mostColumns};
+ghost use Rattle.solver.specs.Solver.{rowBytes, mostRows, mostColumns, Eliminated};
 ghost use Rattle.finder.specs.Branch.{inSet, inOdd, withNode, tryBranch};
 ghost use Rattle.finder.specs.Finder.{workBytes};
-ghost use Rattle.finder.specs.Views.{triedOf, contextOf, graphJob, rowsOf, columnsOf, Within, RowsApart, SidesApart, byRank, block, columnBit, sideBit, Added, coefficients, sideIn, sidesIn, answerIn, nodeIn, Opened};
+ghost use Rattle.finder.specs.Views.{triedOf, contextOf, graphJob, rowsOf, columnsOf, Within, RowsApart, SidesApart, byRank, block, columnBit, sideBit, Added, coefficients, sideIn, sidesIn, rowsIn, answerIn, nodeIn, Opened};
 use nodes::utils::NodeSet;
 use nodes::utils::mask;
 use nodes::utils::set_at;
@@ -70,6 +70,7 @@ fn rank(s: NodeSet, v: u8) -> usize
     s.intersection(NodeSet::below(v as usize)).count()
 }
 
+// Upper and lower rows together.
 fn row_count(s: Sets) -> usize
     ensures { λ r. ⌜ r ≡ rowsOf s ⌝ }
 {
@@ -78,7 +79,7 @@ fn row_count(s: Sets) -> usize
     upper.count() + lower.count()
 }
 
-// The search clears the work matrix before each try, and at its end.
+// Every byte becomes 0.
 fn clear(work: &mut [u8])
     ensures { λ _. ⌜ now (work .exit) ≡ zeros (length (now (work .entry))) ⌝ }
 {
@@ -89,6 +90,7 @@ fn clear(work: &mut [u8])
     }
 }
 
+// The bit of the column is set in the row.
 fn put_bit(work: &mut [u8], row: usize, col: usize)
     requires { ⌜ (row * rowBytes + rowBytes ≤ length (now work)) × (col < mostColumns) ⌝ }
     ensures { λ _. ⌜ Added (λ i k. eqb k col && eqb row i) (now (work .entry)) (now (work .exit)) ⌝ }
@@ -174,6 +176,15 @@ fn fill(work: &mut [u8], g: &[u64], s: Sets)
     put_columns(&mut work[start..], g, lower, columns, true);
 }
 
+// The work matrix with nothing but the coefficients.
+fn lay_out(work: &mut [u8], g: &[u64], s: Sets)
+    requires { ⌜ rowsOf s * rowBytes ≤ length (now work) ⌝ }
+    ensures { λ _. ⌜ Added (coefficients (now (g .entry)) s) (zeros (length (now (work .entry)))) (now (work .exit)) ⌝ }
+{
+    clear(work);
+    fill(work, g, s);
+}
+
 // One right side, in column col.
 fn put_side(work: &mut [u8], g: &[u64], s: Sets, u: u8, b: u8, col: usize)
     requires { ⌜ (rowsOf s * rowBytes ≤ length (now work)) × (u < capacity) × (col < mostColumns) ⌝ }
@@ -186,6 +197,19 @@ fn put_side(work: &mut [u8], g: &[u64], s: Sets, u: u8, b: u8, col: usize)
     put_column(&mut work[start..], lower, side_of(g, u, b, true), col);
 }
 
+// The rows of the sets are eliminated, for all their right sides at once.
+fn eliminate_rows(work: &mut [u8], s: Sets, sides: usize)
+    requires { ⌜ (length (now work) ≡ workBytes) × (rowsOf s ≤ mostRows) × (columnsOf s + sides ≤ mostColumns) ⌝ }
+    ensures { λ _. ⌜ Eliminated (rowsOf s) (columnsOf s) sides (rowsIn s (now (work .entry))) (rowsIn s (now (work .exit))) ⌝ }
+    ensures { λ _. ⌜ length (now (work .exit)) ≡ length (now (work .entry)) ⌝ }
+{
+    let rows = row_count(s);
+    let columns = s.columns;
+    let end = rows * ROW_BYTES;
+    eliminate(&mut work[..end], rows, columns.count(), sides);
+}
+
+// Whether bit k of the out bits is set.
 fn has_bit(out: &[u8], k: usize) -> bool
     requires { ⌜ (length (now out) ≡ rowBytes) × (k < mostColumns) ⌝ }
     ensures { λ r. ⌜ r ≡ entryOf rowBytes (now (out .entry)) 0 k ⌝ }
@@ -193,6 +217,7 @@ fn has_bit(out: &[u8], k: usize) -> bool
     (out[k / 8] >> ((k % 8) as u8)) & 1 != 0
 }
 
+// v is added where `yes` says so.
 fn with_if(s: NodeSet, v: u8, yes: bool) -> NodeSet
     requires { ⌜ v < capacity ⌝ }
     ensures { λ r. ⌜ member r ≡ (λ u. member s u || (yes && eqb u v)) ⌝ }
@@ -237,7 +262,9 @@ fn answer_at(work: &[u8], s: Sets, side: usize) -> Tried
     );
     match solved {
         Solved::Solvable => Tried::Set(unpack(&out, columns)),
-        _ => Tried::Nothing,
+        Solved::Unsolvable => Tried::Nothing,
+        Solved::WrongShape => Tried::Nothing,
+        Solved::NoSuchEquation => Tried::Nothing,
     }
 }
 
@@ -263,14 +290,10 @@ fn try_branch(work: &mut [u8], g: &[u64], n: usize, s: Sets, u: u8, b: u8) -> Tr
     ensures { λ r. ⌜ triedOf r ≡ tryBranch (graphJob n (now (g .entry))) (contextOf s) u b ⌝ }
     ensures { λ _. ⌜ length (now (work .exit)) ≡ length (now (work .entry)) ⌝ }
 {
-    let rows = row_count(s);
     let columns = s.columns;
-    let cols = columns.count();
-    clear(work);
-    fill(work, g, s);
-    put_side(work, g, s, u, b, cols);
-    let end = rows * ROW_BYTES;
-    eliminate(&mut work[..end], rows, cols, 1);
+    lay_out(work, g, s);
+    put_side(work, g, s, u, b, columns.count());
+    eliminate_rows(work, s, 1);
     with_own(answer_at(work, s, 0), u, b)
 }
 
@@ -297,14 +320,10 @@ fn open_round(work: &mut [u8], g: &[u64], n: usize, s: Sets, measured: &[u8])
     ensures { λ _. ⌜ Opened n (now (g .entry)) s (now (measured .entry)) (now (work .exit)) ⌝ }
     ensures { λ _. ⌜ length (now (work .exit)) ≡ length (now (work .entry)) ⌝ }
 {
-    let rows = row_count(s);
     let upper = s.upper;
-    let columns = s.columns;
-    clear(work);
-    fill(work, g, s);
+    lay_out(work, g, s);
     put_sides(work, g, s, measured);
-    let end = rows * ROW_BYTES;
-    eliminate(&mut work[..end], rows, columns.count(), upper.count());
+    eliminate_rows(work, s, upper.count());
 }
 
 // What the open round has for u of the upper rows, in branch b.
