@@ -12,3 +12,4 @@ pub mod Progress
 pub mod Visiting
 pub mod Finding
 pub mod Rounds
+pub mod BranchTable

@@ -346,6 +346,7 @@ use nodes::utils::put_set;
 use gflow::Search;
 
 pub mod gflow;
+pub mod pflow;
 
 
 // No set has more nodes.
