@@ -9,3 +9,7 @@ pub mod Sizes
 pub mod Filling
 pub mod Packing
 pub mod Progress
+pub mod Visiting
+pub mod Finding
+pub mod Rounds
+pub mod BranchTable

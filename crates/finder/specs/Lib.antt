@@ -6,3 +6,4 @@ pub mod Paulis
 pub mod Premise
 pub mod Finder
 pub mod Views
+pub mod Finding

@@ -334,3 +334,88 @@ fn read_node(work: &[u8], s: Sets, u: u8, b: u8) -> Tried
     let upper = s.upper;
     with_own(answer_at(work, s, rank(upper, u)), u, b)
 }
+
+// ---- both searches
+ghost use mathlib.Core.Bool.{cond};
+ghost use Rattle.nodes.specs.Row.{anyBelow, allBelow};
+ghost use Rattle.finder.specs.Search.{start};
+ghost use Rattle.finder.specs.Finder.{sizesFit, tableWords};
+ghost use Rattle.finder.specs.Finding.{Sized, answerOf, progressIn, cutTo, placed};
+use nodes::utils::clear_table;
+use nodes::utils::put_set;
+use gflow::Search;
+
+pub mod gflow;
+pub mod pflow;
+
+
+// No set has more nodes.
+const CAPACITY: usize = NodeSet::HIGHEST as usize + 1;
+
+// Two words for each node's set.
+const TABLE_WORDS: usize = 2 * CAPACITY;
+
+// The work matrix has 128 rows.
+const WORK_BYTES: usize = CAPACITY * ROW_BYTES;
+
+// No more nodes than a set can have, a measurement for each, and buffers of exact length.
+fn sizes_fit(n: usize, graph: &[u64], measured: &[u8], work: &[u8], layers: &[u8], sets: &[u64]) -> bool
+    ensures { λ r. ⌜ r ≡ sizesFit n (now (graph .entry)) (now (measured .entry)) (now (work .entry)) (now (layers .entry)) (now (sets .entry)) ⌝ }
+{
+    if n > CAPACITY {
+        return false;
+    }
+    if graph.len() != TABLE_WORDS {
+        return false;
+    }
+    if n > measured.len() {
+        return false;
+    }
+    if work.len() != WORK_BYTES {
+        return false;
+    }
+    if layers.len() != CAPACITY {
+        return false;
+    }
+    sets.len() == TABLE_WORDS
+}
+
+// At the start the outputs are solved, with layer 0, and no node has a set.
+fn begin(n: usize, outputs: NodeSet, layers: &mut [u8], sets: &mut [u64]) -> NodeSet
+    requires { ⌜ (n ≤ capacity) × (length (now layers) ≡ capacity) × (length (now sets) ≡ tableWords) ⌝ }
+    ensures { λ s. ⌜ progressIn s (now (layers .exit)) (now (sets .exit)) ≡ cutTo n (start (member outputs)) ⌝ }
+    ensures { λ _. ⌜ (length (now (layers .exit)) ≡ capacity) × (length (now (sets .exit)) ≡ tableWords) ⌝ }
+{
+    clear(layers);
+    clear_table(sets);
+    outputs.intersection(NodeSet::below(n))
+}
+
+// A node whose try gave a set is solved: it takes the round as layer, and its set.
+fn place(solved: NodeSet, u: u8, r: u8, t: Tried, layers: &mut [u8], sets: &mut [u64]) -> NodeSet
+    requires { ⌜ (u < capacity) × (length (now layers) ≡ capacity) × (length (now sets) ≡ tableWords) ⌝ }
+    ensures { λ s. ⌜ progressIn s (now (layers .exit)) (now (sets .exit)) ≡ placed u r (triedOf t) (progressIn solved (now (layers .entry)) (now (sets .entry))) ⌝ }
+    ensures { λ _. ⌜ (length (now (layers .exit)) ≡ capacity) × (length (now (sets .exit)) ≡ tableWords) ⌝ }
+{
+    match t {
+        Tried::Set(s) => {
+            layers[u as usize] = r;
+            put_set(sets, u, s);
+            solved.with(u)
+        }
+        Tried::Nothing => solved,
+    }
+}
+
+// A node still unsolved at the end means no flow. The work matrix is left zero.
+fn conclude(n: usize, solved: NodeSet, work: &mut [u8]) -> Search
+    requires { ⌜ n ≤ capacity ⌝ }
+    ensures { λ r. ⌜ r ≡ answerOf n (member solved) ⌝ }
+    ensures { λ _. ⌜ now (work .exit) ≡ zeros (length (now (work .entry))) ⌝ }
+{
+    clear(work);
+    if NodeSet::below(n).difference(solved).is_empty() {
+        return Search::Flow;
+    }
+    Search::NoFlow
+}
