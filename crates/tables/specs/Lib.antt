@@ -9,3 +9,5 @@ pub mod Programs
 pub mod Published
 pub mod Demand
 pub mod Solutions
+pub mod Refusals
+pub mod Views

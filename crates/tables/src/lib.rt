@@ -1,1 +1,2 @@
-// placeholder
+// Job and flow files.
+pub mod common; // common.rt: the records, and reading them

@@ -1,0 +1,63 @@
+use Rattle.tables.proofs.common.rising.Statement.{statement}
+use Rattle.tables.proofs.common.rising.Tie as tie
+use Rattle.tables.proofs.common.rising.Reads as reads
+use Rattle.tables.proofs.common.rising.Lts as lts
+use Rattle.tables.proofs.common.wide.Reads as wide-reads
+
+abbrev Inv-loop : tie.InvT-loop
+Inv-loop nodes low₀ i₀ low i = ?
+
+abbrev μ-loop : tie.MeasureT-loop
+μ-loop nodes low₀ i₀ low i = ?
+
+-- src/common.rt:192:5
+loop-holds : tie.Need-loop-holds Inv-loop μ-loop
+loop-holds c = ?
+
+-- src/common.rt:193:22
+shared-slice-read-wide : tie.Need-shared-slice-read-wide Inv-loop μ-loop
+shared-slice-read-wide c = ?
+
+-- src/common.rt:193:13
+wide-requires : tie.Need-wide-requires Inv-loop μ-loop
+wide-requires c κs = ?
+
+-- src/common.rt:195:13
+returns : tie.Need-returns Inv-loop μ-loop
+returns c = ?
+
+-- src/common.rt:197:15
+add-low : tie.Need-add-low Inv-loop μ-loop
+add-low c = ?
+
+-- src/common.rt:198:9
+add-i : tie.Need-add-i Inv-loop μ-loop
+add-i c = ?
+
+-- src/common.rt:192:5
+loop-less : tie.Need-loop-less Inv-loop μ-loop
+loop-less c = ?
+
+-- src/common.rt:192:5
+loop-again : tie.Need-loop-again Inv-loop μ-loop
+loop-again c = ?
+
+-- src/common.rt:187:1
+returns-2 : tie.Need-returns-2 Inv-loop μ-loop
+returns-2 c = ?
+
+pub rising-spec : {M : Type 1} → statement M
+rising-spec =
+    tie.close
+    (tie.spec
+    Inv-loop
+    μ-loop
+    loop-holds
+    shared-slice-read-wide
+    wide-requires
+    returns
+    add-low
+    add-i
+    loop-less
+    loop-again
+    returns-2)
