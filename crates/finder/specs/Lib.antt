@@ -4,3 +4,4 @@ pub mod Search
 pub mod Planes
 pub mod Paulis
 pub mod Premise
+pub mod Finder

@@ -2,3 +2,9 @@ pub mod System
 pub mod Reduced
 pub mod Elimination
 pub mod Packed
+pub mod Turns
+pub mod Bytes
+pub mod WorkMatrix
+pub mod Leads
+pub mod Steps
+pub mod Solver

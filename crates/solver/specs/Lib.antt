@@ -2,3 +2,5 @@ pub mod System
 pub mod Reduced
 pub mod WorkMatrix
 pub mod Packed
+pub mod Steps
+pub mod Solver

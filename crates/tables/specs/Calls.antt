@@ -7,22 +7,20 @@ use lib.Dec.{eqb, leb}
 use lib.ListN.{length, drop}
 use Rattle.nodes.specs.Row.{members}
 use Rattle.solver.specs.WorkMatrix.{listOf}
+use Rattle.solver.specs.Solver.{rowBytes, mostRows}
 use Rattle.finder.specs.Job.{Job}
 use Rattle.finder.specs.Search.{Progress}
 use Rattle.finder.specs.Planes as Planes
 use Rattle.finder.specs.Paulis as Paulis
 use Rattle.tables.specs.Answer.{Refusal, Answer, gives, refuses, _>>=_, _>>_, refusal, asks}
 use Rattle.tables.specs.Records.{written, kindLayers, kindSets, kindNoFlow, kindAccepted}
-use Rattle.tables.specs.JobFile.{JobFile, readJob, jobOf, measuredOf, mostNodes, modePlanes, modePauli}
+use Rattle.tables.specs.JobFile.{JobFile, readJob, jobOf, measuredOf, modePlanes, modePauli}
 use Rattle.tables.specs.FlowFile.{readFlow, flowOf, nothingLeft, oneMember}
 use Rattle.tables.specs.Verdict.{verify}
 
--- the bytes of a row of the work matrix, and of the whole: 128 rows of 128 bits
-abbrev pub rowBytes : ℕ
-rowBytes = 16
-
+-- the work buffer: 128 rows of 128 bits
 abbrev pub workBytes : ℕ
-workBytes = mostNodes * rowBytes
+workBytes = mostRows * rowBytes
 
 -- ---- what the finder writes
 -- entries of the nodes in the list: node, count, members

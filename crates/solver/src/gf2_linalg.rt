@@ -1,0 +1,395 @@
+// The solver of equations mod 2: rows of bits, coefficient columns first and then the right sides.
+ghost use mathlib.Core.Path.{_≡_};
+ghost use mathlib.Core.Logic.{_≢_};
+ghost use mathlib.Core.Bool.{Bool, true, false, not, _&&_, _||_};
+ghost use Prim.Native.Nat.{ℕ, _+_, _-_, _*_, _<_, _≤_};
+ghost use lib.ListN.{length};
+ghost use lib.Dec.{eqb, ltb};
+ghost use Rattle.nodes.specs.Row.{lowestFrom, allBelow};
+ghost use Rattle.nodes.specs.NodeSet.{member};
+ghost use Rattle.solver.specs.Reduced.{lead, contradicts, leads, readOff};
+ghost use Rattle.solver.specs.WorkMatrix.{entryOf, nothingBeyond, bytesOf};
+ghost use Rattle.solver.specs.Steps.{xorRow, brought, clearOne, clearColumn, State, column, eliminated, withBit};
+ghost use Rattle.solver.specs.Solver.{rowBytes, mostColumns, fits, bothFit, wellShaped, equationExists, MatrixAfter, pivotsOf, eliminateCall, Outcome, outcome, readOffCall, solveCall};
+use nodes::utils::NodeSet;
+use nodes::utils::mask;
+
+// Each row, and the out bits, take 16 bytes, lowest bit first.
+const ROW_BYTES: usize = 16;
+
+const MOST_ROWS: usize = 128;
+
+const MOST_COLUMNS: usize = 8 * ROW_BYTES;
+
+// The pivot columns, or a wrong shape.
+pub enum Elimination {
+    Pivots(NodeSet),
+    Refused,
+}
+
+pub enum Solved {
+    Solvable,
+    Unsolvable,
+    WrongShape,
+    NoSuchEquation,
+}
+
+// Whether the row has a bit in the column.
+fn has(matrix: &[u8], row: usize, col: usize) -> bool
+    requires { ⌜ (row * rowBytes + rowBytes ≤ length (now matrix)) × (col < mostColumns) ⌝ }
+    ensures { λ r. ⌜ r ≡ entryOf rowBytes (now (matrix .entry)) row col ⌝ }
+{
+    (matrix[row * ROW_BYTES + col / 8] >> ((col % 8) as u8)) & 1 != 0
+}
+
+// Row src is added to row dst.
+fn xor_row(matrix: &mut [u8], dst: usize, src: usize)
+    requires { ⌜ (dst * rowBytes + rowBytes ≤ length (now matrix)) × (src * rowBytes + rowBytes ≤ length (now matrix)) × (dst ≢ src) ⌝ }
+    ensures { λ _. ⌜ now (matrix .exit) ≡ xorRow rowBytes (now (matrix .entry)) dst src ⌝ }
+{
+    let d = dst * ROW_BYTES;
+    let s = src * ROW_BYTES;
+    let mut j = 0;
+    while j < ROW_BYTES {
+        matrix[d + j] ^= matrix[s + j];
+        j += 1;
+    }
+}
+
+// The first row from `from` on that has the column, and `rows` where there is none.
+fn find_pivot(matrix: &[u8], from: usize, rows: usize, col: usize) -> usize
+    requires { ⌜ (rows * rowBytes ≤ length (now matrix)) × (from ≤ rows) × (col < mostColumns) ⌝ }
+    ensures { λ r. ⌜ r ≡ lowestFrom from (rows - from) (λ i. entryOf rowBytes (now (matrix .entry)) i col) ⌝ }
+{
+    let mut i = from;
+    while i < rows {
+        if has(matrix, i, col) {
+            return i;
+        }
+        i += 1;
+    }
+    i
+}
+
+// Row p is added to the row at the rank, which then has the pivot's bit; no rows change places.
+fn bring(matrix: &mut [u8], rank: usize, p: usize)
+    requires { ⌜ (rank * rowBytes + rowBytes ≤ length (now matrix)) × (p * rowBytes + rowBytes ≤ length (now matrix)) ⌝ }
+    ensures { λ _. ⌜ now (matrix .exit) ≡ brought rowBytes (now (matrix .entry)) rank p ⌝ }
+{
+    if p == rank {
+        return;
+    }
+    xor_row(matrix, rank, p);
+}
+
+fn clear_one(matrix: &mut [u8], row: usize, pivot: usize, col: usize)
+    requires { ⌜ (row * rowBytes + rowBytes ≤ length (now matrix)) × (pivot * rowBytes + rowBytes ≤ length (now matrix)) × (col < mostColumns) ⌝ }
+    ensures { λ _. ⌜ now (matrix .exit) ≡ clearOne rowBytes pivot col row (now (matrix .entry)) ⌝ }
+{
+    if row == pivot {
+        return;
+    }
+    if has(matrix, row, col) {
+        xor_row(matrix, row, pivot);
+    }
+}
+
+// The pivot's row clears the column in the rows above and below it.
+fn clear_column(matrix: &mut [u8], rows: usize, pivot: usize, col: usize)
+    requires { ⌜ (rows * rowBytes ≤ length (now matrix)) × (pivot < rows) × (col < mostColumns) ⌝ }
+    ensures { λ _. ⌜ now (matrix .exit) ≡ clearColumn rowBytes (now (matrix .entry)) rows pivot col ⌝ }
+{
+    let mut i = 0;
+    while i < rows {
+        clear_one(matrix, i, pivot, col);
+        i += 1;
+    }
+}
+
+// One column: the rank grows where a row from it on has the column.
+fn eliminate_column(matrix: &mut [u8], rows: usize, col: usize, rank: usize) -> usize
+    requires { ⌜ (rows * rowBytes ≤ length (now matrix)) × (rank ≤ rows) × (col < mostColumns) ⌝ }
+    ensures { λ r. ⌜ record { rank = r; rows = now (matrix .exit) } ≡ column rowBytes rows col (record { rank = rank; rows = now (matrix .entry) }) ⌝ }
+    ensures { λ r. ⌜ r ≤ rows ⌝ }
+{
+    let p = find_pivot(matrix, rank, rows, col);
+    if p >= rows {
+        return rank;
+    }
+    bring(matrix, rank, p);
+    clear_column(matrix, rows, rank, col);
+    rank + 1
+}
+
+// The coefficient columns in turn.
+fn eliminate_columns(matrix: &mut [u8], rows: usize, cols: usize)
+    requires { ⌜ (rows * rowBytes ≤ length (now matrix)) × (cols ≤ mostColumns) ⌝ }
+    ensures { λ _. ⌜ now (matrix .exit) ≡ eliminated rowBytes (now (matrix .entry)) rows cols .rows ⌝ }
+{
+    let mut rank = 0;
+    let mut col = 0;
+    while col < cols {
+        rank = eliminate_column(matrix, rows, col, rank);
+        col += 1;
+    }
+}
+
+// The first coefficient column at which the row has a bit, and `cols` where it has none.
+fn first_column(matrix: &[u8], row: usize, cols: usize) -> usize
+    requires { ⌜ (row * rowBytes + rowBytes ≤ length (now matrix)) × (cols ≤ mostColumns) ⌝ }
+    ensures { λ r. ⌜ r ≡ lead (entryOf rowBytes (now (matrix .entry))) cols row ⌝ }
+{
+    let start = row * ROW_BYTES;
+    let mut q = 0;
+    while q < ROW_BYTES {
+        let byte = matrix[start + q];
+        if byte != 0 {
+            let k = 8 * q + u8::trailing_zeros(byte) as usize;
+            if k < cols {
+                return k;
+            }
+            return cols;
+        }
+        q += 1;
+    }
+    cols
+}
+
+fn add_pivot(pivots: NodeSet, matrix: &[u8], row: usize, cols: usize) -> NodeSet
+    requires { ⌜ (row * rowBytes + rowBytes ≤ length (now matrix)) × (cols ≤ mostColumns) ⌝ }
+    ensures { λ r. ⌜ member r ≡ (λ k. member pivots k || (ltb k cols && eqb (lead (entryOf rowBytes (now (matrix .entry))) cols row) k)) ⌝ }
+{
+    let k = first_column(matrix, row, cols);
+    if k >= cols {
+        return pivots;
+    }
+    pivots.with(k as u8)
+}
+
+// The columns at which the rows of an eliminated matrix begin.
+fn pivot_columns(matrix: &[u8], rows: usize, cols: usize) -> NodeSet
+    requires { ⌜ (rows * rowBytes ≤ length (now matrix)) × (cols ≤ mostColumns) ⌝ }
+    ensures { λ r. ⌜ member r ≡ (λ k. leads rows cols (entryOf rowBytes (now (matrix .entry))) (λ i. true) k) ⌝ }
+{
+    let mut pivots = NodeSet::empty();
+    let mut i = 0;
+    while i < rows {
+        pivots = add_pivot(pivots, matrix, i, cols);
+        i += 1;
+    }
+    pivots
+}
+
+// A row without a coefficient asks for 1 in the column.
+fn asks_in_vain(matrix: &[u8], row: usize, cols: usize, column: usize) -> bool
+    requires { ⌜ (row * rowBytes + rowBytes ≤ length (now matrix)) × (cols ≤ mostColumns) × (column < mostColumns) ⌝ }
+    ensures { λ r. ⌜ r ≡ (entryOf rowBytes (now (matrix .entry)) row column && eqb (lead (entryOf rowBytes (now (matrix .entry))) cols row) cols) ⌝ }
+{
+    if !has(matrix, row, column) {
+        return false;
+    }
+    first_column(matrix, row, cols) == cols
+}
+
+// Whether some row does.
+fn no_solution(matrix: &[u8], rows: usize, cols: usize, column: usize) -> bool
+    requires { ⌜ (rows * rowBytes ≤ length (now matrix)) × (cols ≤ mostColumns) × (column < mostColumns) ⌝ }
+    ensures { λ r. ⌜ r ≡ contradicts rows cols (entryOf rowBytes (now (matrix .entry))) (λ i. entryOf rowBytes (now (matrix .entry)) i column) ⌝ }
+{
+    let mut i = 0;
+    while i < rows {
+        if asks_in_vain(matrix, i, cols, column) {
+            return true;
+        }
+        i += 1;
+    }
+    false
+}
+
+fn clear(out: &mut [u8])
+    requires { ⌜ length (now out) ≡ rowBytes ⌝ }
+    ensures { λ _. ⌜ now (out .exit) ≡ bytesOf rowBytes (λ k. false) ⌝ }
+{
+    let mut j = 0;
+    while j < ROW_BYTES {
+        out[j] = 0;
+        j += 1;
+    }
+}
+
+fn set_bit(out: &mut [u8], k: usize)
+    requires { ⌜ (length (now out) ≡ rowBytes) × (k < mostColumns) ⌝ }
+    ensures { λ _. ⌜ now (out .exit) ≡ withBit (now (out .entry)) k ⌝ }
+{
+    let at = k / 8;
+    out[at] |= mask((k % 8) as u8) as u8;
+}
+
+// A row that asks for 1 in the column has its first coefficient column set.
+fn put_lead(matrix: &[u8], out: &mut [u8], row: usize, cols: usize, column: usize)
+    requires { ⌜ (row * rowBytes + rowBytes ≤ length (now matrix)) × (cols ≤ mostColumns) × (column < mostColumns) × (now out ≡ bytesOf rowBytes (leads row cols (entryOf rowBytes (now matrix)) (λ i. entryOf rowBytes (now matrix) i column))) ⌝ }
+    ensures { λ _. ⌜ now (out .exit) ≡ bytesOf rowBytes (leads (row + 1) cols (entryOf rowBytes (now (matrix .entry))) (λ i. entryOf rowBytes (now (matrix .entry)) i column)) ⌝ }
+{
+    if !has(matrix, row, column) {
+        return;
+    }
+    let k = first_column(matrix, row, cols);
+    if k >= cols {
+        return;
+    }
+    set_bit(out, k);
+}
+
+fn put_leads(matrix: &[u8], out: &mut [u8], rows: usize, cols: usize, column: usize)
+    requires { ⌜ (rows * rowBytes ≤ length (now matrix)) × (cols ≤ mostColumns) × (column < mostColumns) × (length (now out) ≡ rowBytes) ⌝ }
+    ensures { λ _. ⌜ now (out .exit) ≡ bytesOf rowBytes (leads rows cols (entryOf rowBytes (now (matrix .entry))) (λ i. entryOf rowBytes (now (matrix .entry)) i column)) ⌝ }
+{
+    clear(out);
+    let mut i = 0;
+    while i < rows {
+        put_lead(matrix, out, i, cols, column);
+        i += 1;
+    }
+}
+
+// 'No solution' keeps the out bits.
+fn answer(matrix: &[u8], out: &mut [u8], rows: usize, cols: usize, column: usize) -> Solved
+    requires { ⌜ (rows * rowBytes ≤ length (now matrix)) × (cols ≤ mostColumns) × (column < mostColumns) × (length (now out) ≡ rowBytes) ⌝ }
+    ensures { λ r. ⌜ record { answer = r; out = now (out .exit) } ≡ outcome (readOff rows cols (entryOf rowBytes (now (matrix .entry))) (λ i. entryOf rowBytes (now (matrix .entry)) i column)) (now (out .entry)) ⌝ }
+{
+    if no_solution(matrix, rows, cols, column) {
+        return Solved::Unsolvable;
+    }
+    put_leads(matrix, out, rows, cols, column);
+    Solved::Solvable
+}
+
+// No bit of the row at or beyond the width: in the first byte looked at `inside` bits may be there.
+fn row_ends(matrix: &[u8], row: usize, width: usize) -> bool
+    requires { ⌜ (row * rowBytes + rowBytes ≤ length (now matrix)) × (width ≤ mostColumns) ⌝ }
+    ensures { λ r. ⌜ r ≡ allBelow (8 * rowBytes) (λ k. ltb k width || not (entryOf rowBytes (now (matrix .entry)) row k)) ⌝ }
+{
+    let start = row * ROW_BYTES;
+    let mut q = width / 8;
+    let mut inside = width % 8;
+    while q < ROW_BYTES {
+        if (matrix[start + q] >> (inside as u8)) != 0 {
+            return false;
+        }
+        inside = 0;
+        q += 1;
+    }
+    true
+}
+
+fn rows_end(matrix: &[u8], rows: usize, width: usize) -> bool
+    requires { ⌜ (rows * rowBytes ≤ length (now matrix)) × (width ≤ mostColumns) ⌝ }
+    ensures { λ r. ⌜ r ≡ nothingBeyond rowBytes (now (matrix .entry)) rows width ⌝ }
+{
+    let mut i = 0;
+    while i < rows {
+        if !row_ends(matrix, i, width) {
+            return false;
+        }
+        i += 1;
+    }
+    true
+}
+
+// Each bound is asked before a sum or product of the numbers is made, which then can't wrap.
+fn matrix_fits(matrix: &[u8], rows: usize, cols: usize, sides: usize) -> bool
+    ensures { λ r. ⌜ r ≡ fits (now (matrix .entry)) rows cols sides ⌝ }
+{
+    if rows > MOST_ROWS {
+        return false;
+    }
+    if cols > MOST_COLUMNS {
+        return false;
+    }
+    if sides > MOST_COLUMNS - cols {
+        return false;
+    }
+    matrix.len() == rows * ROW_BYTES
+}
+
+fn both_fit(matrix: &[u8], out: &[u8], rows: usize, cols: usize, sides: usize) -> bool
+    ensures { λ r. ⌜ r ≡ bothFit (now (matrix .entry)) (now (out .entry)) rows cols sides ⌝ }
+{
+    if !matrix_fits(matrix, rows, cols, sides) {
+        return false;
+    }
+    out.len() == ROW_BYTES
+}
+
+// Question 11.
+fn well_shaped(matrix: &[u8], out: &[u8], rows: usize, cols: usize, sides: usize) -> bool
+    ensures { λ r. ⌜ r ≡ wellShaped (now (matrix .entry)) (now (out .entry)) rows cols sides ⌝ }
+{
+    if rows == 0 {
+        return false;
+    }
+    if sides == 0 {
+        return false;
+    }
+    if cols == 0 {
+        return false;
+    }
+    if !both_fit(matrix, out, rows, cols, sides) {
+        return false;
+    }
+    rows_end(matrix, rows, cols + sides)
+}
+
+// The matrix is brought to reduced form by adding rows to each other; the answer is the set of its pivot columns.
+pub fn eliminate(matrix: &mut [u8], rows: usize, cols: usize, sides: usize) -> Elimination
+    ensures { λ r. ⌜ pivotsOf r ≡ eliminateCall (now (matrix .entry)) rows cols sides ⌝ }
+    ensures { λ _. ⌜ MatrixAfter (fits (now (matrix .entry)) rows cols sides) rows cols sides (now (matrix .entry)) (now (matrix .exit)) ⌝ }
+{
+    if !matrix_fits(matrix, rows, cols, sides) {
+        return Elimination::Refused;
+    }
+    eliminate_columns(matrix, rows, cols);
+    Elimination::Pivots(pivot_columns(matrix, rows, cols))
+}
+
+// What an eliminated matrix answers for one right side.
+pub fn read_off(
+    matrix: &[u8],
+    out: &mut [u8],
+    rows: usize,
+    cols: usize,
+    sides: usize,
+    side: usize,
+) -> Solved
+    ensures { λ r. ⌜ record { answer = r; out = now (out .exit) } ≡ readOffCall (now (matrix .entry)) (now (out .entry)) rows cols sides side ⌝ }
+{
+    if !both_fit(matrix, out, rows, cols, sides) {
+        return Solved::WrongShape;
+    }
+    if side >= sides {
+        return Solved::NoSuchEquation;
+    }
+    answer(matrix, out, rows, cols, cols + side)
+}
+
+// Both questions are asked before anything is touched.
+pub fn solve_in_place(
+    matrix: &mut [u8],
+    out: &mut [u8],
+    rows: usize,
+    cols: usize,
+    sides: usize,
+    side: usize,
+) -> Solved
+    ensures { λ r. ⌜ record { answer = r; out = now (out .exit) } ≡ solveCall (now (matrix .entry)) (now (out .entry)) rows cols sides side ⌝ }
+    ensures { λ _. ⌜ MatrixAfter (wellShaped (now (matrix .entry)) (now (out .entry)) rows cols sides && equationExists sides side) rows cols sides (now (matrix .entry)) (now (matrix .exit)) ⌝ }
+{
+    if !well_shaped(matrix, out, rows, cols, sides) {
+        return Solved::WrongShape;
+    }
+    if side >= sides {
+        return Solved::NoSuchEquation;
+    }
+    eliminate_columns(matrix, rows, cols);
+    answer(matrix, out, rows, cols, cols + side)
+}
