@@ -1,7 +1,8 @@
 -- One row more among those that begin at a column.
-use mathlib.Core.Path.{_≡_, refl, sym, ap, ap₂, _∙_, fun-ext}
-use mathlib.Core.Bool.{Bool, true, false, _&&_, _||_}
+use mathlib.Core.Path.{_≡_, refl, sym, ap, _∙_, fun-ext}
+use mathlib.Core.Bool.{Bool, true, false, cond, _&&_, _||_}
 use mathlib.Core.List.{List}
+use mathlib.Core.Option.{none, some}
 use Prim.Native.Nat.{ℕ, _+_, _*_, _<_, _≤_}
 use native.Mathlib.Decide.{ℕ-discrete}
 use native.Mathlib.Numerals.{add-one}
@@ -10,11 +11,11 @@ use borrow.Author.Tests.{le-leb}
 use lib.Dec.{eqb, leb, ltb}
 use Rattle.nodes.specs.Row.{anyBelow}
 use Rattle.nodes.specs.NodeSet.{highest}
-use Rattle.nodes.proofs.Logic.{and-none, and-all, or-none, or-comm, eqb-no, eqb-yes}
+use Rattle.nodes.proofs.Logic.{and-none, and-all, or-none, or-comm, eqb-no}
 use Rattle.nodes.proofs.Row.{ltb-yes, ltb-no}
 use Rattle.solver.specs.Reduced.{lead, leads}
-use Rattle.solver.specs.WorkMatrix.{bytesOf}
-use Rattle.solver.specs.Steps.{withBit}
+use Rattle.solver.specs.WorkMatrix.{entryOf, bytesOf}
+use Rattle.solver.specs.Steps.{noSolution, readColumn, leadBytes, withBit}
 use Rattle.solver.proofs.WorkMatrix.{bytes-ext, bytes-with}
 
 -- a column p, among those below n
@@ -59,21 +60,44 @@ module _ (m : ℕ → ℕ → Bool) (n : ℕ) (d : ℕ → Bool) where
   leads-take : (i k : ℕ) → d i ≡ true → lead m n i < n → leads i n m d k || eqb k (lead m n i) ≡ leads (i + 1) n m d k
   leads-take i k e h = sym (leads-more i k ∙ rw e (ap (λ (b : Bool). leads i n m d k || b) (inside n (lead m n i) k h)))
 
-  -- ---- as bytes
-  module _ (w : ℕ) where
-    pub bytes-start : bytesOf w (λ k. false) ≡ bytesOf w (leads 0 n m d)
-    bytes-start = bytes-ext w (λ k. false) (leads 0 n m d) (λ k h. sym (leads-none k))
+-- ---- as bytes, where the column `asked` says which rows ask for 1
+module _ (w : ℕ) (l : List ℕ) (cols asked : ℕ) where
+  m : ℕ → ℕ → Bool
+  m = entryOf w l
 
-    pub bytes-skip : (i : ℕ) → d i ≡ false → bytesOf w (leads i n m d) ≡ bytesOf w (leads (i + 1) n m d)
-    bytes-skip i e = bytes-ext w (leads i n m d) (leads (i + 1) n m d) (λ k h. leads-skip i k e)
+  d : ℕ → Bool
+  d i = entryOf w l i asked
 
-    pub bytes-past : (i : ℕ) → n ≤ lead m n i → bytesOf w (leads i n m d) ≡ bytesOf w (leads (i + 1) n m d)
-    bytes-past i g = bytes-ext w (leads i n m d) (leads (i + 1) n m d) (λ k h. leads-past i k g)
+  same : (i j : ℕ) → ((k : ℕ) → leads i cols m d k ≡ leads j cols m d k) → leadBytes w l cols asked i ≡ leadBytes w l cols asked j
+  unfolding m d
+  same i j h = bytes-ext w (leads i cols m d) (leads j cols m d) (λ k g. h k)
 
-    pub bytes-take : (i : ℕ) → d i ≡ true → lead m n i < n → n ≤ 8 * w → withBit (bytesOf w (leads i n m d)) (lead m n i) ≡ bytesOf w (leads (i + 1) n m d)
-    bytes-take i e g h =
-        bytes-with w (leads i n m d) (lead m n i) (omega arith)
-        ∙ bytes-ext w (λ k. leads i n m d k || eqb k (lead m n i)) (leads (i + 1) n m d) (λ k u. leads-take i k e g)
+  pub bytes-start : bytesOf w (λ k. false) ≡ leadBytes w l cols asked 0
+  unfolding m d
+  bytes-start = bytes-ext w (λ k. false) (leads 0 cols m d) (λ k h. sym (leads-none m cols d k))
+
+  pub bytes-skip : (i : ℕ) → entryOf w l i asked ≡ false → leadBytes w l cols asked i ≡ leadBytes w l cols asked (i + 1)
+  unfolding m d
+  bytes-skip i e = same i (i + 1) (λ k. leads-skip m cols d i k e)
+
+  pub bytes-past : (i : ℕ) → cols ≤ lead (entryOf w l) cols i → leadBytes w l cols asked i ≡ leadBytes w l cols asked (i + 1)
+  unfolding m d
+  bytes-past i h = same i (i + 1) (λ k. leads-past m cols d i k h)
+
+  pub bytes-take : (i : ℕ) → entryOf w l i asked ≡ true → lead (entryOf w l) cols i < cols → cols ≤ 8 * w
+      → withBit (leadBytes w l cols asked i) (lead (entryOf w l) cols i) ≡ leadBytes w l cols asked (i + 1)
+  unfolding m d
+  bytes-take i e g h =
+      bytes-with w (leads i cols m d) (lead m cols i) (omega arith)
+      ∙ bytes-ext w (λ k. leads i cols m d k || eqb k (lead m cols i)) (leads (i + 1) cols m d) (λ k u. leads-take m cols d i k e g)
+
+  -- ---- what is read off
+  pub read-none : (rows : ℕ) → true ≡ noSolution w l rows cols asked → none ≡ readColumn w l rows cols asked
+  read-none rows e = ap (λ (b : Bool). cond b none (some (leads rows cols (entryOf w l) (λ i. entryOf w l i asked)))) e
+
+  pub read-some : (rows : ℕ) → false ≡ noSolution w l rows cols asked
+      → some (leads rows cols (entryOf w l) (λ i. entryOf w l i asked)) ≡ readColumn w l rows cols asked
+  read-some rows e = ap (λ (b : Bool). cond b none (some (leads rows cols (entryOf w l) (λ i. entryOf w l i asked)))) e
 
 -- ---- as a set, to which a column is added where it is one
 pub set-past : (s : ℕ → Bool) (n p : ℕ) → n ≤ p → s ≡ (λ k. s k || (ltb k n && eqb p k))

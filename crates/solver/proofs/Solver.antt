@@ -9,7 +9,7 @@ use native.Mathlib.Omega.{arith}
 use borrow.Author.Tests.{leb-true, eqb-true}
 use lib.Dec.{T, eqb, leb, ltb}
 use lib.ListN.{length}
-use Rattle.nodes.specs.Row.{allBelow, dot}
+use Rattle.nodes.specs.Row.{allBelow}
 use Rattle.nodes.proofs.Logic.{is-false, or-l, or-r, or-out, not-in, not-out, from-false, dec}
 use Rattle.nodes.proofs.Row.{all-in, all-out, dot-one, ltb-no}
 use Rattle.solver.specs.System.{solve, pivot}
@@ -17,7 +17,8 @@ use Rattle.solver.specs.Reduced.{leads, readOff}
 use Rattle.solver.specs.WorkMatrix.{entryOf, systemOf, sideOf, nothingBeyond}
 use Rattle.solver.specs.Steps.{State, eliminated}
 use Rattle.solver.specs.Solver.{rowBytes, mostRows, mostColumns, fits, bothFit, columnExists, wellShaped, Eliminated}
-use Rattle.solver.proofs.Elimination.{Same, same-sym, solutions-kept, solve-kept, partly-reduced, eliminated-answer, eliminated-pivots}
+use Rattle.solver.proofs.Reduced.{read-off}
+use Rattle.solver.proofs.Elimination.{Same, same-sym, solutions-kept, solve-kept, partly-reduced, eliminated-pivots}
 use Rattle.solver.proofs.Steps.{Good, good-eliminated}
 
 -- a column without a bit stays so
@@ -108,9 +109,8 @@ pivots-read rows cols sides l h g = fun-ext (λ k. by k (decLt k cols))
         (eliminated-pivots rows mostColumns cols (eliminated rowBytes l rows cols .rank) (entryOf rowBytes l) m′ (good .same) (good .partly) (omega arith) k u)
     by k (no u) = rw (ltb-no k cols (omega arith))
 
-pub answer-read : (rows cols side : ℕ) (l : List ℕ) → rows * rowBytes ≤ length l → cols + side < mostColumns
-    → readOff rows cols (entryOf rowBytes (eliminated rowBytes l rows cols .rows)) (λ i. entryOf rowBytes (eliminated rowBytes l rows cols .rows) i (cols + side))
-    ≡ solve (systemOf rowBytes l rows) cols (sideOf rowBytes l cols side)
-answer-read rows cols side l h g =
-    let good = good-eliminated rowBytes rows l h cols (omega arith) in
-    eliminated-answer rows mostColumns cols (eliminated rowBytes l rows cols .rank) (entryOf rowBytes l) (entryOf rowBytes (eliminated rowBytes l rows cols .rows)) (good .same) (good .partly) (omega arith) (cols + side) g
+-- what is read off an eliminated matrix is the answer of the matrix as it was
+pub reads-answer : (rows cols sides : ℕ) (before after : List ℕ) → Eliminated rows cols sides before after → (side : ℕ) → side < sides
+    → readOff rows cols (entryOf rowBytes after) (sideOf rowBytes after cols side) ≡ solve (systemOf rowBytes before rows) cols (sideOf rowBytes before cols side)
+reads-answer rows cols sides before after e side h =
+    read-off rows cols (entryOf rowBytes after) (e .reduced) (sideOf rowBytes after cols side) ∙ e .answers side h

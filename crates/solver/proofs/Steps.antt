@@ -1,6 +1,5 @@
 -- What the steps of the elimination do to the matrix that the bytes hold.
-use mathlib.Core.Path.{_≡_, refl, sym, ap, ap₂, _∙_}
-use mathlib.Core.Logic.{_≢_, _⊎_, inl, inr}
+use mathlib.Core.Path.{_≡_, refl, sym, ap, _∙_}
 use mathlib.Core.Bool.{Bool, true, false, cond, not, _&&_}
 use mathlib.Core.List.{List}
 use Prim.Native.Nat.{ℕ, zero, suc, _+_, _-_, _*_, _<_, _≤_}
@@ -16,7 +15,7 @@ use Rattle.nodes.proofs.Logic.{eqb-no, eqb-yes, and-none, ⊕-none}
 use Rattle.nodes.proofs.Row.{ltb-yes, ltb-no}
 use Rattle.nodes.proofs.Members.{from-ge, from-none, from-here}
 use Rattle.solver.specs.WorkMatrix.{entryOf}
-use Rattle.solver.specs.Steps.{turns, xorRow, brought, clearOne, clearColumn, State, pivotRow, pivotTo, column, eliminated}
+use Rattle.solver.specs.Steps.{turns, xorRow, brought, clearOne, clearColumn, State, pivotTo, column, eliminated}
 use Rattle.solver.proofs.Bytes.{rows-apart, length-xor, entry-xor}
 use Rattle.solver.proofs.Elimination.{Same, same-refl, same-trans, Partly, partly-start, partly-skip, pivot-same, partly-pivot, addRow, bring-same, bring-keeps, bring-one}
 

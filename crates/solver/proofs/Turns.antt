@@ -1,8 +1,7 @@
 -- One turn more of a loop, and one number more looked at.
 use mathlib.Core.Path.{_≡_, refl, sym, ap, _∙_}
 use mathlib.Core.Bool.{Bool, true, false, cond}
-use mathlib.Core.List.{List}
-use Prim.Native.Nat.{ℕ, zero, suc, _+_, _-_, _<_, _≤_}
+use Prim.Native.Nat.{ℕ, suc, _+_, _-_, _<_, _≤_}
 use native.Mathlib.Nat.{sub-eq-zero-of-le}
 use native.Mathlib.Numerals.{add-one}
 use native.Mathlib.Omega.{arith}
@@ -11,7 +10,6 @@ use lib.Dec.{ltb}
 use Rattle.nodes.specs.Row.{lowestFrom, anyBelow, allBelow}
 use Rattle.nodes.proofs.Logic.{is-true, is-false, from-true, from-false}
 use Rattle.nodes.proofs.Row.{any-in, all-out}
-use Rattle.solver.specs.WorkMatrix.{entryOf}
 use Rattle.solver.specs.Steps.{turns, State, pivotRow, pivotTo, column}
 
 pub turns-none : {A : Type 0} (f : ℕ → A → A) (a : A) → a ≡ turns f 0 a

@@ -1,27 +1,27 @@
 -- The bytes of a row: its first bit, its bits beyond the width, and a row of bits as bytes.
-use mathlib.Core.Path.{_≡_, refl, sym, ap, ap₂, _∙_, subst}
+use mathlib.Core.Path.{_≡_, sym, ap, ap₂, _∙_, subst}
 use mathlib.Core.Logic.{_≢_, _⊎_, inl, inr}
-use mathlib.Core.Bool.{Bool, true, false, cond, not, _&&_, _||_}
+use mathlib.Core.Bool.{Bool, true, false, not, _||_}
 use mathlib.Core.List.{List}
 use Prim.Native.Nat.{ℕ, zero, suc, _+_, _-_, _*_, _/_, _%_, _^_, _<_, _≤_}
-use native.Mathlib.Nat.{div-eq-of-lt, mod-lt, not-suc-le-zero, le-of-suc-le-suc, lt-of-le-of-lt, div-le-self, pow-suc, zero-mul}
-use native.Mathlib.Decide.{ℕ-discrete, decLt}
+use native.Mathlib.Nat.{mod-lt, not-suc-le-zero, le-of-suc-le-suc, lt-of-le-of-lt, div-le-self, pow-suc, zero-mul}
+use native.Mathlib.Decide.{ℕ-discrete}
 use native.Mathlib.Omega.{arith}
 use lib.Bits.{bitOr, or-lt}
 use lib.Count.{trailingZeros}
-use lib.Dec.{T, eqb, ltb, lt→ltb, eqb→eq, eqb-refl}
-use lib.ListN.{getD, length, set, length-set}
+use lib.Dec.{T, eqb, ltb, lt→ltb}
+use lib.ListN.{getD, length, length-set}
 use lib.Pow.{pow-pos, pow-lt, split, shr-shr}
 use lib.Seq.{getD-set-same, getD-set-other}
 use Rattle.nodes.specs.Bit.{bit, isOne}
-use Rattle.nodes.specs.Row.{lowest, anyBelow, allBelow}
-use Rattle.nodes.proofs.Logic.{is-true, is-false, from-false, not-in, not-out, or-l, or-r, or-out, or-none, eqb-no, eqb-yes, lt-or-ge}
-use Rattle.nodes.proofs.Row.{all-out, ltb-yes, ltb-no}
-use Rattle.nodes.proofs.Members.{lowest-le, lowest-none, lowest-here, lowest-unique}
+use Rattle.nodes.specs.Row.{lowest, allBelow}
+use Rattle.nodes.proofs.Logic.{is-false, from-false, not-in, not-out, or-l, or-r, or-out, or-none, eqb-no, eqb-yes, lt-or-ge}
+use Rattle.nodes.proofs.Row.{all-out, ltb-no}
+use Rattle.nodes.proofs.Members.{lowest-none, lowest-here, lowest-unique}
 use Rattle.nodes.proofs.Bit.{bit-zero, bit-past, bit-ext, bit-or, bit-pow, bit-low, bit-half}
 use Rattle.nodes.proofs.Digits.{trailing-lowest}
-use Rattle.solver.specs.Reduced.{lead, leads}
-use Rattle.solver.specs.WorkMatrix.{entryOf, one, digits, listOf, bytesOf}
+use Rattle.solver.specs.Reduced.{lead}
+use Rattle.solver.specs.WorkMatrix.{entryOf, one, digits, bytesOf}
 use Rattle.solver.specs.Steps.{withBit}
 use Rattle.solver.proofs.Bytes.{length-listOf, getD-listOf, is-listOf}
 
@@ -180,6 +180,17 @@ byte-at w x q h = getD-listOf w (λ q. digits 8 (λ t. x (8 * q + t))) q h
 
 pub bytes-length : (w : ℕ) (x : ℕ → Bool) → length (bytesOf w x) ≡ w
 bytes-length w x = length-listOf w (λ q. digits 8 (λ t. x (8 * q + t)))
+
+-- each bit below 8 * w is kept
+pub bytes-entry : (w : ℕ) (x : ℕ → Bool) (k : ℕ) → k < 8 * w → entryOf w (bytesOf w x) 0 k ≡ x k
+unfolding entryOf
+bytes-entry w x k h =
+    let z : 0 * w + k / 8 ≡ k / 8 = omega (arith, zero-mul w) in
+    let e : 8 * (k / 8) + k % 8 ≡ k = omega arith in
+    ap (λ (q : ℕ). bit (getD (bytesOf w x) q 0) (k % 8)) z
+    ∙ ap (λ (n : ℕ). bit n (k % 8)) (byte-at w x (k / 8) (omega arith))
+    ∙ bit-digits 8 (λ t. x (8 * (k / 8) + t)) (k % 8) (omega arith)
+    ∙ ap x e
 
 -- a list of w bytes with the digits of x
 pub bytes-is : (w : ℕ) (l : List ℕ) (x : ℕ → Bool) → length l ≡ w → ((q : ℕ) → q < w → getD l q 0 < 2 ^ 8)

@@ -54,6 +54,10 @@ wellShaped matrix out rows cols sides =
 abbrev pub equationExists : ℕ → ℕ → Bool
 equationExists sides side = ltb side sides
 
+-- both have a yes, and the call goes ahead
+abbrev pub solverAccepts : List ℕ → List ℕ → ℕ → ℕ → ℕ → ℕ → Bool
+solverAccepts matrix out rows cols sides side = wellShaped matrix out rows cols sides && equationExists sides side
+
 -- ---- what the matrix holds after an elimination, which no definition decides: as many bytes, still no bit beyond the
 -- width, each right side keeps the solutions it had and so its answer, and the coefficients are in reduced form
 pub record Eliminated (rows cols sides : ℕ) (before after : List ℕ) : Type 0 where

@@ -1,13 +1,15 @@
--- What the steps of the elimination make of the bytes, turn by turn: the promises of private functions only.
+-- What the solver's steps make of the bytes, turn by turn: the promises of private functions only.
 -- The bytes of a row, w, are a parameter.
 use Prim.Native.Nat.{ℕ, zero, suc, _+_, _-_, _*_, _/_, _%_, _^_}
-use mathlib.Core.Bool.{Bool, true, false, cond, _&&_}
+use mathlib.Core.Bool.{Bool, cond, not, _&&_, _||_}
 use mathlib.Core.List.{List}
+use mathlib.Core.Option.{Option}
 use lib.Dec.{eqb, leb, ltb}
 use lib.Bits.{bitOr, bitXor}
 use lib.ListN.{length, getD, set}
-use Rattle.nodes.specs.Row.{lowestFrom}
-use Rattle.solver.specs.WorkMatrix.{entryOf, listOf}
+use Rattle.nodes.specs.Row.{allBelow, lowestFrom}
+use Rattle.solver.specs.Reduced.{lead, contradicts, leads, readOff}
+use Rattle.solver.specs.WorkMatrix.{entryOf, listOf, bytesOf}
 
 -- what n turns of a loop make, where turn j does f j
 unfoldable pub turns : {A : Type 0} → (ℕ → A → A) → ℕ → A → A
@@ -54,7 +56,25 @@ column w n col s = cond (ltb (pivotRow w n col s) n) (pivotTo w n col (s .rank) 
 unfoldable pub eliminated : ℕ → List ℕ → ℕ → ℕ → State
 eliminated w l n cols = turns (column w n) cols (record { rank = 0; rows = l })
 
--- ---- the out bits
+-- ---- reading off: the column `asked` has what each row asks for
+-- row i asks for 1 and has no coefficient
+abbrev pub inVain : ℕ → List ℕ → ℕ → ℕ → ℕ → Bool
+inVain w l cols asked i = entryOf w l i asked && eqb (lead (entryOf w l) cols i) cols
+
+abbrev pub noSolution : ℕ → List ℕ → ℕ → ℕ → ℕ → Bool
+noSolution w l rows cols asked = contradicts rows cols (entryOf w l) (λ i. entryOf w l i asked)
+
+abbrev pub readColumn : ℕ → List ℕ → ℕ → ℕ → ℕ → Option (ℕ → Bool)
+readColumn w l rows cols asked = readOff rows cols (entryOf w l) (λ i. entryOf w l i asked)
+
+-- the out bits with the first columns of the rows below `rows` that ask for 1
+abbrev pub leadBytes : ℕ → List ℕ → ℕ → ℕ → ℕ → List ℕ
+leadBytes w l cols asked rows = bytesOf w (leads rows cols (entryOf w l) (λ i. entryOf w l i asked))
+
 -- bit k is set
 abbrev pub withBit : List ℕ → ℕ → List ℕ
 withBit l k = set l (k / 8) (bitOr (getD l (k / 8) 0) (2 ^ (k % 8)))
+
+-- row i has no bit at or beyond column `width`
+abbrev pub rowEnds : ℕ → List ℕ → ℕ → ℕ → Bool
+rowEnds w l width i = allBelow (8 * w) (λ k. ltb k width || not (entryOf w l i k))

@@ -1,16 +1,18 @@
 // The solver of equations mod 2: rows of bits, coefficient columns first and then the right sides.
 ghost use mathlib.Core.Path.{_≡_};
 ghost use mathlib.Core.Logic.{_≢_};
-ghost use mathlib.Core.Bool.{Bool, true, false, not, _&&_, _||_};
-ghost use Prim.Native.Nat.{ℕ, _+_, _-_, _*_, _<_, _≤_};
+ghost use mathlib.Core.Bool.{true, false, _&&_, _||_};
+ghost use Prim.Native.Nat.{_+_, _-_, _*_, _<_, _≤_};
 ghost use lib.ListN.{length};
 ghost use lib.Dec.{eqb, ltb};
-ghost use Rattle.nodes.specs.Row.{lowestFrom, allBelow};
+ghost use Rattle.nodes.specs.Row.{lowestFrom};
 ghost use Rattle.nodes.specs.NodeSet.{member};
-ghost use Rattle.solver.specs.Reduced.{lead, contradicts, leads, readOff};
+ghost use Rattle.solver.specs.Reduced.{lead, leads};
 ghost use Rattle.solver.specs.WorkMatrix.{entryOf, nothingBeyond, bytesOf};
-ghost use Rattle.solver.specs.Steps.{xorRow, brought, clearOne, clearColumn, State, column, eliminated, withBit};
-ghost use Rattle.solver.specs.Solver.{rowBytes, mostColumns, fits, bothFit, wellShaped, equationExists, MatrixAfter, pivotsOf, eliminateCall, Outcome, outcome, readOffCall, solveCall};
+ghost use Rattle.solver.specs.Steps.{xorRow, brought, clearOne, clearColumn, State, column, eliminated};
+ghost use Rattle.solver.specs.Steps.{inVain, noSolution, readColumn, leadBytes, withBit, rowEnds};
+ghost use Rattle.solver.specs.Solver.{rowBytes, mostColumns, fits, bothFit, wellShaped, solverAccepts};
+ghost use Rattle.solver.specs.Solver.{MatrixAfter, pivotsOf, eliminateCall, Outcome, outcome, readOffCall, solveCall};
 use nodes::utils::NodeSet;
 use nodes::utils::mask;
 
@@ -44,7 +46,8 @@ fn has(matrix: &[u8], row: usize, col: usize) -> bool
 
 // Row src is added to row dst.
 fn xor_row(matrix: &mut [u8], dst: usize, src: usize)
-    requires { ⌜ (dst * rowBytes + rowBytes ≤ length (now matrix)) × (src * rowBytes + rowBytes ≤ length (now matrix)) × (dst ≢ src) ⌝ }
+    requires { ⌜ (dst * rowBytes + rowBytes ≤ length (now matrix)) × (src * rowBytes + rowBytes ≤ length (now matrix))
+        × (dst ≢ src) ⌝ }
     ensures { λ _. ⌜ now (matrix .exit) ≡ xorRow rowBytes (now (matrix .entry)) dst src ⌝ }
 {
     let d = dst * ROW_BYTES;
@@ -83,7 +86,8 @@ fn bring(matrix: &mut [u8], rank: usize, p: usize)
 }
 
 fn clear_one(matrix: &mut [u8], row: usize, pivot: usize, col: usize)
-    requires { ⌜ (row * rowBytes + rowBytes ≤ length (now matrix)) × (pivot * rowBytes + rowBytes ≤ length (now matrix)) × (col < mostColumns) ⌝ }
+    requires { ⌜ (row * rowBytes + rowBytes ≤ length (now matrix)) × (pivot * rowBytes + rowBytes ≤ length (now matrix))
+        × (col < mostColumns) ⌝ }
     ensures { λ _. ⌜ now (matrix .exit) ≡ clearOne rowBytes pivot col row (now (matrix .entry)) ⌝ }
 {
     if row == pivot {
@@ -109,7 +113,8 @@ fn clear_column(matrix: &mut [u8], rows: usize, pivot: usize, col: usize)
 // One column: the rank grows where a row from it on has the column.
 fn eliminate_column(matrix: &mut [u8], rows: usize, col: usize, rank: usize) -> usize
     requires { ⌜ (rows * rowBytes ≤ length (now matrix)) × (rank ≤ rows) × (col < mostColumns) ⌝ }
-    ensures { λ r. ⌜ record { rank = r; rows = now (matrix .exit) } ≡ column rowBytes rows col (record { rank = rank; rows = now (matrix .entry) }) ⌝ }
+    ensures { λ r. ⌜ record { rank = r; rows = now (matrix .exit) }
+        ≡ column rowBytes rows col (record { rank = rank; rows = now (matrix .entry) }) ⌝ }
     ensures { λ r. ⌜ r ≤ rows ⌝ }
 {
     let p = find_pivot(matrix, rank, rows, col);
@@ -157,7 +162,8 @@ fn first_column(matrix: &[u8], row: usize, cols: usize) -> usize
 
 fn add_pivot(pivots: NodeSet, matrix: &[u8], row: usize, cols: usize) -> NodeSet
     requires { ⌜ (row * rowBytes + rowBytes ≤ length (now matrix)) × (cols ≤ mostColumns) ⌝ }
-    ensures { λ r. ⌜ member r ≡ (λ k. member pivots k || (ltb k cols && eqb (lead (entryOf rowBytes (now (matrix .entry))) cols row) k)) ⌝ }
+    ensures { λ r. ⌜ member r
+        ≡ (λ k. member pivots k || (ltb k cols && eqb (lead (entryOf rowBytes (now (matrix .entry))) cols row) k)) ⌝ }
 {
     let k = first_column(matrix, row, cols);
     if k >= cols {
@@ -169,7 +175,7 @@ fn add_pivot(pivots: NodeSet, matrix: &[u8], row: usize, cols: usize) -> NodeSet
 // The columns at which the rows of an eliminated matrix begin.
 fn pivot_columns(matrix: &[u8], rows: usize, cols: usize) -> NodeSet
     requires { ⌜ (rows * rowBytes ≤ length (now matrix)) × (cols ≤ mostColumns) ⌝ }
-    ensures { λ r. ⌜ member r ≡ (λ k. leads rows cols (entryOf rowBytes (now (matrix .entry))) (λ i. true) k) ⌝ }
+    ensures { λ r. ⌜ member r ≡ leads rows cols (entryOf rowBytes (now (matrix .entry))) (λ i. true) ⌝ }
 {
     let mut pivots = NodeSet::empty();
     let mut i = 0;
@@ -180,25 +186,25 @@ fn pivot_columns(matrix: &[u8], rows: usize, cols: usize) -> NodeSet
     pivots
 }
 
-// A row without a coefficient asks for 1 in the column.
-fn asks_in_vain(matrix: &[u8], row: usize, cols: usize, column: usize) -> bool
-    requires { ⌜ (row * rowBytes + rowBytes ≤ length (now matrix)) × (cols ≤ mostColumns) × (column < mostColumns) ⌝ }
-    ensures { λ r. ⌜ r ≡ (entryOf rowBytes (now (matrix .entry)) row column && eqb (lead (entryOf rowBytes (now (matrix .entry))) cols row) cols) ⌝ }
+// A row without a coefficient asks for 1: the right side is in the column `asked`.
+fn asks_in_vain(matrix: &[u8], row: usize, cols: usize, asked: usize) -> bool
+    requires { ⌜ (row * rowBytes + rowBytes ≤ length (now matrix)) × (cols ≤ mostColumns) × (asked < mostColumns) ⌝ }
+    ensures { λ r. ⌜ r ≡ inVain rowBytes (now (matrix .entry)) cols asked row ⌝ }
 {
-    if !has(matrix, row, column) {
+    if !has(matrix, row, asked) {
         return false;
     }
     first_column(matrix, row, cols) == cols
 }
 
 // Whether some row does.
-fn no_solution(matrix: &[u8], rows: usize, cols: usize, column: usize) -> bool
-    requires { ⌜ (rows * rowBytes ≤ length (now matrix)) × (cols ≤ mostColumns) × (column < mostColumns) ⌝ }
-    ensures { λ r. ⌜ r ≡ contradicts rows cols (entryOf rowBytes (now (matrix .entry))) (λ i. entryOf rowBytes (now (matrix .entry)) i column) ⌝ }
+fn no_solution(matrix: &[u8], rows: usize, cols: usize, asked: usize) -> bool
+    requires { ⌜ (rows * rowBytes ≤ length (now matrix)) × (cols ≤ mostColumns) × (asked < mostColumns) ⌝ }
+    ensures { λ r. ⌜ r ≡ noSolution rowBytes (now (matrix .entry)) rows cols asked ⌝ }
 {
     let mut i = 0;
     while i < rows {
-        if asks_in_vain(matrix, i, cols, column) {
+        if asks_in_vain(matrix, i, cols, asked) {
             return true;
         }
         i += 1;
@@ -225,12 +231,13 @@ fn set_bit(out: &mut [u8], k: usize)
     out[at] |= mask((k % 8) as u8) as u8;
 }
 
-// A row that asks for 1 in the column has its first coefficient column set.
-fn put_lead(matrix: &[u8], out: &mut [u8], row: usize, cols: usize, column: usize)
-    requires { ⌜ (row * rowBytes + rowBytes ≤ length (now matrix)) × (cols ≤ mostColumns) × (column < mostColumns) × (now out ≡ bytesOf rowBytes (leads row cols (entryOf rowBytes (now matrix)) (λ i. entryOf rowBytes (now matrix) i column))) ⌝ }
-    ensures { λ _. ⌜ now (out .exit) ≡ bytesOf rowBytes (leads (row + 1) cols (entryOf rowBytes (now (matrix .entry))) (λ i. entryOf rowBytes (now (matrix .entry)) i column)) ⌝ }
+// A row that asks for 1 has its first coefficient column set.
+fn put_lead(matrix: &[u8], out: &mut [u8], row: usize, cols: usize, asked: usize)
+    requires { ⌜ (row * rowBytes + rowBytes ≤ length (now matrix)) × (cols ≤ mostColumns) × (asked < mostColumns)
+        × (now out ≡ leadBytes rowBytes (now matrix) cols asked row) ⌝ }
+    ensures { λ _. ⌜ now (out .exit) ≡ leadBytes rowBytes (now (matrix .entry)) cols asked (row + 1) ⌝ }
 {
-    if !has(matrix, row, column) {
+    if !has(matrix, row, asked) {
         return;
     }
     let k = first_column(matrix, row, cols);
@@ -240,34 +247,38 @@ fn put_lead(matrix: &[u8], out: &mut [u8], row: usize, cols: usize, column: usiz
     set_bit(out, k);
 }
 
-fn put_leads(matrix: &[u8], out: &mut [u8], rows: usize, cols: usize, column: usize)
-    requires { ⌜ (rows * rowBytes ≤ length (now matrix)) × (cols ≤ mostColumns) × (column < mostColumns) × (length (now out) ≡ rowBytes) ⌝ }
-    ensures { λ _. ⌜ now (out .exit) ≡ bytesOf rowBytes (leads rows cols (entryOf rowBytes (now (matrix .entry))) (λ i. entryOf rowBytes (now (matrix .entry)) i column)) ⌝ }
+// Out bits that no row sets, those past the last column too, become zero.
+fn put_leads(matrix: &[u8], out: &mut [u8], rows: usize, cols: usize, asked: usize)
+    requires { ⌜ (rows * rowBytes ≤ length (now matrix)) × (cols ≤ mostColumns) × (asked < mostColumns)
+        × (length (now out) ≡ rowBytes) ⌝ }
+    ensures { λ _. ⌜ now (out .exit) ≡ leadBytes rowBytes (now (matrix .entry)) cols asked rows ⌝ }
 {
     clear(out);
     let mut i = 0;
     while i < rows {
-        put_lead(matrix, out, i, cols, column);
+        put_lead(matrix, out, i, cols, asked);
         i += 1;
     }
 }
 
 // 'No solution' keeps the out bits.
-fn answer(matrix: &[u8], out: &mut [u8], rows: usize, cols: usize, column: usize) -> Solved
-    requires { ⌜ (rows * rowBytes ≤ length (now matrix)) × (cols ≤ mostColumns) × (column < mostColumns) × (length (now out) ≡ rowBytes) ⌝ }
-    ensures { λ r. ⌜ record { answer = r; out = now (out .exit) } ≡ outcome (readOff rows cols (entryOf rowBytes (now (matrix .entry))) (λ i. entryOf rowBytes (now (matrix .entry)) i column)) (now (out .entry)) ⌝ }
+fn answer(matrix: &[u8], out: &mut [u8], rows: usize, cols: usize, asked: usize) -> Solved
+    requires { ⌜ (rows * rowBytes ≤ length (now matrix)) × (cols ≤ mostColumns) × (asked < mostColumns)
+        × (length (now out) ≡ rowBytes) ⌝ }
+    ensures { λ r. ⌜ record { answer = r; out = now (out .exit) }
+        ≡ outcome (readColumn rowBytes (now (matrix .entry)) rows cols asked) (now (out .entry)) ⌝ }
 {
-    if no_solution(matrix, rows, cols, column) {
+    if no_solution(matrix, rows, cols, asked) {
         return Solved::Unsolvable;
     }
-    put_leads(matrix, out, rows, cols, column);
+    put_leads(matrix, out, rows, cols, asked);
     Solved::Solvable
 }
 
-// No bit of the row at or beyond the width: in the first byte looked at `inside` bits may be there.
+// No bit of the row at or beyond the width: `inside` bits of the byte looked at may be there.
 fn row_ends(matrix: &[u8], row: usize, width: usize) -> bool
     requires { ⌜ (row * rowBytes + rowBytes ≤ length (now matrix)) × (width ≤ mostColumns) ⌝ }
-    ensures { λ r. ⌜ r ≡ allBelow (8 * rowBytes) (λ k. ltb k width || not (entryOf rowBytes (now (matrix .entry)) row k)) ⌝ }
+    ensures { λ r. ⌜ r ≡ rowEnds rowBytes (now (matrix .entry)) width row ⌝ }
 {
     let start = row * ROW_BYTES;
     let mut q = width / 8;
@@ -343,7 +354,8 @@ fn well_shaped(matrix: &[u8], out: &[u8], rows: usize, cols: usize, sides: usize
 // The matrix is brought to reduced form by adding rows to each other; the answer is the set of its pivot columns.
 pub fn eliminate(matrix: &mut [u8], rows: usize, cols: usize, sides: usize) -> Elimination
     ensures { λ r. ⌜ pivotsOf r ≡ eliminateCall (now (matrix .entry)) rows cols sides ⌝ }
-    ensures { λ _. ⌜ MatrixAfter (fits (now (matrix .entry)) rows cols sides) rows cols sides (now (matrix .entry)) (now (matrix .exit)) ⌝ }
+    ensures { λ _. ⌜ MatrixAfter (fits (now (matrix .entry)) rows cols sides) rows cols sides
+        (now (matrix .entry)) (now (matrix .exit)) ⌝ }
 {
     if !matrix_fits(matrix, rows, cols, sides) {
         return Elimination::Refused;
@@ -361,7 +373,8 @@ pub fn read_off(
     sides: usize,
     side: usize,
 ) -> Solved
-    ensures { λ r. ⌜ record { answer = r; out = now (out .exit) } ≡ readOffCall (now (matrix .entry)) (now (out .entry)) rows cols sides side ⌝ }
+    ensures { λ r. ⌜ record { answer = r; out = now (out .exit) }
+        ≡ readOffCall (now (matrix .entry)) (now (out .entry)) rows cols sides side ⌝ }
 {
     if !both_fit(matrix, out, rows, cols, sides) {
         return Solved::WrongShape;
@@ -381,8 +394,10 @@ pub fn solve_in_place(
     sides: usize,
     side: usize,
 ) -> Solved
-    ensures { λ r. ⌜ record { answer = r; out = now (out .exit) } ≡ solveCall (now (matrix .entry)) (now (out .entry)) rows cols sides side ⌝ }
-    ensures { λ _. ⌜ MatrixAfter (wellShaped (now (matrix .entry)) (now (out .entry)) rows cols sides && equationExists sides side) rows cols sides (now (matrix .entry)) (now (matrix .exit)) ⌝ }
+    ensures { λ r. ⌜ record { answer = r; out = now (out .exit) }
+        ≡ solveCall (now (matrix .entry)) (now (out .entry)) rows cols sides side ⌝ }
+    ensures { λ _. ⌜ MatrixAfter (solverAccepts (now (matrix .entry)) (now (out .entry)) rows cols sides side) rows cols sides
+        (now (matrix .entry)) (now (matrix .exit)) ⌝ }
 {
     if !well_shaped(matrix, out, rows, cols, sides) {
         return Solved::WrongShape;

@@ -26,7 +26,7 @@ use Rattle.tables.specs.Records.{written, kindNoFlow}
 use Rattle.tables.specs.JobFile.{JobFile, readJob, jobOf, measuredOf, modeCausal, modePlanes, modePauli}
 use Rattle.tables.specs.FlowFile.{FlowFile, Flow, readFlow, flowOf, nothingLeft, oneMember}
 use Rattle.tables.specs.Encoding.{ValidJob, ValidFlow, foundFlow}
-use Rattle.tables.specs.Verdict.{verify}
+use Rattle.tables.specs.Verdict.{verify, checkDomain, checkInitial, checkDefinition}
 use Rattle.tables.specs.Calls.{Outcome, put, zeros, findOutcome, findAsks, findCall, foundBytes, flowBytes, search, workBytes, verifyAsks}
 use Rattle.tables.specs.Published.{Measured}
 use Rattle.tables.specs.Demand.{premise, Accepted, FlowBytes, layerIn, DemandHolds, Demand3}
@@ -34,7 +34,7 @@ use Rattle.tables.proofs.Records.{give-inj, never, bind-out, asks-out}
 use Rattle.tables.proofs.JobFile.{job-asked, measured-range, measured-most, output-zero, measured-plane, edge-loop}
 use Rattle.tables.proofs.FlowFile.{flow-asked, nothing-left, one-member-other}
 use Rattle.tables.proofs.Writing.{found-reads, found-valid, found-layer, found-entry, found-set, no-flow-unread}
-use Rattle.tables.proofs.Verdict.{Preliminary, verify-in, verify-preliminary, verify-nodes, node-in, node-out}
+use Rattle.tables.proofs.Verdict.{Preliminary, domain-asked, initial-asked, definition-asked, verify-in, verify-preliminary, verify-nodes, node-in, node-out}
 use Rattle.tables.proofs.Published as Pub
 use Rattle.tables.proofs.Judging.{Judged, judged-in, judged-out, readable, planes}
 
@@ -154,6 +154,10 @@ module _ (file : List ℕ) (f : JobFile) (reads : readJob file ≡ gives f) (end
 
     found-verified : verify j (flowOf g) (f .mode) ≡ none
     found-verified = verify-in j (flowOf g) (f .mode) preliminary (λ i m. rw (is-false (eqb (f .mode) modeCausal) (λ t. not-causal (eqb→eq (f .mode) modeCausal t))) (node-in j (flowOf g) (f .mode) i (node-ok i m)))
+
+    -- the block that FATAL_MSG guards in the Rust is needless: none of its three checks can fail
+    pub fatal-needless : (checkDomain j (flowOf g) ≡ none) × (checkInitial j (flowOf g) (f .mode) ≡ none) × (checkDefinition j (flowOf g) (f .mode) ≡ none)
+    fatal-needless = (domain-asked j (flowOf g) (f .mode) found-verified, initial-asked j (flowOf g) (f .mode) found-verified, definition-asked j (flowOf g) (f .mode) found-verified)
 
     pub found-judged : Judged f (flowBytes j (some s)) g
     found-judged = record { reads = found-reads j s (valid .few); nothing = refl; single = (true, one-member-other (f .mode) (g .sets) not-causal); accepted = found-verified }

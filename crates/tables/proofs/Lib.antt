@@ -8,3 +8,4 @@ pub mod Published
 pub mod Judging
 pub mod Demand
 pub mod Solutions
+pub mod Cases

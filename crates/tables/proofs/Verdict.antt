@@ -33,19 +33,19 @@ module _ (j : Job) (f : Flow) where
   abbrev pub nodeQuestions : ℕ → ℕ → Option Refusal
   nodeQuestions mode i = cond (eqb mode modeCausal) (Q.causalNodeAsk j f i) (Q.nodeAsk j f mode i)
 
-  abbrev inputsAsk : Option Refusal
+  abbrev pub inputsAsk : Option Refusal
   inputsAsk = each (j .nodes) (λ u. each (j .nodes) (Q.inputAsk j f u))
 
-  abbrev domainsAsk : Option Refusal
+  abbrev pub domainsAsk : Option Refusal
   domainsAsk = each (j .nodes) (Q.domainAsk j f)
 
-  abbrev layersAsk : ℕ → Option Refusal
+  abbrev pub layersAsk : ℕ → Option Refusal
   layersAsk mode = each (j .nodes) (Q.layerAsk j f mode)
 
-  abbrev entriesAsk : Option Refusal
+  abbrev pub entriesAsk : Option Refusal
   entriesAsk = each (j .nodes) (Q.measuredAsk j f)
 
-  abbrev definitionsAsk : ℕ → Option Refusal
+  abbrev pub definitionsAsk : ℕ → Option Refusal
   definitionsAsk mode = each (j .nodes) (Q.definitionAsk j f mode)
 
   layer-in : (mode u : ℕ) → u < j .nodes → OutputsAtZero j (f .layer) → (mode ≢ modePauli → OthersAboveZero j (f .layer)) → Q.layerAsk j f mode u ≡ none
@@ -70,38 +70,41 @@ module _ (j : Job) (f : Flow) where
   pub verify-in : (mode : ℕ) → Preliminary mode → ((i : ℕ) → Measured j i → nodeQuestions mode i ≡ none) → Q.verify j f mode ≡ none
   unfolding Q.verify
   verify-in mode p h =
-      next-in inputsAsk (domainsAsk next layersAsk mode next entriesAsk next definitionsAsk mode)
+      next-in (inputsAsk next domainsAsk) (layersAsk mode next (entriesAsk next definitionsAsk mode))
+      (next-in inputsAsk domainsAsk
       (each-in (j .nodes) (λ u. each (j .nodes) (Q.inputAsk j f u)) (λ u l. each-in (j .nodes) (Q.inputAsk j f u)
       (λ k m. ask-in (not (f .set u k) || not (j .input k) || eqb k u) 13 u 0 (input-in (f .set u k) (j .input k) (eqb k u) (λ a b. rw (p .inputs u k l m a b) (eqb-refl u))))))
-      (next-in domainsAsk (layersAsk mode next entriesAsk next definitionsAsk mode)
       (each-in (j .nodes) (Q.domainAsk j f) (λ u l. ask-in (Bool·beq (anyBelow (j .nodes) (f .set u)) (not (j .output u))) 14 u 0
-      (beq-in (anyBelow (j .nodes) (f .set u)) (j .output u) (λ a b. p .domain u l .0 a b) (p .domain u l .1))))
+      (beq-in (anyBelow (j .nodes) (f .set u)) (j .output u) (λ a b. p .domain u l .0 a b) (p .domain u l .1)))))
       (next-in (layersAsk mode) (entriesAsk next definitionsAsk mode)
       (each-in (j .nodes) (Q.layerAsk j f mode) (λ u l. layer-in mode u l (p .outputs) (p .others)))
       (next-in entriesAsk (definitionsAsk mode)
       (each-in (j .nodes) (Q.measuredAsk j f) (λ u l. ask-in (not (f .entry u) || not (eqb (j .measured u) 0)) 17 u 0 (entry′ u l (dec (f .entry u)))))
-      (each-in (j .nodes) (Q.definitionAsk j f mode) (λ i l. unless-in (j .output i) (nodeQuestions mode i) (λ o. h i (l, o)))))))
+      (each-in (j .nodes) (Q.definitionAsk j f mode) (λ i l. unless-in (j .output i) (nodeQuestions mode i) (λ o. h i (l, o))))))
     where
       entry′ : (u : ℕ) → u < j .nodes → T (f .entry u) ⊎ (T (f .entry u) → ⊥) → T (not (f .entry u) || not (eqb (j .measured u) 0))
       entry′ u l (inl t) = or-r (not (f .entry u)) (not (eqb (j .measured u) 0)) (not-in (eqb (j .measured u) 0) (λ q. p .entries u l t (eqb→eq (j .measured u) 0 q)))
       entry′ u l (inr d) = or-l (not (f .entry u)) (not (eqb (j .measured u) 0)) (not-in (f .entry u) d)
 
   module _ (mode : ℕ) (e : Q.verify j f mode ≡ none) where
-    all-asked : (inputsAsk next domainsAsk next layersAsk mode next entriesAsk next definitionsAsk mode) ≡ none
+    all-asked : ((inputsAsk next domainsAsk) next (layersAsk mode next (entriesAsk next definitionsAsk mode))) ≡ none
     unfolding Q.verify
     all-asked = e
 
-    after-inputs : (domainsAsk next layersAsk mode next entriesAsk next definitionsAsk mode) ≡ none
-    after-inputs = next-r inputsAsk (domainsAsk next layersAsk mode next entriesAsk next definitionsAsk mode) all-asked
+    pub domain-asked : (inputsAsk next domainsAsk) ≡ none
+    domain-asked = next-l (inputsAsk next domainsAsk) (layersAsk mode next (entriesAsk next definitionsAsk mode)) all-asked
 
-    after-domain : (layersAsk mode next entriesAsk next definitionsAsk mode) ≡ none
-    after-domain = next-r domainsAsk (layersAsk mode next entriesAsk next definitionsAsk mode) after-inputs
+    after-domain : (layersAsk mode next (entriesAsk next definitionsAsk mode)) ≡ none
+    after-domain = next-r (inputsAsk next domainsAsk) (layersAsk mode next (entriesAsk next definitionsAsk mode)) all-asked
 
-    after-layers : (entriesAsk next definitionsAsk mode) ≡ none
-    after-layers = next-r (layersAsk mode) (entriesAsk next definitionsAsk mode) after-domain
+    pub initial-asked : layersAsk mode ≡ none
+    initial-asked = next-l (layersAsk mode) (entriesAsk next definitionsAsk mode) after-domain
+
+    pub definition-asked : (entriesAsk next definitionsAsk mode) ≡ none
+    definition-asked = next-r (layersAsk mode) (entriesAsk next definitionsAsk mode) after-domain
 
     layer-asked : (u : ℕ) → u < j .nodes → Q.layerAsk j f mode u ≡ none
-    layer-asked = each-out (j .nodes) (Q.layerAsk j f mode) (next-l (layersAsk mode) (entriesAsk next definitionsAsk mode) after-domain)
+    layer-asked = each-out (j .nodes) (Q.layerAsk j f mode) initial-asked
 
     pub verify-preliminary : Preliminary mode
     verify-preliminary = record {
@@ -110,18 +113,18 @@ module _ (j : Job) (f : Flow) where
           (input-out (f .set u k) (j .input k) (eqb k u)
           (ask-out (not (f .set u k) || not (j .input k) || eqb k u) 13 u 0
           (each-out (j .nodes) (Q.inputAsk j f u)
-          (each-out (j .nodes) (λ u. each (j .nodes) (Q.inputAsk j f u)) (next-l inputsAsk (domainsAsk next layersAsk mode next entriesAsk next definitionsAsk mode) all-asked) u l) k m)) a b);
+          (each-out (j .nodes) (λ u. each (j .nodes) (Q.inputAsk j f u)) (next-l inputsAsk domainsAsk domain-asked) u l) k m)) a b);
       domain = λ u l.
           beq-out (anyBelow (j .nodes) (f .set u)) (j .output u)
           (ask-out (Bool·beq (anyBelow (j .nodes) (f .set u)) (not (j .output u))) 14 u 0
-          (each-out (j .nodes) (Q.domainAsk j f) (next-l domainsAsk (layersAsk mode next entriesAsk next definitionsAsk mode) after-inputs) u l));
+          (each-out (j .nodes) (Q.domainAsk j f) (next-r inputsAsk domainsAsk domain-asked) u l));
       outputs = λ u l t. output-out mode u (layer-asked u l) t;
       others = λ m u s. other-out mode u (layer-asked u (s .0)) m (s .1);
       entries = λ u l t q.
           not-out (eqb (j .measured u) 0)
           (entry-out (f .entry u) (not (eqb (j .measured u) 0))
           (ask-out (not (f .entry u) || not (eqb (j .measured u) 0)) 17 u 0
-          (each-out (j .nodes) (Q.measuredAsk j f) (next-l entriesAsk (definitionsAsk mode) after-layers) u l)) t)
+          (each-out (j .nodes) (Q.measuredAsk j f) (next-l entriesAsk (definitionsAsk mode) definition-asked) u l)) t)
           (rw q tt);
     }
       where
@@ -132,7 +135,7 @@ module _ (j : Job) (f : Flow) where
     pub verify-nodes : (i : ℕ) → Measured j i → nodeQuestions mode i ≡ none
     verify-nodes i s =
         unless-out (j .output i) (nodeQuestions mode i)
-        (each-out (j .nodes) (Q.definitionAsk j f mode) (next-r entriesAsk (definitionsAsk mode) after-layers) i (s .0)) (s .1)
+        (each-out (j .nodes) (Q.definitionAsk j f mode) (next-r entriesAsk (definitionsAsk mode) definition-asked) i (s .0)) (s .1)
 
   -- ---- node i in modes 2 and 3
   module _ (mode i : ℕ) where

@@ -11,3 +11,4 @@ pub mod Demand
 pub mod Solutions
 pub mod Refusals
 pub mod Views
+pub mod Cases

@@ -105,10 +105,17 @@ module _ (j : Job) (f : Flow) where
   abbrev pub definitionAsk : ℕ → ℕ → Option Refusal
   definitionAsk mode i = cond (j .output i) none (cond (eqb mode modeCausal) (causalNodeAsk i) (nodeAsk mode i))
 
+  -- 13 and 14 (`check_domain` of validate.rs)
+  abbrev pub checkDomain : Option Refusal
+  checkDomain = each (j .nodes) (λ u. each (j .nodes) (inputAsk u)) next each (j .nodes) domainAsk
+
+  -- 15 and 16 (`check_initial` of validate.rs)
+  abbrev pub checkInitial : ℕ → Option Refusal
+  checkInitial mode = each (j .nodes) (layerAsk mode)
+
+  -- 17, 18 and 19 (the three `check_definition`)
+  abbrev pub checkDefinition : ℕ → Option Refusal
+  checkDefinition mode = each (j .nodes) measuredAsk next each (j .nodes) (definitionAsk mode)
+
   unfoldable pub verify : ℕ → Option Refusal
-  verify mode =
-      each (j .nodes) (λ u. each (j .nodes) (inputAsk u))
-      next each (j .nodes) domainAsk
-      next each (j .nodes) (layerAsk mode)
-      next each (j .nodes) measuredAsk
-      next each (j .nodes) (definitionAsk mode)
+  verify mode = checkDomain next checkInitial mode next checkDefinition mode

@@ -1,4 +1,4 @@
-use mathlib.Core.Path.{_≡_, ap, _∙_}
+use mathlib.Core.Path.{ap, _∙_}
 use mathlib.Core.Bool.{Bool, _&&_, _||_}
 use Prim.Native.Nat.{ℕ}
 use native.Mathlib.Omega.{arith}
@@ -8,33 +8,26 @@ use Rattle.solver.proofs.Leads.{set-past, set-with}
 use borrow.Author.Needs.{needs}
 use Rattle.solver.proofs.gf2_linalg.add_pivot.Statement.{statement}
 use Rattle.solver.proofs.gf2_linalg.add_pivot.Tie as tie
-use Rattle.solver.proofs.gf2_linalg.add_pivot.Reads as reads
-use Rattle.solver.proofs.gf2_linalg.add_pivot.Lts as lts
-use Rattle.nodes.proofs.utils.NodeSet.with.Reads as with-reads
-use Rattle.solver.proofs.gf2_linalg.first_column.Reads as first-column-reads
 
--- src/gf2_linalg.rt:161:9
 first-column-requires : tie.Need-first-column-requires
 first-column-requires c κs = search needs
 
--- src/gf2_linalg.rt:163:9
 returns : tie.Need-returns
-returns c = let a = c .before .before .before .args in
+returns c =
+    let a = c .before .before .before .args in
     let f = c .before .first-column in
     set-past (member (a .pivots)) (a .cols) (f .result) (c .if1 .taken)
     ∙ ap {B = ℕ → Bool} (λ p k. member (a .pivots) k || (ltb k (a .cols) && eqb p k)) (f .ensures)
 
--- src/gf2_linalg.rt:165:17
 cast-with : tie.Need-cast-with
 cast-with c = search needs
 
--- src/gf2_linalg.rt:165:5
 with-requires : tie.Need-with-requires
 with-requires c κs = search needs
 
--- src/gf2_linalg.rt:157:1
 returns-2 : tie.Need-returns-2
-returns-2 c = let a = c .before .before .before .before .args in
+returns-2 c =
+    let a = c .before .before .before .before .args in
     let f = c .before .before .first-column in
     c .with .ensures ∙ set-with (member (a .pivots)) (a .cols) (f .result) (omega arith) (omega arith)
     ∙ ap {B = ℕ → Bool} (λ p k. member (a .pivots) k || (ltb k (a .cols) && eqb p k)) (f .ensures)

@@ -8,29 +8,23 @@ use Rattle.solver.specs.Solver.{rowBytes}
 use borrow.Author.Needs.{needs}
 use Rattle.solver.proofs.gf2_linalg.asks_in_vain.Statement.{statement}
 use Rattle.solver.proofs.gf2_linalg.asks_in_vain.Tie as tie
-use Rattle.solver.proofs.gf2_linalg.asks_in_vain.Reads as reads
-use Rattle.solver.proofs.gf2_linalg.asks_in_vain.Lts as lts
-use Rattle.solver.proofs.gf2_linalg.first_column.Reads as first-column-reads
-use Rattle.solver.proofs.gf2_linalg.has.Reads as has-reads
 
--- src/gf2_linalg.rt:187:9
 has-requires : tie.Need-has-requires
 has-requires c κs = search needs
 
--- src/gf2_linalg.rt:188:9
 returns : tie.Need-returns
-returns c = let a = c .before .before .before .args in
-    let no-bit : entryOf rowBytes (a .matrix .now) (a .row) (a .column) ≡ false = sym (c .before .has .ensures) ∙ not-true _ (c .if1 .taken) in
+returns c =
+    let a = c .before .before .before .args in
+    let no-bit : entryOf rowBytes (a .matrix .now) (a .row) (a .asked) ≡ false = sym (c .before .has .ensures) ∙ not-true _ (c .if1 .taken) in
     simp no-bit
 
--- src/gf2_linalg.rt:190:5
 first-column-requires : tie.Need-first-column-requires
 first-column-requires c κs = search needs
 
--- src/gf2_linalg.rt:183:1
 returns-2 : tie.Need-returns-2
-returns-2 c = let a = c .before .before .before .before .args in
-    let bit : entryOf rowBytes (a .matrix .now) (a .row) (a .column) ≡ true = sym (c .before .before .has .ensures) ∙ not-false _ (c .before .if1 .left) in
+returns-2 c =
+    let a = c .before .before .before .before .args in
+    let bit : entryOf rowBytes (a .matrix .now) (a .row) (a .asked) ≡ true = sym (c .before .before .has .ensures) ∙ not-false _ (c .before .if1 .left) in
     simp bit (ap (λ (k : ℕ). eqb k (a .cols)) (c .first-column .ensures))
 
 pub asks-in-vain-spec : {M : Type 1} → statement M

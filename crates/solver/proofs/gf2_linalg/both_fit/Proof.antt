@@ -5,25 +5,21 @@ use Rattle.solver.specs.Solver.{fits, bothFit}
 use borrow.Author.Needs.{needs}
 use Rattle.solver.proofs.gf2_linalg.both_fit.Statement.{statement}
 use Rattle.solver.proofs.gf2_linalg.both_fit.Tie as tie
-use Rattle.solver.proofs.gf2_linalg.both_fit.Reads as reads
-use Rattle.solver.proofs.gf2_linalg.both_fit.Lts as lts
-use Rattle.solver.proofs.gf2_linalg.matrix_fits.Reads as matrix-fits-reads
 
--- src/gf2_linalg.rt:241:9
 matrix-fits-requires : tie.Need-matrix-fits-requires
 matrix-fits-requires c κs = search needs
 
--- src/gf2_linalg.rt:242:9
 returns : tie.Need-returns
 unfolding bothFit
-returns c = let a = c .before .before .before .before .args in
+returns c =
+    let a = c .before .before .before .before .args in
     let no : fits (a .matrix .now) (a .rows) (a .cols) (a .sides) ≡ false = sym (c .before .matrix-fits .ensures) ∙ not-true _ (c .if1 .taken) in
     simp no
 
--- src/gf2_linalg.rt:238:1
 returns-2 : tie.Need-returns-2
 unfolding bothFit
-returns-2 c = let a = c .before .before .before .before .args in
+returns-2 c =
+    let a = c .before .before .before .before .args in
     let yes : fits (a .matrix .now) (a .rows) (a .cols) (a .sides) ≡ true = sym (c .before .matrix-fits .ensures) ∙ not-false _ (c .if1 .left) in
     simp yes
 

@@ -3,24 +3,17 @@ use Rattle.solver.specs.Steps.{brought}
 use borrow.Author.Needs.{needs}
 use Rattle.solver.proofs.gf2_linalg.bring.Statement.{statement}
 use Rattle.solver.proofs.gf2_linalg.bring.Tie as tie
-use Rattle.solver.proofs.gf2_linalg.bring.Reads as reads
-use Rattle.solver.proofs.gf2_linalg.bring.Lts as lts
-use Rattle.solver.proofs.gf2_linalg.xor_row.Reads as xor-row-reads
 
--- src/gf2_linalg.rt:68:9
 returns : tie.Need-returns
 unfolding brought
 returns c = simp (eq-eqb _ _ (c .if1 .taken))
 
--- src/gf2_linalg.rt:70:5
 xor-row-requires : tie.Need-xor-row-requires
 xor-row-requires c κs = search needs
 
--- src/gf2_linalg.rt:63:1
 same-length : tie.Need-same-length
 same-length c = search needs
 
--- src/gf2_linalg.rt:63:1
 returns-2 : tie.Need-returns-2
 unfolding brought
 returns-2 c = simp (ne-eqb _ _ (c .before .before .before .before .if1 .left)) (c .before .before .xor-row .ensures)

@@ -8,8 +8,6 @@ use Rattle.solver.proofs.Bytes.{zeros-more}
 use borrow.Author.Needs.{needs}
 use Rattle.solver.proofs.gf2_linalg.clear.Statement.{statement}
 use Rattle.solver.proofs.gf2_linalg.clear.Tie as tie
-use Rattle.solver.proofs.gf2_linalg.clear.Reads as reads
-use Rattle.solver.proofs.gf2_linalg.clear.Lts as lts
 
 abbrev Inv-loop : tie.InvT-loop
 Inv-loop out₀ j₀ out j = (j ≤ rowBytes) × (length out ≡ length out₀) × ((q : ℕ) → q < j → getD out q 0 ≡ 0)
@@ -17,32 +15,25 @@ Inv-loop out₀ j₀ out j = (j ≤ rowBytes) × (length out ≡ length out₀) 
 abbrev μ-loop : tie.MeasureT-loop
 μ-loop out₀ j₀ out j = rowBytes - j
 
--- src/gf2_linalg.rt:184:5
 loop-holds : tie.Need-loop-holds Inv-loop μ-loop
 loop-holds c = (search needs, refl, λ q h. absurd (omega arith))
 
--- src/gf2_linalg.rt:185:9
 slice-write-out : tie.Need-slice-write-out Inv-loop μ-loop
 slice-write-out c = search needs
 
--- src/gf2_linalg.rt:186:9
 add-j : tie.Need-add-j Inv-loop μ-loop
 add-j c = search needs
 
--- src/gf2_linalg.rt:184:5
 loop-less : tie.Need-loop-less Inv-loop μ-loop
 loop-less c = search needs
 
--- src/gf2_linalg.rt:184:5
 loop-again : tie.Need-loop-again Inv-loop μ-loop
 loop-again c = let l = c .before .loop in
     (search needs, search needs, zeros-more (l .out) (l .j) (omega arith) (l .inv .2))
 
--- src/gf2_linalg.rt:179:1
 same-length : tie.Need-same-length Inv-loop μ-loop
 same-length c = search needs
 
--- src/gf2_linalg.rt:179:1
 returns : tie.Need-returns Inv-loop μ-loop
 returns c = let l = c .before .loop in
     bytes-none rowBytes (l .out) (omega arith) (λ q h. l .inv .2 q (omega arith))

@@ -8,9 +8,6 @@ use Rattle.solver.proofs.Turns.{turns-none, turns-more}
 use borrow.Author.Needs.{needs}
 use Rattle.solver.proofs.gf2_linalg.clear_column.Statement.{statement}
 use Rattle.solver.proofs.gf2_linalg.clear_column.Tie as tie
-use Rattle.solver.proofs.gf2_linalg.clear_column.Reads as reads
-use Rattle.solver.proofs.gf2_linalg.clear_column.Lts as lts
-use Rattle.solver.proofs.gf2_linalg.clear_one.Reads as clear-one-reads
 
 abbrev Inv-loop : tie.InvT-loop
 Inv-loop matrix₀ rows pivot col i₀ matrix i = (i ≤ rows) × (length matrix ≡ length matrix₀) × (matrix ≡ turns (clearOne rowBytes pivot col) i matrix₀)
@@ -18,34 +15,27 @@ Inv-loop matrix₀ rows pivot col i₀ matrix i = (i ≤ rows) × (length matrix
 abbrev μ-loop : tie.MeasureT-loop
 μ-loop matrix₀ rows pivot col i₀ matrix i = rows - i
 
--- src/gf2_linalg.rt:91:5
 loop-holds : tie.Need-loop-holds Inv-loop μ-loop
 loop-holds c = (search needs, refl, turns-none _ _)
 
--- src/gf2_linalg.rt:92:9
 clear-one-requires : tie.Need-clear-one-requires Inv-loop μ-loop
 clear-one-requires c κs = search needs
 
--- src/gf2_linalg.rt:93:9
 add-i : tie.Need-add-i Inv-loop μ-loop
 add-i c = search needs
 
--- src/gf2_linalg.rt:91:5
 loop-less : tie.Need-loop-less Inv-loop μ-loop
 loop-less c = search needs
 
--- src/gf2_linalg.rt:91:5
 loop-again : tie.Need-loop-again Inv-loop μ-loop
 loop-again c = let d = c .before .before in
     let l = d .before .before .before .loop in
     let a = d .before .before .before .before .before .args in
     (search needs, search needs, d .clear-one .ensures ∙ turns-more (clearOne rowBytes (a .pivot) (a .col)) (l .i) (a .matrix .now) (l .matrix) (l .inv .2))
 
--- src/gf2_linalg.rt:86:1
 same-length : tie.Need-same-length Inv-loop μ-loop
 same-length c = search needs
 
--- src/gf2_linalg.rt:86:1
 returns : tie.Need-returns Inv-loop μ-loop
 unfolding clearColumn
 returns c = let l = c .before .loop in

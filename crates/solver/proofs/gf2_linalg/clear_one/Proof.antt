@@ -7,29 +7,20 @@ use Rattle.solver.specs.Solver.{rowBytes}
 use borrow.Author.Needs.{needs}
 use Rattle.solver.proofs.gf2_linalg.clear_one.Statement.{statement}
 use Rattle.solver.proofs.gf2_linalg.clear_one.Tie as tie
-use Rattle.solver.proofs.gf2_linalg.clear_one.Reads as reads
-use Rattle.solver.proofs.gf2_linalg.clear_one.Lts as lts
-use Rattle.solver.proofs.gf2_linalg.has.Reads as has-reads
-use Rattle.solver.proofs.gf2_linalg.xor_row.Reads as xor-row-reads
 
--- src/gf2_linalg.rt:78:9
 returns : tie.Need-returns
 unfolding clearOne
 returns c = simp (eq-eqb _ _ (c .if1 .taken))
 
--- src/gf2_linalg.rt:80:8
 has-requires : tie.Need-has-requires
 has-requires c κs = search needs
 
--- src/gf2_linalg.rt:81:9
 xor-row-requires : tie.Need-xor-row-requires
 xor-row-requires c κs = search needs
 
--- src/gf2_linalg.rt:73:1
 same-length : tie.Need-same-length
 same-length c = search needs
 
--- src/gf2_linalg.rt:73:1
 returns-2 : tie.Need-returns-2
 unfolding clearOne
 returns-2 c = let x = c .before .before in
@@ -38,14 +29,13 @@ returns-2 c = let x = c .before .before in
     let has : entryOf rowBytes (a .matrix .now) (a .row) (a .col) ≡ true = sym (i .before .has .ensures) ∙ i .if2 .taken in
     simp (ne-eqb _ _ (i .before .before .before .if1 .left), has) (x .xor-row .ensures)
 
--- src/gf2_linalg.rt:73:1
 same-length-2 : tie.Need-same-length-2
 same-length-2 c = search needs
 
--- src/gf2_linalg.rt:73:1
 returns-3 : tie.Need-returns-3
 unfolding clearOne
-returns-3 c = let a = c .before .before .before .before .before .args in
+returns-3 c =
+    let a = c .before .before .before .before .before .args in
     let has : entryOf rowBytes (a .matrix .now) (a .row) (a .col) ≡ false = sym (c .before .has .ensures) ∙ c .if2 .left in
     simp (ne-eqb _ _ (c .before .before .before .if1 .left), has)
 

@@ -1,7 +1,7 @@
 use mathlib.Core.Path.{_≡_, refl, sym, ap, _∙_, subst}
 use mathlib.Core.Bool.{Bool, true, false}
 use mathlib.Core.List.{List}
-use mathlib.Core.Option.{Option, some}
+use mathlib.Core.Option.{some}
 use Prim.Native.Nat.{ℕ, _≤_, _*_}
 use native.Mathlib.Omega.{arith}
 use borrow.Author.Tests.{not-true, not-false}
@@ -13,49 +13,41 @@ use Rattle.solver.proofs.Solver.{fits-out, is-eliminated, pivots-read}
 use borrow.Author.Needs.{needs}
 use Rattle.solver.proofs.gf2_linalg.eliminate.Statement.{statement}
 use Rattle.solver.proofs.gf2_linalg.eliminate.Tie as tie
-use Rattle.solver.proofs.gf2_linalg.eliminate.Reads as reads
-use Rattle.solver.proofs.gf2_linalg.eliminate.Lts as lts
-use Rattle.solver.proofs.gf2_linalg.eliminate_columns.Reads as eliminate-columns-reads
-use Rattle.solver.proofs.gf2_linalg.matrix_fits.Reads as matrix-fits-reads
-use Rattle.solver.proofs.gf2_linalg.pivot_columns.Reads as pivot-columns-reads
 
--- src/gf2_linalg.rt:347:9
 matrix-fits-requires : tie.Need-matrix-fits-requires
 matrix-fits-requires c κs = search needs
 
--- src/gf2_linalg.rt:348:9
 same-length : tie.Need-same-length
 same-length c = search needs
 
--- src/gf2_linalg.rt:348:9
 returns : tie.Need-returns
 unfolding eliminateCall
-returns c = let a = c .before .before .before .before .args in
+returns c =
+    let a = c .before .before .before .before .args in
     let fit : fits (a .matrix .now) (a .rows) (a .cols) (a .sides) ≡ false = sym (c .before .matrix-fits .ensures) ∙ not-true _ (c .if1 .taken) in
     (simp fit, rw fit refl)
 
--- src/gf2_linalg.rt:350:5
 eliminate-columns-requires : tie.Need-eliminate-columns-requires
-eliminate-columns-requires c κs = let a = c .before .before .before .before .before .args in
+eliminate-columns-requires c κs =
+    let a = c .before .before .before .before .before .args in
     let fit : fits (a .matrix .now) (a .rows) (a .cols) (a .sides) ≡ true = sym (c .before .before .matrix-fits .ensures) ∙ not-false _ (c .before .if1 .left) in
     let sizes = fits-out _ _ _ _ fit in
     (omega arith, omega arith)
 
--- src/gf2_linalg.rt:351:25
 pivot-columns-requires : tie.Need-pivot-columns-requires
-pivot-columns-requires c κs = let a = c .before .before .before .before .before .before .before .before .before .args in
+pivot-columns-requires c κs =
+    let a = c .before .before .before .before .before .before .before .before .before .args in
     let fit : fits (a .matrix .now) (a .rows) (a .cols) (a .sides) ≡ true = sym (c .before .before .before .before .before .before .matrix-fits .ensures) ∙ not-false _ (c .before .before .before .before .before .if1 .left) in
     let sizes = fits-out _ _ _ _ fit in
     (omega arith, omega arith)
 
--- src/gf2_linalg.rt:343:1
 same-length-2 : tie.Need-same-length-2
 same-length-2 c = search needs
 
--- src/gf2_linalg.rt:343:1
 returns-2 : tie.Need-returns-2
 unfolding eliminateCall
-returns-2 c = let a = c .before .before .before .before .before .before .before .before .before .before .args in
+returns-2 c =
+    let a = c .before .before .before .before .before .before .before .before .before .before .args in
     let fit : fits (a .matrix .now) (a .rows) (a .cols) (a .sides) ≡ true = sym (c .before .before .before .before .before .before .before .matrix-fits .ensures) ∙ not-false _ (c .before .before .before .before .before .before .if1 .left) in
     let sizes = fits-out _ _ _ _ fit in
     let room : a .rows * rowBytes ≤ length (a .matrix .now) = omega arith in

@@ -1,4 +1,4 @@
-use mathlib.Core.Path.{_≡_, ap, _∙_}
+use mathlib.Core.Path.{ap, _∙_}
 use mathlib.Core.List.{List}
 use Prim.Native.Nat.{ℕ, _≤_, _-_, _+_}
 use native.Mathlib.Omega.{arith}
@@ -10,51 +10,42 @@ use Rattle.solver.proofs.Turns.{column-none, column-some}
 use borrow.Author.Needs.{needs}
 use Rattle.solver.proofs.gf2_linalg.eliminate_column.Statement.{statement}
 use Rattle.solver.proofs.gf2_linalg.eliminate_column.Tie as tie
-use Rattle.solver.proofs.gf2_linalg.eliminate_column.Reads as reads
-use Rattle.solver.proofs.gf2_linalg.eliminate_column.Lts as lts
-use Rattle.solver.proofs.gf2_linalg.bring.Reads as bring-reads
-use Rattle.solver.proofs.gf2_linalg.clear_column.Reads as clear-column-reads
-use Rattle.solver.proofs.gf2_linalg.find_pivot.Reads as find-pivot-reads
 
--- src/gf2_linalg.rt:103:9
 find-pivot-requires : tie.Need-find-pivot-requires
 find-pivot-requires c κs = search needs
 
--- src/gf2_linalg.rt:105:9
 same-length : tie.Need-same-length
 same-length c = search needs
 
--- src/gf2_linalg.rt:105:9
 returns : tie.Need-returns
-returns c = let a = c .before .before .before .before .args in
+returns c =
+    let a = c .before .before .before .before .args in
     (column-none rowBytes (a .rows) (a .col) (record { rank = a .rank; rows = a .matrix .now }) _ (c .before .find-pivot .ensures) (c .if1 .taken), search needs)
 
--- src/gf2_linalg.rt:107:5
 bring-requires : tie.Need-bring-requires
-bring-requires c κs = let a = c .before .before .before .before .before .args in
+bring-requires c κs =
+    let a = c .before .before .before .before .before .args in
     let f = c .before .before .find-pivot in
     let ge : a .rank ≤ f .result = omega (arith, f .ensures, from-ge (a .rank) (a .rows - a .rank) (λ i. entryOf rowBytes (a .matrix .now) i (a .col))) in
     omega arith
 
--- src/gf2_linalg.rt:108:5
 clear-column-requires : tie.Need-clear-column-requires
-clear-column-requires c κs = let a = c .before .before .before .before .before .before .before .before .before .args in
+clear-column-requires c κs =
+    let a = c .before .before .before .before .before .before .before .before .before .args in
     let f = c .before .before .before .before .before .before .find-pivot in
     let ge : a .rank ≤ f .result = omega (arith, f .ensures, from-ge (a .rank) (a .rows - a .rank) (λ i. entryOf rowBytes (a .matrix .now) i (a .col))) in
     omega arith
 
--- src/gf2_linalg.rt:109:5
 add-result : tie.Need-add-result
 add-result c = search needs
 
--- src/gf2_linalg.rt:98:1
 same-length-2 : tie.Need-same-length-2
 same-length-2 c = search needs
 
--- src/gf2_linalg.rt:98:1
 returns-2 : tie.Need-returns-2
 unfolding pivotTo
-returns-2 c = let a = c .before .before .before .before .before .before .before .before .before .before .before .before .args in
+returns-2 c =
+    let a = c .before .before .before .before .before .before .before .before .before .before .before .before .args in
     let f = c .before .before .before .before .before .before .before .before .before .find-pivot in
     let ge : a .rank ≤ f .result = omega (arith, f .ensures, from-ge (a .rank) (a .rows - a .rank) (λ i. entryOf rowBytes (a .matrix .now) i (a .col))) in (
       ap (λ (l : List ℕ). record { rank = a .rank + 1; rows = l })

@@ -1,5 +1,4 @@
 use mathlib.Core.Path.{_≡_, refl, ap, _∙_}
-use mathlib.Core.List.{List}
 use Prim.Native.Nat.{ℕ, _≤_, _-_}
 use native.Mathlib.Omega.{arith}
 use lib.ListN.{length}
@@ -9,9 +8,6 @@ use Rattle.solver.proofs.Turns.{turns-none, turns-more}
 use borrow.Author.Needs.{needs}
 use Rattle.solver.proofs.gf2_linalg.eliminate_columns.Statement.{statement}
 use Rattle.solver.proofs.gf2_linalg.eliminate_columns.Tie as tie
-use Rattle.solver.proofs.gf2_linalg.eliminate_columns.Reads as reads
-use Rattle.solver.proofs.gf2_linalg.eliminate_columns.Lts as lts
-use Rattle.solver.proofs.gf2_linalg.eliminate_column.Reads as eliminate-column-reads
 
 abbrev Inv-loop : tie.InvT-loop
 Inv-loop matrix₀ rows cols rank₀ col₀ matrix rank col = (col ≤ cols) × (rank ≤ rows) × (length matrix ≡ length matrix₀) × (record { rank = rank; rows = matrix } ≡ turns (column rowBytes rows) col (record { rank = 0; rows = matrix₀ }))
@@ -19,23 +15,18 @@ Inv-loop matrix₀ rows cols rank₀ col₀ matrix rank col = (col ≤ cols) × 
 abbrev μ-loop : tie.MeasureT-loop
 μ-loop matrix₀ rows cols rank₀ col₀ matrix rank col = cols - col
 
--- src/gf2_linalg.rt:130:5
 loop-holds : tie.Need-loop-holds Inv-loop μ-loop
 loop-holds c = (search needs, search needs, refl, turns-none _ _)
 
--- src/gf2_linalg.rt:131:9
 eliminate-column-requires : tie.Need-eliminate-column-requires Inv-loop μ-loop
 eliminate-column-requires c κs = search needs
 
--- src/gf2_linalg.rt:132:9
 add-col : tie.Need-add-col Inv-loop μ-loop
 add-col c = search needs
 
--- src/gf2_linalg.rt:130:5
 loop-less : tie.Need-loop-less Inv-loop μ-loop
 loop-less c = search needs
 
--- src/gf2_linalg.rt:130:5
 loop-again : tie.Need-loop-again Inv-loop μ-loop
 loop-again c = let d = c .before .before in
     let l = d .before .before .before .loop in
@@ -47,11 +38,9 @@ loop-again c = let d = c .before .before in
           ∙ turns-more (column rowBytes (a .rows)) (l .col) (record { rank = 0; rows = a .matrix .now }) (record { rank = l .rank; rows = l .matrix }) (l .inv .3),
     )
 
--- src/gf2_linalg.rt:124:1
 same-length : tie.Need-same-length Inv-loop μ-loop
 same-length c = search needs
 
--- src/gf2_linalg.rt:124:1
 returns : tie.Need-returns Inv-loop μ-loop
 unfolding eliminated
 returns c = let l = c .before .loop in

@@ -1,6 +1,6 @@
 use mathlib.Core.Path.{_≡_, refl, sym, _∙_}
 use mathlib.Core.Bool.{true, false}
-use Prim.Native.Nat.{ℕ, _≤_, _-_}
+use Prim.Native.Nat.{_≤_, _-_}
 use native.Mathlib.Omega.{arith}
 use Rattle.nodes.specs.Row.{lowestFrom}
 use Rattle.solver.specs.WorkMatrix.{entryOf}
@@ -9,9 +9,6 @@ use Rattle.solver.proofs.Turns.{first-here, first-next, first-none}
 use borrow.Author.Needs.{needs}
 use Rattle.solver.proofs.gf2_linalg.find_pivot.Statement.{statement}
 use Rattle.solver.proofs.gf2_linalg.find_pivot.Tie as tie
-use Rattle.solver.proofs.gf2_linalg.find_pivot.Reads as reads
-use Rattle.solver.proofs.gf2_linalg.find_pivot.Lts as lts
-use Rattle.solver.proofs.gf2_linalg.has.Reads as has-reads
 
 abbrev Inv-loop : tie.InvT-loop
 Inv-loop matrix from rows col i₀ i = (from ≤ i) × (i ≤ rows) × (lowestFrom from (rows - from) (λ k. entryOf rowBytes matrix k col) ≡ lowestFrom i (rows - i) (λ k. entryOf rowBytes matrix k col))
@@ -19,37 +16,30 @@ Inv-loop matrix from rows col i₀ i = (from ≤ i) × (i ≤ rows) × (lowestFr
 abbrev μ-loop : tie.MeasureT-loop
 μ-loop matrix from rows col i₀ i = rows - i
 
--- src/gf2_linalg.rt:53:5
 loop-holds : tie.Need-loop-holds Inv-loop μ-loop
 loop-holds c = (search needs, search needs, refl)
 
--- src/gf2_linalg.rt:54:12
 has-requires : tie.Need-has-requires Inv-loop μ-loop
 has-requires c κs = search needs
 
--- src/gf2_linalg.rt:55:13
 returns : tie.Need-returns Inv-loop μ-loop
 returns c = let l = c .before .before .before .loop in
     let a = c .before .before .before .before .before .args in
     let has : entryOf rowBytes (a .matrix .now) (l .i) (a .col) ≡ true = sym (c .before .has .ensures) ∙ c .if1 .taken in
     sym (l .inv .2 ∙ first-here (λ k. entryOf rowBytes (a .matrix .now) k (a .col)) (l .i) (a .rows) (omega arith) has)
 
--- src/gf2_linalg.rt:57:9
 add-i : tie.Need-add-i Inv-loop μ-loop
 add-i c = search needs
 
--- src/gf2_linalg.rt:53:5
 loop-less : tie.Need-loop-less Inv-loop μ-loop
 loop-less c = search needs
 
--- src/gf2_linalg.rt:53:5
 loop-again : tie.Need-loop-again Inv-loop μ-loop
 loop-again c = let l = c .before .before .before .loop in
     let a = c .before .before .before .before .before .args in
     let no : entryOf rowBytes (a .matrix .now) (l .i) (a .col) ≡ false = sym (c .before .has .ensures) ∙ c .if1 .left in
     (search needs, search needs, l .inv .2 ∙ first-next (λ k. entryOf rowBytes (a .matrix .now) k (a .col)) (l .i) (a .rows) (omega arith) no)
 
--- src/gf2_linalg.rt:48:1
 returns-2 : tie.Need-returns-2 Inv-loop μ-loop
 returns-2 c = let l = c .before .loop in
     let a = c .before .before .before .args in

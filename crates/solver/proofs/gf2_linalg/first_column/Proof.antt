@@ -1,16 +1,13 @@
-use mathlib.Core.Path.{_≡_, refl, ap, _∙_}
-use Prim.Native.Nat.{ℕ, _+_, _*_, _≤_, _<_, _-_, _^_}
+use mathlib.Core.Path.{_≡_, refl}
+use Prim.Native.Nat.{_+_, _*_, _≤_, _<_, _-_, _^_}
 use native.Mathlib.Omega.{arith}
 use lib.ListN.{getD}
-use lib.Count.{trailingZeros, trailing-le}
-use Rattle.solver.specs.WorkMatrix.{entryOf}
+use lib.Count.{trailing-le}
 use Rattle.solver.specs.Solver.{rowBytes}
 use Rattle.solver.proofs.WorkMatrix.{NoneBefore, none-start, none-more, lead-none, lead-inside, lead-outside}
 use borrow.Author.Needs.{needs}
 use Rattle.solver.proofs.gf2_linalg.first_column.Statement.{statement}
 use Rattle.solver.proofs.gf2_linalg.first_column.Tie as tie
-use Rattle.solver.proofs.gf2_linalg.first_column.Reads as reads
-use Rattle.solver.proofs.gf2_linalg.first_column.Lts as lts
 
 abbrev Inv-loop : tie.InvT-loop
 Inv-loop matrix row cols start q₀ q = (q ≤ rowBytes) × NoneBefore rowBytes matrix row (8 * q)
@@ -18,71 +15,62 @@ Inv-loop matrix row cols start q₀ q = (q ≤ rowBytes) × NoneBefore rowBytes 
 abbrev μ-loop : tie.MeasureT-loop
 μ-loop matrix row cols start q₀ q = rowBytes - q
 
--- src/gf2_linalg.rt:132:17
 mul-start : tie.Need-mul-start Inv-loop μ-loop
 mul-start c = search needs
 
--- src/gf2_linalg.rt:134:5
 loop-holds : tie.Need-loop-holds Inv-loop μ-loop
 loop-holds c = (search needs, none-start rowBytes (c .args .matrix .now) (c .args .row))
 
--- src/gf2_linalg.rt:135:27
 add-byte : tie.Need-add-byte Inv-loop μ-loop
 add-byte c = search needs
 
--- src/gf2_linalg.rt:135:20
 shared-slice-read-byte : tie.Need-shared-slice-read-byte Inv-loop μ-loop
 shared-slice-read-byte c = search needs
 
--- src/gf2_linalg.rt:137:21
 mul-k : tie.Need-mul-k Inv-loop μ-loop
 mul-k c = search needs
 
--- src/gf2_linalg.rt:137:29
 cast-k : tie.Need-cast-k Inv-loop μ-loop
 cast-k c =
     let a = c .before .before .before .before .args in
     let l = c .before .before .before .loop in
     omega (arith, trailing-le 8 (getD (a .matrix .now) (a .row * rowBytes + l .q) 0))
 
--- src/gf2_linalg.rt:137:21
 add-k : tie.Need-add-k Inv-loop μ-loop
 add-k c =
     let a = c .before .before .before .before .args in
     let l = c .before .before .before .loop in
     omega (arith, trailing-le 8 (getD (a .matrix .now) (a .row * rowBytes + l .q) 0))
 
--- src/gf2_linalg.rt:139:17
 returns : tie.Need-returns Inv-loop μ-loop
-returns c = let a = c .before .before .before .before .before .args in
+returns c =
+    let a = c .before .before .before .before .before .args in
     let l = c .before .before .before .before .loop in
     let byte : getD (a .matrix .now) (a .row * rowBytes + l .q) 0 < 2 ^ 8 = omega (arith, c .before .before .shared-slice-known .given (a .row * rowBytes + l .q)) in
     lead-inside rowBytes (a .matrix .now) (a .row) (l .q) (getD (a .matrix .now) (a .row * rowBytes + l .q) 0) refl (l .inv .1) byte (c .before .if1 .taken) (a .cols) (c .if2 .taken)
 
--- src/gf2_linalg.rt:141:13
 returns-2 : tie.Need-returns-2 Inv-loop μ-loop
-returns-2 c = let a = c .before .before .before .before .before .args in
+returns-2 c =
+    let a = c .before .before .before .before .before .args in
     let l = c .before .before .before .before .loop in
     let byte : getD (a .matrix .now) (a .row * rowBytes + l .q) 0 < 2 ^ 8 = omega (arith, c .before .before .shared-slice-known .given (a .row * rowBytes + l .q)) in
     lead-outside rowBytes (a .matrix .now) (a .row) (l .q) (getD (a .matrix .now) (a .row * rowBytes + l .q) 0) refl (l .inv .1) byte (c .before .if1 .taken) (a .cols) (c .if2 .left)
 
--- src/gf2_linalg.rt:143:9
 add-q : tie.Need-add-q Inv-loop μ-loop
 add-q c = search needs
 
--- src/gf2_linalg.rt:134:5
 loop-less : tie.Need-loop-less Inv-loop μ-loop
 loop-less c = search needs
 
--- src/gf2_linalg.rt:134:5
 loop-again : tie.Need-loop-again Inv-loop μ-loop
-loop-again c = let a = c .before .before .before .before .args in
+loop-again c =
+    let a = c .before .before .before .before .args in
     let l = c .before .before .before .loop in
     (search needs, none-more rowBytes (a .matrix .now) (a .row) (l .q) (l .inv .1) (c .if1 .left))
 
--- src/gf2_linalg.rt:128:1
 returns-3 : tie.Need-returns-3 Inv-loop μ-loop
-returns-3 c = let a = c .before .before .args in
+returns-3 c =
+    let a = c .before .before .args in
     let l = c .before .loop in
     let e : l .q ≡ rowBytes = omega arith in
     lead-none rowBytes (a .matrix .now) (a .row) (a .cols) (rw e at (l .inv .1)) (c .before .before .pre .1)

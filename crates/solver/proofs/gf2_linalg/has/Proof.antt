@@ -3,30 +3,22 @@ use Rattle.solver.specs.WorkMatrix.{entryOf}
 use borrow.Author.Needs.{needs}
 use Rattle.solver.proofs.gf2_linalg.has.Statement.{statement}
 use Rattle.solver.proofs.gf2_linalg.has.Tie as tie
-use Rattle.solver.proofs.gf2_linalg.has.Reads as reads
-use Rattle.solver.proofs.gf2_linalg.has.Lts as lts
 
--- src/gf2_linalg.rt:30:13
 mul-result : tie.Need-mul-result
 mul-result c = search needs
 
--- src/gf2_linalg.rt:30:13
 add-result : tie.Need-add-result
 add-result c = search needs
 
--- src/gf2_linalg.rt:30:6
 shared-slice-read-result : tie.Need-shared-slice-read-result
 shared-slice-read-result c = search needs
 
--- src/gf2_linalg.rt:30:44
 cast-result : tie.Need-cast-result
 cast-result c = search needs
 
--- src/gf2_linalg.rt:30:6
 shr-result : tie.Need-shr-result
 shr-result c = search needs
 
--- src/gf2_linalg.rt:26:1
 returns : tie.Need-returns
 unfolding entryOf
 returns c = test-shift _ _

@@ -1,41 +1,36 @@
-use mathlib.Core.Path.{_≡_, sym}
 use Prim.Native.Nat.{_+_, _≤_, _<_}
 use native.Mathlib.Omega.{arith}
 use borrow.Author.Tests.{le-leb, lt-leb}
-use Rattle.solver.specs.Solver.{mostRows, mostColumns, fits}
+use Rattle.solver.specs.Solver.{mostColumns, fits}
 use borrow.Author.Needs.{needs}
 use Rattle.solver.proofs.gf2_linalg.matrix_fits.Statement.{statement}
 use Rattle.solver.proofs.gf2_linalg.matrix_fits.Tie as tie
-use Rattle.solver.proofs.gf2_linalg.matrix_fits.Reads as reads
-use Rattle.solver.proofs.gf2_linalg.matrix_fits.Lts as lts
 
--- src/gf2_linalg.rt:227:9
 returns : tie.Need-returns
 unfolding fits
 returns c = simp (lt-leb _ _ (c .if1 .taken))
 
--- src/gf2_linalg.rt:230:9
 returns-2 : tie.Need-returns-2
 unfolding fits
-returns-2 c = let a = c .before .before .args in
+returns-2 c =
+    let a = c .before .before .args in
     let wide : mostColumns < a .cols + a .sides = omega arith in
     simp (le-leb _ _ (c .before .if1 .left), lt-leb _ _ wide)
 
--- src/gf2_linalg.rt:233:9
 returns-3 : tie.Need-returns-3
 unfolding fits
-returns-3 c = let a = c .before .before .before .args in
+returns-3 c =
+    let a = c .before .before .before .args in
     let wide : mostColumns < a .cols + a .sides = omega arith in
     simp (le-leb _ _ (c .before .before .if1 .left), lt-leb _ _ wide)
 
--- src/gf2_linalg.rt:235:21
 mul-result : tie.Need-mul-result
 mul-result c = search needs
 
--- src/gf2_linalg.rt:223:1
 returns-4 : tie.Need-returns-4
 unfolding fits
-returns-4 c = let a = c .before .before .before .args in
+returns-4 c =
+    let a = c .before .before .before .args in
     let room : a .cols + a .sides ≤ mostColumns = omega arith in
     simp (le-leb _ _ (c .before .before .if1 .left), le-leb _ _ room)
 

@@ -1,5 +1,5 @@
-use mathlib.Core.Path.{_≡_, sym, _∙_, ap}
-use mathlib.Core.Bool.{Bool, true, false, _&&_, _||_}
+use mathlib.Core.Path.{_≡_, _∙_, ap}
+use mathlib.Core.Bool.{Bool, true, _&&_, _||_}
 use Prim.Native.Nat.{ℕ, _≤_, _-_}
 use native.Mathlib.Omega.{arith}
 use lib.Dec.{eqb, ltb}
@@ -11,10 +11,6 @@ use Rattle.solver.proofs.Leads.{set-start, set-more}
 use borrow.Author.Needs.{needs}
 use Rattle.solver.proofs.gf2_linalg.pivot_columns.Statement.{statement}
 use Rattle.solver.proofs.gf2_linalg.pivot_columns.Tie as tie
-use Rattle.solver.proofs.gf2_linalg.pivot_columns.Reads as reads
-use Rattle.solver.proofs.gf2_linalg.pivot_columns.Lts as lts
-use Rattle.nodes.proofs.utils.NodeSet.empty.Reads as empty-reads
-use Rattle.solver.proofs.gf2_linalg.add_pivot.Reads as add-pivot-reads
 
 abbrev Inv-loop : tie.InvT-loop
 Inv-loop matrix rows cols pivots₀ i₀ pivots i = (i ≤ rows) × (member pivots ≡ (λ k. leads i cols (entryOf rowBytes matrix) (λ q. true) k))
@@ -22,30 +18,26 @@ Inv-loop matrix rows cols pivots₀ i₀ pivots i = (i ≤ rows) × (member pivo
 abbrev μ-loop : tie.MeasureT-loop
 μ-loop matrix rows cols pivots₀ i₀ pivots i = rows - i
 
--- src/gf2_linalg.rt:173:9
 empty-requires : tie.Need-empty-requires Inv-loop μ-loop
 empty-requires c κs = search needs
 
--- src/gf2_linalg.rt:175:5
 loop-holds : tie.Need-loop-holds Inv-loop μ-loop
-loop-holds c = let a = c .before .before .args in
+loop-holds c =
+    let a = c .before .before .args in
     (search needs, c .empty .ensures ∙ set-start (entryOf rowBytes (a .matrix .now)) (a .cols))
 
--- src/gf2_linalg.rt:176:9
 add-pivot-requires : tie.Need-add-pivot-requires Inv-loop μ-loop
 add-pivot-requires c κs = search needs
 
--- src/gf2_linalg.rt:177:9
 add-i : tie.Need-add-i Inv-loop μ-loop
 add-i c = search needs
 
--- src/gf2_linalg.rt:175:5
 loop-less : tie.Need-loop-less Inv-loop μ-loop
 loop-less c = search needs
 
--- src/gf2_linalg.rt:175:5
 loop-again : tie.Need-loop-again Inv-loop μ-loop
-loop-again c = let a = c .before .before .before .before .before .args in
+loop-again c =
+    let a = c .before .before .before .before .before .args in
     let l = c .before .before .loop in (
       search needs,
       c .add-pivot .ensures
@@ -53,9 +45,9 @@ loop-again c = let a = c .before .before .before .before .before .args in
           ∙ set-more (entryOf rowBytes (a .matrix .now)) (a .cols) (l .i),
     )
 
--- src/gf2_linalg.rt:169:1
 returns : tie.Need-returns Inv-loop μ-loop
-returns c = let a = c .before .before .before .before .args in
+returns c =
+    let a = c .before .before .before .before .args in
     let l = c .before .loop in
     let e : l .i ≡ a .rows = omega arith in
     rw e at (l .inv .1)

@@ -7,60 +7,52 @@ use Rattle.solver.proofs.Solver.{both-fit-out, fits-out}
 use borrow.Author.Needs.{needs}
 use Rattle.solver.proofs.gf2_linalg.read_off.Statement.{statement}
 use Rattle.solver.proofs.gf2_linalg.read_off.Tie as tie
-use Rattle.solver.proofs.gf2_linalg.read_off.Reads as reads
-use Rattle.solver.proofs.gf2_linalg.read_off.Lts as lts
-use Rattle.solver.proofs.gf2_linalg.answer.Reads as answer-reads
-use Rattle.solver.proofs.gf2_linalg.both_fit.Reads as both-fit-reads
 
--- src/gf2_linalg.rt:358:9
 both-fit-requires : tie.Need-both-fit-requires
 both-fit-requires c κs = search needs
 
--- src/gf2_linalg.rt:359:9
 same-length : tie.Need-same-length
 same-length c = search needs
 
--- src/gf2_linalg.rt:359:9
 returns : tie.Need-returns
 unfolding readOffCall
-returns c = let a = c .before .before .before .before .before .args in
+returns c =
+    let a = c .before .before .before .before .before .args in
     let fit : bothFit (a .matrix .now) (a .out .now) (a .rows) (a .cols) (a .sides) ≡ false = sym (c .before .both-fit .ensures) ∙ not-true _ (c .if1 .taken) in
     simp fit
 
--- src/gf2_linalg.rt:362:9
 same-length-2 : tie.Need-same-length-2
 same-length-2 c = search needs
 
--- src/gf2_linalg.rt:362:9
 returns-2 : tie.Need-returns-2
 unfolding readOffCall
-returns-2 c = let a = c .before .before .before .before .before .before .args in
+returns-2 c =
+    let a = c .before .before .before .before .before .before .args in
     let fit : bothFit (a .matrix .now) (a .out .now) (a .rows) (a .cols) (a .sides) ≡ true = sym (c .before .before .both-fit .ensures) ∙ not-false _ (c .before .if1 .left) in
     simp (fit, le-ltb _ _ (c .if2 .taken))
 
--- src/gf2_linalg.rt:364:37
 add-answer : tie.Need-add-answer
-add-answer c = let a = c .before .before .before .before .before .before .before .args in
+add-answer c =
+    let a = c .before .before .before .before .before .before .before .args in
     let fit : bothFit (a .matrix .now) (a .out .now) (a .rows) (a .cols) (a .sides) ≡ true = sym (c .before .before .before .both-fit .ensures) ∙ not-false _ (c .before .before .if1 .left) in
     let sizes = fits-out _ _ _ _ (both-fit-out _ _ _ _ _ fit .0) in
     omega arith
 
--- src/gf2_linalg.rt:364:5
 answer-requires : tie.Need-answer-requires
-answer-requires c κs = let a = c .before .before .before .before .before .before .before .args in
+answer-requires c κs =
+    let a = c .before .before .before .before .before .before .before .args in
     let fit : bothFit (a .matrix .now) (a .out .now) (a .rows) (a .cols) (a .sides) ≡ true = sym (c .before .before .before .both-fit .ensures) ∙ not-false _ (c .before .before .if1 .left) in
     let both = both-fit-out _ _ _ _ _ fit in
     let sizes = fits-out _ _ _ _ (both .0) in
     (omega arith, omega arith, omega arith, both .1)
 
--- src/gf2_linalg.rt:355:1
 same-length-3 : tie.Need-same-length-3
 same-length-3 c = search needs
 
--- src/gf2_linalg.rt:355:1
 returns-3 : tie.Need-returns-3
 unfolding readOffCall
-returns-3 c = let a = c .before .before .before .before .before .before .before .before .before .before .args in
+returns-3 c =
+    let a = c .before .before .before .before .before .before .before .before .before .before .args in
     let fit : bothFit (a .matrix .now) (a .out .now) (a .rows) (a .cols) (a .sides) ≡ true = sym (c .before .before .before .before .before .before .both-fit .ensures) ∙ not-false _ (c .before .before .before .before .before .if1 .left) in
     simp (fit, lt-ltb _ _ (c .before .before .before .before .if2 .left)) (c .before .before .answer .ensures)
 

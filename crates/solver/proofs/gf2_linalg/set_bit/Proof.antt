@@ -7,39 +7,31 @@ use lib.Pow.{pow-lt}
 use borrow.Author.Needs.{needs}
 use Rattle.solver.proofs.gf2_linalg.set_bit.Statement.{statement}
 use Rattle.solver.proofs.gf2_linalg.set_bit.Tie as tie
-use Rattle.solver.proofs.gf2_linalg.set_bit.Reads as reads
-use Rattle.solver.proofs.gf2_linalg.set_bit.Lts as lts
-use Rattle.nodes.proofs.utils.mask.Reads as mask-reads
 
--- src/gf2_linalg.rt:224:21
 cast-mask : tie.Need-cast-mask
 cast-mask c = search needs
 
--- src/gf2_linalg.rt:224:16
 mask-requires : tie.Need-mask-requires
 mask-requires c κs = search needs
 
--- src/gf2_linalg.rt:224:16
 cast-out : tie.Need-cast-out
-cast-out c = let a = c .before .before .args in
+cast-out c =
+    let a = c .before .before .args in
     let e : a .k % 8 % 64 ≡ a .k % 8 = omega arith in
     omega (arith, c .mask .ensures, ap (λ (x : ℕ). 2 ^ x) e, pow-lt {i = a .k % 8} {j = 8} (omega arith))
 
--- src/gf2_linalg.rt:224:5
 slice-read-out : tie.Need-slice-read-out
 slice-read-out c = search needs
 
--- src/gf2_linalg.rt:224:5
 slice-write-out : tie.Need-slice-write-out
 slice-write-out c = search needs
 
--- src/gf2_linalg.rt:219:1
 same-length : tie.Need-same-length
 same-length c = search needs
 
--- src/gf2_linalg.rt:219:1
 returns : tie.Need-returns
-returns c = let a = c .before .before .before .args in
+returns c =
+    let a = c .before .before .before .args in
     let e : a .k % 8 % 64 ≡ a .k % 8 = omega arith in
     ap (λ (x : ℕ). set (a .out .now) (a .k / 8) (bitOr (getD (a .out .now) (a .k / 8) 0) x)) (c .before .mask .ensures ∙ ap (λ (x : ℕ). 2 ^ x) e)
 

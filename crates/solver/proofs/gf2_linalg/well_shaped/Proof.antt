@@ -8,67 +8,62 @@ use Rattle.solver.proofs.Solver.{both-fit-out, fits-out}
 use borrow.Author.Needs.{needs}
 use Rattle.solver.proofs.gf2_linalg.well_shaped.Statement.{statement}
 use Rattle.solver.proofs.gf2_linalg.well_shaped.Tie as tie
-use Rattle.solver.proofs.gf2_linalg.well_shaped.Reads as reads
-use Rattle.solver.proofs.gf2_linalg.well_shaped.Lts as lts
-use Rattle.solver.proofs.gf2_linalg.both_fit.Reads as both-fit-reads
-use Rattle.solver.proofs.gf2_linalg.rows_end.Reads as rows-end-reads
 
--- src/gf2_linalg.rt:328:9
 returns : tie.Need-returns
 unfolding wellShaped
-returns c = let a = c .before .before .before .args in
+returns c =
+    let a = c .before .before .before .args in
     let none : a .rows ≤ 0 = omega arith in
     simp (le-ltb _ _ none)
 
--- src/gf2_linalg.rt:331:9
 returns-2 : tie.Need-returns-2
 unfolding wellShaped
-returns-2 c = let a = c .before .before .before .before .args in
+returns-2 c =
+    let a = c .before .before .before .before .args in
     let some : 0 < a .rows = omega arith in
     let none : a .sides ≤ 0 = omega arith in
     simp (lt-ltb _ _ some, le-ltb _ _ none)
 
--- src/gf2_linalg.rt:334:9
 returns-3 : tie.Need-returns-3
 unfolding wellShaped
-returns-3 c = let a = c .before .before .before .before .before .args in
+returns-3 c =
+    let a = c .before .before .before .before .before .args in
     let row : 0 < a .rows = omega arith in
     let side : 0 < a .sides = omega arith in
     let none : a .cols ≤ 0 = omega arith in
     simp (lt-ltb _ _ row, lt-ltb _ _ side, le-ltb _ _ none)
 
--- src/gf2_linalg.rt:336:9
 both-fit-requires : tie.Need-both-fit-requires
 both-fit-requires c κs = search needs
 
--- src/gf2_linalg.rt:337:9
 returns-4 : tie.Need-returns-4
 unfolding wellShaped
-returns-4 c = let a = c .before .before .before .before .before .before .before .args in
+returns-4 c =
+    let a = c .before .before .before .before .before .before .before .args in
     let row : 0 < a .rows = omega arith in
     let side : 0 < a .sides = omega arith in
     let column : 0 < a .cols = omega arith in
     let fit : bothFit (a .matrix .now) (a .out .now) (a .rows) (a .cols) (a .sides) ≡ false = sym (c .before .both-fit .ensures) ∙ not-true _ (c .if4 .taken) in
     simp (lt-ltb _ _ row, lt-ltb _ _ side, lt-ltb _ _ column, fit)
 
--- src/gf2_linalg.rt:339:28
 add-rows-end : tie.Need-add-rows-end
-add-rows-end c = let a = c .before .before .before .before .before .before .before .args in
+add-rows-end c =
+    let a = c .before .before .before .before .before .before .before .args in
     let fit : bothFit (a .matrix .now) (a .out .now) (a .rows) (a .cols) (a .sides) ≡ true = sym (c .before .both-fit .ensures) ∙ not-false _ (c .if4 .left) in
     let sizes = fits-out _ _ _ _ (both-fit-out _ _ _ _ _ fit .0) in
     omega arith
 
--- src/gf2_linalg.rt:339:5
 rows-end-requires : tie.Need-rows-end-requires
-rows-end-requires c κs = let a = c .before .before .before .before .before .before .before .args in
+rows-end-requires c κs =
+    let a = c .before .before .before .before .before .before .before .args in
     let fit : bothFit (a .matrix .now) (a .out .now) (a .rows) (a .cols) (a .sides) ≡ true = sym (c .before .both-fit .ensures) ∙ not-false _ (c .if4 .left) in
     let sizes = fits-out _ _ _ _ (both-fit-out _ _ _ _ _ fit .0) in
     (omega arith, sizes .1)
 
--- src/gf2_linalg.rt:324:1
 returns-5 : tie.Need-returns-5
 unfolding wellShaped
-returns-5 c = let a = c .before .before .before .before .before .before .before .before .args in
+returns-5 c =
+    let a = c .before .before .before .before .before .before .before .before .args in
     let row : 0 < a .rows = omega arith in
     let side : 0 < a .sides = omega arith in
     let column : 0 < a .cols = omega arith in

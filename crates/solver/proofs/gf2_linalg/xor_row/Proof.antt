@@ -9,8 +9,6 @@ use Rattle.solver.proofs.Bytes.{xorByte, xor-done}
 use borrow.Author.Needs.{needs}
 use Rattle.solver.proofs.gf2_linalg.xor_row.Statement.{statement}
 use Rattle.solver.proofs.gf2_linalg.xor_row.Tie as tie
-use Rattle.solver.proofs.gf2_linalg.xor_row.Reads as reads
-use Rattle.solver.proofs.gf2_linalg.xor_row.Lts as lts
 
 abbrev Inv-loop : tie.InvT-loop
 Inv-loop matrix₀ dst src d s j₀ matrix j = (j ≤ rowBytes) × (length matrix ≡ length matrix₀) × (matrix ≡ turns (xorByte d s) j matrix₀)
@@ -18,59 +16,48 @@ Inv-loop matrix₀ dst src d s j₀ matrix j = (j ≤ rowBytes) × (length matri
 abbrev μ-loop : tie.MeasureT-loop
 μ-loop matrix₀ dst src d s j₀ matrix j = rowBytes - j
 
--- src/gf2_linalg.rt:38:13
 mul-d : tie.Need-mul-d Inv-loop μ-loop
 mul-d c = search needs
 
--- src/gf2_linalg.rt:39:13
 mul-s : tie.Need-mul-s Inv-loop μ-loop
 mul-s c = search needs
 
--- src/gf2_linalg.rt:41:5
 loop-holds : tie.Need-loop-holds Inv-loop μ-loop
 loop-holds c = (search needs, refl, turns-none _ _)
 
--- src/gf2_linalg.rt:42:33
 add-matrix : tie.Need-add-matrix Inv-loop μ-loop
 add-matrix c = search needs
 
--- src/gf2_linalg.rt:42:26
 slice-read-matrix : tie.Need-slice-read-matrix Inv-loop μ-loop
 slice-read-matrix c = search needs
 
--- src/gf2_linalg.rt:42:16
 add-matrix-2 : tie.Need-add-matrix-2 Inv-loop μ-loop
 add-matrix-2 c = search needs
 
--- src/gf2_linalg.rt:42:9
 slice-read-matrix-2 : tie.Need-slice-read-matrix-2 Inv-loop μ-loop
 slice-read-matrix-2 c = search needs
 
--- src/gf2_linalg.rt:42:9
 slice-write-matrix : tie.Need-slice-write-matrix Inv-loop μ-loop
 slice-write-matrix c = search needs
 
--- src/gf2_linalg.rt:43:9
 add-j : tie.Need-add-j Inv-loop μ-loop
 add-j c = search needs
 
--- src/gf2_linalg.rt:41:5
 loop-less : tie.Need-loop-less Inv-loop μ-loop
 loop-less c = search needs
 
--- src/gf2_linalg.rt:41:5
 loop-again : tie.Need-loop-again Inv-loop μ-loop
-loop-again c = let a = c .before .before .before .before .args in
+loop-again c =
+    let a = c .before .before .before .before .args in
     let l = c .before .before .before .loop in
     (search needs, search needs, turns-more (xorByte (a .dst * rowBytes) (a .src * rowBytes)) (l .j) (a .matrix .now) (l .matrix) (l .inv .2))
 
--- src/gf2_linalg.rt:34:1
 same-length : tie.Need-same-length Inv-loop μ-loop
 same-length c = search needs
 
--- src/gf2_linalg.rt:34:1
 returns : tie.Need-returns Inv-loop μ-loop
-returns c = let a = c .before .before .args in
+returns c =
+    let a = c .before .before .args in
     let l = c .before .loop in
     let p = c .before .before .pre in
     let e : l .j ≡ rowBytes = omega arith in
