@@ -9,3 +9,7 @@ pub mod Judging
 pub mod Demand
 pub mod Solutions
 pub mod Cases
+pub mod ReadingLoops
+pub mod ReadingHead
+pub mod ReadingEntries
+pub mod ReadingRecords

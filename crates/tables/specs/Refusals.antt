@@ -3,9 +3,28 @@ use Prim.Native.Nat.{ℕ}
 use Rattle.tables.specs.Answer.{Refusal, refusal}
 use Rattle.tables.specs.declared.common.Refused.{Refused}
 use Rattle.tables.specs.declared.common.Refused.the-variants.{
-  NoRecord, CutPayload, OddEdges, CutEntry, WrongLength, WrongOpening, NodeTooLarge, NotAscending, WrongMeasurement, BytesLeft,
-  NotOneMember, ModeNotSearched, WrongWorkBuffer, InvalidFlowCodomain, InvalidFlowDomain, ExcessiveNonZeroLayer, ExcessiveZeroLayer,
-  InvalidMeasurementSpec, InconsistentFlowOrder, InconsistentFlowPlane, InconsistentFlowPPlane, ResultTooLong,
+  NoRecord,
+  CutPayload,
+  OddEdges,
+  CutEntry,
+  WrongLength,
+  WrongOpening,
+  NodeTooLarge,
+  NotAscending,
+  WrongMeasurement,
+  BytesLeft,
+  NotOneMember,
+  ModeNotSearched,
+  WrongWorkBuffer,
+  InvalidFlowCodomain,
+  InvalidFlowDomain,
+  ExcessiveNonZeroLayer,
+  ExcessiveZeroLayer,
+  InvalidMeasurementSpec,
+  InconsistentFlowOrder,
+  InconsistentFlowPlane,
+  InconsistentFlowPPlane,
+  ResultTooLong,
 }
 
 abbrev pub refusalOf : Refused → Refusal

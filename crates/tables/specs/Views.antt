@@ -2,7 +2,7 @@
 use Prim.Native.Nat.{ℕ, _-_, _≤_}
 use mathlib.Core.Bool.{Bool, true}
 use mathlib.Core.List.{List}
-use lib.ListN.{take, drop}
+use lib.ListN.{length, take, drop}
 use Rattle.nodes.specs.NodeSet.{member}
 use Rattle.tables.specs.Answer.{Answer, gives, refuses}
 use Rattle.tables.specs.Records.{Part}
@@ -30,9 +30,9 @@ between a b s = take (b - a) (drop a s)
 abbrev pub bytesAt : Place → List ℕ → List ℕ
 bytesAt p s = between (p .start) (p .end) s
 
--- the place lies in a file of n bytes
-abbrev pub Lies : ℕ → Place → Type 0
-Lies n p = (p .start ≤ p .end) × (p .end ≤ n)
+-- the place lies in the file
+abbrev pub Lies : List ℕ → Place → Type 0
+Lies s p = (p .start ≤ p .end) × (p .end ≤ length s)
 
 -- ---- one record
 -- whether a payload passes its questions
@@ -56,9 +56,9 @@ abbrev pub partOf : List ℕ → Found → Answer Part
 partOf s (Payload p) = gives (partAt s p)
 partOf s (NotFound q) = refuses (refusalOf q)
 
-abbrev pub Inside : ℕ → Found → Type 0
-Inside n (Payload p) = Lies n p
-Inside n (NotFound q) = Unit
+abbrev pub Inside : List ℕ → Found → Type 0
+Inside s (Payload p) = Lies s p
+Inside s (NotFound q) = Unit
 
 -- ---- a job
 abbrev pub fileAt : List ℕ → JobPlaces → JobFile
@@ -76,16 +76,16 @@ abbrev pub jobOfRead : List ℕ → JobRead → Answer JobFile
 jobOfRead s (Job p) = gives (fileAt s p)
 jobOfRead s (NoJob q) = refuses (refusalOf q)
 
--- the places lie in a file of n bytes
-pub record JobLies (n : ℕ) (p : JobPlaces) : Type 0 where
-  pub edges : Lies n (p .edges)
-  pub inputs : Lies n (p .inputs)
-  pub outputs : Lies n (p .outputs)
-  pub measurements : Lies n (p .measurements)
+-- the places lie in the file
+pub record JobLies (s : List ℕ) (p : JobPlaces) : Type 0 where
+  pub edges : Lies s (p .edges)
+  pub inputs : Lies s (p .inputs)
+  pub outputs : Lies s (p .outputs)
+  pub measurements : Lies s (p .measurements)
 
-abbrev pub JobInside : ℕ → JobRead → Type 0
-JobInside n (Job p) = JobLies n p
-JobInside n (NoJob q) = Unit
+abbrev pub JobInside : List ℕ → JobRead → Type 0
+JobInside s (Job p) = JobLies s p
+JobInside s (NoJob q) = Unit
 
 -- ---- a flow
 abbrev pub flowAt : List ℕ → FlowPlaces → FlowFile
@@ -99,10 +99,10 @@ abbrev pub flowOfRead : List ℕ → FlowRead → Answer FlowFile
 flowOfRead s (Flow p) = gives (flowAt s p)
 flowOfRead s (NoFlow q) = refuses (refusalOf q)
 
-pub record FlowLies (n : ℕ) (p : FlowPlaces) : Type 0 where
-  pub layers : Lies n (p .layers)
-  pub sets : Lies n (p .sets)
+pub record FlowLies (s : List ℕ) (p : FlowPlaces) : Type 0 where
+  pub layers : Lies s (p .layers)
+  pub sets : Lies s (p .sets)
 
-abbrev pub FlowInside : ℕ → FlowRead → Type 0
-FlowInside n (Flow p) = FlowLies n p
-FlowInside n (NoFlow q) = Unit
+abbrev pub FlowInside : List ℕ → FlowRead → Type 0
+FlowInside s (Flow p) = FlowLies s p
+FlowInside s (NoFlow q) = Unit

@@ -1,11 +1,11 @@
 // The records of job and flow files, and reading them: questions 1 to 7 of document 01, and 9.
 ghost use mathlib.Core.Path.{_≡_};
-ghost use mathlib.Core.Bool.{Bool, true, false, _&&_};
-ghost use Prim.Native.Nat.{ℕ, _+_, _<_, _≤_};
+ghost use mathlib.Core.Bool.{true, false, _&&_};
+ghost use Prim.Native.Nat.{_+_, _<_, _≤_};
 ghost use lib.Dec.{eqb, leb, ltb};
-ghost use lib.ListN.{length, getD, drop};
+ghost use lib.ListN.{length, drop};
 ghost use Rattle.nodes.specs.NodeSet.{member, highest};
-ghost use Rattle.tables.specs.Answer.{Answer, passed};
+ghost use Rattle.tables.specs.Answer.{passed};
 ghost use Rattle.tables.specs.Records.{lengthField, kindField, headBytes, part, checked};
 ghost use Rattle.tables.specs.JobFile.{mostNodes, all, has, rises, pairsRise, highestOf, allows, allAllowed, openNo, edgesNo, nodesNo, measurementsNo, readJob, readEdges, readInputs, readOutputs, readMeasurements};
 ghost use Rattle.tables.specs.FlowFile.{entriesOf, framed, listed, allEntries, entryBelow, entriesRise, layersNo, setsNo, readFlow, readSets};
@@ -13,51 +13,67 @@ ghost use Rattle.tables.specs.Views.{bytesAt, Lies, checkedOf, askOf, pa
 use nodes::utils::NodeSet;
 
 // The bytes of a record's length and kind.
-const HEAD_BYTES: usize = 6;
+pub const HEAD_BYTES: usize = 6;
 
-const KIND_OPEN: u16 = 0x0001;
-const KIND_EDGES: u16 = 0x0002;
-const KIND_INPUTS: u16 = 0x0003;
-const KIND_OUTPUTS: u16 = 0x0004;
-const KIND_MEASUREMENTS: u16 = 0x0005;
-const KIND_LAYERS: u16 = 0x0011;
-const KIND_SETS: u16 = 0x0012;
+pub const KIND_OPEN: u16 = 0x0001;
 
-const MOST_NODES: u8 = 128;
+pub const KIND_EDGES: u16 = 0x0002;
 
-const MODE_CAUSAL: u8 = 1;
-const MODE_PLANES: u8 = 2;
-const MODE_PAULI: u8 = 3;
+pub const KIND_INPUTS: u16 = 0x0003;
+
+pub const KIND_OUTPUTS: u16 = 0x0004;
+
+pub const KIND_MEASUREMENTS: u16 = 0x0005;
+
+pub const KIND_LAYERS: u16 = 0x0011;
+
+pub const KIND_SETS: u16 = 0x0012;
+
+pub const KIND_NO_FLOW: u16 = 0x0013;
+
+pub const KIND_ACCEPTED: u16 = 0x0014;
+
+pub const KIND_REFUSAL: u16 = 0x001F;
+
+pub const MOST_NODES: u8 = 128;
+
+pub const MODE_CAUSAL: u8 = 1;
+
+pub const MODE_PLANES: u8 = 2;
+
+pub const MODE_PAULI: u8 = 3;
 
 // The highest measurement byte of each mode.
 const PLANE_XY: u8 = 1;
+
 const PLANE_XZ: u8 = 3;
+
 const PAULI_Z: u8 = 6;
 
-// Why a call is refused; the numbers in document 01 stand beside the cases. Three causes share number 3, and two number 19.
+// Why a call is refused, with document 01's number beside each case. Three causes share number 3, and two number 19.
 pub enum Refused {
-    NoRecord,                      // 1
-    CutPayload,                    // 2
-    OddEdges,                      // 3
-    CutEntry,                      // 3
-    WrongLength,                   // 3
-    WrongOpening,                  // 4
-    NodeTooLarge,                  // 5
-    NotAscending,                  // 6
-    WrongMeasurement,              // 7
-    BytesLeft,                     // 8
-    NotOneMember,                  // 9
-    ModeNotSearched,               // 10
-    WrongWorkBuffer,               // 11
-    InvalidFlowCodomain(u8),       // 13
-    InvalidFlowDomain(u8),         // 14
+    NoRecord, // 1
+    CutPayload, // 2
+    OddEdges, // 3
+    CutEntry, // 3
+    WrongLength, // 3
+    WrongOpening, // 4
+    NodeTooLarge, // 5
+    NotAscending, // 6
+    WrongMeasurement, // 7
+    BytesLeft, // 8
+    NotOneMember, // 9
+    ModeNotSearched, // 10
+    WrongWorkBuffer, // 11
+    InvalidFlowCodomain(u8), // 13
+    InvalidFlowDomain(u8), // 14
     ExcessiveNonZeroLayer(u8, u8), // 15: the node, its layer
-    ExcessiveZeroLayer(u8),        // 16
-    InvalidMeasurementSpec(u8),    // 17
+    ExcessiveZeroLayer(u8), // 16
+    InvalidMeasurementSpec(u8), // 17
     InconsistentFlowOrder(u8, u8), // 18
-    InconsistentFlowPlane(u8),     // 19, mode 2
-    InconsistentFlowPPlane(u8),    // 19, mode 3
-    ResultTooLong,                 // 20
+    InconsistentFlowPlane(u8), // 19, mode 2
+    InconsistentFlowPPlane(u8), // 19, mode 3
+    ResultTooLong, // 20
 }
 
 // Where a payload lies in the file.
@@ -144,7 +160,8 @@ fn kind_field(file: &[u8], at: usize) -> usize
 
 // Are six bytes left with the expected kind (1)? Is the whole payload there (2)?
 fn head(file: &[u8], at: usize, kind: u16) -> Found
-    ensures { λ r. ⌜ (partOf (now (file .entry)) r ≡ part kind (drop at (now (file .entry)))) × Inside (length (now (file .entry))) r ⌝ }
+    ensures { λ r. ⌜ partOf (now (file .entry)) r ≡ part kind (drop at (now (file .entry))) ⌝ }
+    ensures { λ r. ⌜ Inside (now (file .entry)) r ⌝ }
 {
     let len = file.len();
     if len < HEAD_BYTES {
@@ -379,19 +396,19 @@ pub fn one_member(sets: &[u8]) -> bool
 
 // ---- The questions of each kind, in order.
 
-fn ask_open(open: &[u8]) -> Checked
-    ensures { λ r. ⌜ checkedOf r ≡ passed (openNo (now (open .entry))) true ⌝ }
+fn ask_open(opening: &[u8]) -> Checked
+    ensures { λ r. ⌜ checkedOf r ≡ passed (openNo (now (opening .entry))) true ⌝ }
 {
-    if open.len() != 2 {
+    if opening.len() != 2 {
         return Checked::Refused(Refused::WrongLength);
     }
-    if open[0] > MOST_NODES {
+    if opening[0] > MOST_NODES {
         return Checked::Refused(Refused::WrongOpening);
     }
-    if open[1] < MODE_CAUSAL {
+    if opening[1] < MODE_CAUSAL {
         return Checked::Refused(Refused::WrongOpening);
     }
-    if open[1] > MODE_PAULI {
+    if opening[1] > MODE_PAULI {
         return Checked::Refused(Refused::WrongOpening);
     }
     Checked::Passed
@@ -475,7 +492,8 @@ fn ask(asks: Asks, payload: &[u8]) -> Checked
 
 // The record of the expected kind at this place, where its payload passes the questions of its kind.
 fn checked_record(file: &[u8], at: usize, kind: u16, asks: Asks) -> Found
-    ensures { λ r. ⌜ (partOf (now (file .entry)) r ≡ checked kind (askOf asks) (drop at (now (file .entry)))) × Inside (length (now (file .entry))) r ⌝ }
+    ensures { λ r. ⌜ partOf (now (file .entry)) r ≡ checked kind (askOf asks) (drop at (now (file .entry))) ⌝ }
+    ensures { λ r. ⌜ Inside (now (file .entry)) r ⌝ }
 {
     match head(file, at, kind) {
         Found::Payload(place) => {
@@ -492,14 +510,28 @@ fn checked_record(file: &[u8], at: usize, kind: u16, asks: Asks) -> Found
 
 // ---- A job: five records in order, each once. Every reader hands on to the next.
 
-fn read_measurements(file: &[u8], n: usize, mode: u8, edges: Place, inputs: Place, outputs: Place) -> JobRead
-    requires { ⌜ (n ≤ mostNodes) × Lies (length (now file)) edges × Lies (length (now file)) inputs × Lies (length (now file)) outputs × (all (λ v. ltb v n) (bytesAt outputs (now file)) ≡ true) ⌝ }
-    ensures { λ r. ⌜ (jobOfRead (now (file .entry)) r ≡ readMeasurements n mode (bytesAt edges (now (file .entry))) (bytesAt inputs (now (file .entry))) (bytesAt outputs (now (file .entry))) (drop (outputs .end) (now (file .entry)))) × JobInside (length (now (file .entry))) r ⌝ }
+fn read_measurements(
+    file: &[u8],
+    n: usize,
+    mode: u8,
+    edges: Place,
+    inputs: Place,
+    outputs: Place,
+) -> JobRead
+    requires { ⌜ (n ≤ mostNodes) × (all (λ v. ltb v n) (bytesAt outputs (now file)) ≡ true) ⌝ }
+    requires { ⌜ Lies (now file) edges × Lies (now file) inputs × Lies (now file) outputs ⌝ }
+    ensures { λ r. ⌜ jobOfRead (now (file .entry)) r ≡ readMeasurements n mode (bytesAt edges (now (file .entry))) (bytesAt inputs (now (file .entry))) (bytesAt outputs (now (file .entry))) (drop (outputs .end) (now (file .entry))) ⌝ }
+    ensures { λ r. ⌜ JobInside (now (file .entry)) r ⌝ }
 {
     let start = outputs.start;
     let end = outputs.end;
     let set = set_of(&file[start..end]);
-    match checked_record(file, end, KIND_MEASUREMENTS, Asks::Measurements(n, mode, set)) {
+    match checked_record(
+        file,
+        end,
+        KIND_MEASUREMENTS,
+        Asks::Measurements(n, mode, set),
+    ) {
         Found::Payload(measurements) => JobRead::Job(JobPlaces {
             n,
             mode,
@@ -513,8 +545,10 @@ fn read_measurements(file: &[u8], n: usize, mode: u8, edges: Place, inputs: Plac
 }
 
 fn read_outputs(file: &[u8], n: usize, mode: u8, edges: Place, inputs: Place) -> JobRead
-    requires { ⌜ (n ≤ mostNodes) × Lies (length (now file)) edges × Lies (length (now file)) inputs ⌝ }
-    ensures { λ r. ⌜ (jobOfRead (now (file .entry)) r ≡ readOutputs n mode (bytesAt edges (now (file .entry))) (bytesAt inputs (now (file .entry))) (drop (inputs .end) (now (file .entry)))) × JobInside (length (now (file .entry))) r ⌝ }
+    requires { ⌜ n ≤ mostNodes ⌝ }
+    requires { ⌜ Lies (now file) edges × Lies (now file) inputs ⌝ }
+    ensures { λ r. ⌜ jobOfRead (now (file .entry)) r ≡ readOutputs n mode (bytesAt edges (now (file .entry))) (bytesAt inputs (now (file .entry))) (drop (inputs .end) (now (file .entry))) ⌝ }
+    ensures { λ r. ⌜ JobInside (now (file .entry)) r ⌝ }
 {
     let at = inputs.end;
     match checked_record(file, at, KIND_OUTPUTS, Asks::Nodes(n)) {
@@ -524,8 +558,10 @@ fn read_outputs(file: &[u8], n: usize, mode: u8, edges: Place, inputs: Place) ->
 }
 
 fn read_inputs(file: &[u8], n: usize, mode: u8, edges: Place) -> JobRead
-    requires { ⌜ (n ≤ mostNodes) × Lies (length (now file)) edges ⌝ }
-    ensures { λ r. ⌜ (jobOfRead (now (file .entry)) r ≡ readInputs n mode (bytesAt edges (now (file .entry))) (drop (edges .end) (now (file .entry)))) × JobInside (length (now (file .entry))) r ⌝ }
+    requires { ⌜ n ≤ mostNodes ⌝ }
+    requires { ⌜ Lies (now file) edges ⌝ }
+    ensures { λ r. ⌜ jobOfRead (now (file .entry)) r ≡ readInputs n mode (bytesAt edges (now (file .entry))) (drop (edges .end) (now (file .entry))) ⌝ }
+    ensures { λ r. ⌜ JobInside (now (file .entry)) r ⌝ }
 {
     let at = edges.end;
     match checked_record(file, at, KIND_INPUTS, Asks::Nodes(n)) {
@@ -536,7 +572,8 @@ fn read_inputs(file: &[u8], n: usize, mode: u8, edges: Place) -> JobRead
 
 fn read_edges(file: &[u8], n: usize, mode: u8, at: usize) -> JobRead
     requires { ⌜ n ≤ mostNodes ⌝ }
-    ensures { λ r. ⌜ (jobOfRead (now (file .entry)) r ≡ readEdges n mode (drop at (now (file .entry)))) × JobInside (length (now (file .entry))) r ⌝ }
+    ensures { λ r. ⌜ jobOfRead (now (file .entry)) r ≡ readEdges n mode (drop at (now (file .entry))) ⌝ }
+    ensures { λ r. ⌜ JobInside (now (file .entry)) r ⌝ }
 {
     match checked_record(file, at, KIND_EDGES, Asks::Edges(n)) {
         Found::Payload(edges) => read_inputs(file, n, mode, edges),
@@ -545,12 +582,13 @@ fn read_edges(file: &[u8], n: usize, mode: u8, at: usize) -> JobRead
 }
 
 pub fn read_job(file: &[u8]) -> JobRead
-    ensures { λ r. ⌜ (jobOfRead (now (file .entry)) r ≡ readJob (now (file .entry))) × JobInside (length (now (file .entry))) r ⌝ }
+    ensures { λ r. ⌜ jobOfRead (now (file .entry)) r ≡ readJob (now (file .entry)) ⌝ }
+    ensures { λ r. ⌜ JobInside (now (file .entry)) r ⌝ }
 {
     match checked_record(file, 0, KIND_OPEN, Asks::Open) {
-        Found::Payload(open) => {
-            let start = open.start;
-            let end = open.end;
+        Found::Payload(opening) => {
+            let start = opening.start;
+            let end = opening.end;
             let n = wide(file[start]);
             let mode = file[start + 1];
             read_edges(file, n, mode, end)
@@ -562,8 +600,9 @@ pub fn read_job(file: &[u8]) -> JobRead
 // ---- A flow: the records of layers and of sets.
 
 fn read_sets(file: &[u8], n: usize, layers: Place) -> FlowRead
-    requires { ⌜ Lies (length (now file)) layers ⌝ }
-    ensures { λ r. ⌜ (flowOfRead (now (file .entry)) r ≡ readSets n (bytesAt layers (now (file .entry))) (drop (layers .end) (now (file .entry)))) × FlowInside (length (now (file .entry))) r ⌝ }
+    requires { ⌜ Lies (now file) layers ⌝ }
+    ensures { λ r. ⌜ flowOfRead (now (file .entry)) r ≡ readSets n (bytesAt layers (now (file .entry))) (drop (layers .end) (now (file .entry))) ⌝ }
+    ensures { λ r. ⌜ FlowInside (now (file .entry)) r ⌝ }
 {
     let at = layers.end;
     match checked_record(file, at, KIND_SETS, Asks::Sets(n)) {
@@ -574,7 +613,8 @@ fn read_sets(file: &[u8], n: usize, layers: Place) -> FlowRead
 
 // The flow for n nodes that starts at this place.
 pub fn read_flow(file: &[u8], at: usize, n: usize) -> FlowRead
-    ensures { λ r. ⌜ (flowOfRead (now (file .entry)) r ≡ readFlow n (drop at (now (file .entry)))) × FlowInside (length (now (file .entry))) r ⌝ }
+    ensures { λ r. ⌜ flowOfRead (now (file .entry)) r ≡ readFlow n (drop at (now (file .entry))) ⌝ }
+    ensures { λ r. ⌜ FlowInside (now (file .entry)) r ⌝ }
 {
     match checked_record(file, at, KIND_LAYERS, Asks::Layers(n)) {
         Found::Payload(layers) => read_sets(file, n, layers),

@@ -1,46 +1,53 @@
+use mathlib.Core.Path.{_≡_, refl, sym, _∙_}
+use Prim.Native.Nat.{_-_, _≤_}
+use native.Mathlib.Omega.{arith}
+use lib.Dec.{ltb}
+use lib.ListN.{length, getD, drop}
+use borrow.Author.Tests.{lt-ltb, le-ltb}
+use Rattle.tables.specs.JobFile.{all}
+use Rattle.tables.proofs.ReadingLoops.{all-end, all-no, all-yes}
+use borrow.Author.Needs.{needs}
 use Rattle.tables.proofs.common.below.Statement.{statement}
 use Rattle.tables.proofs.common.below.Tie as tie
-use Rattle.tables.proofs.common.below.Reads as reads
-use Rattle.tables.proofs.common.below.Lts as lts
-use Rattle.tables.proofs.common.wide.Reads as wide-reads
 
 abbrev Inv-loop : tie.InvT-loop
-Inv-loop nodes n i₀ i = ?
+Inv-loop p n i₀ i = (i ≤ length p) × (all (λ v. ltb v n) p ≡ all (λ v. ltb v n) (drop i p))
 
 abbrev μ-loop : tie.MeasureT-loop
-μ-loop nodes n i₀ i = ?
+μ-loop p n i₀ i = length p - i
 
--- src/common.rt:177:5
 loop-holds : tie.Need-loop-holds Inv-loop μ-loop
-loop-holds c = ?
+loop-holds c = (search needs, refl)
 
--- src/common.rt:178:17
 shared-slice-read-wide : tie.Need-shared-slice-read-wide Inv-loop μ-loop
-shared-slice-read-wide c = ?
+shared-slice-read-wide c = search needs
 
--- src/common.rt:178:12
 wide-requires : tie.Need-wide-requires Inv-loop μ-loop
-wide-requires c κs = ?
+wide-requires c κs = search needs
 
--- src/common.rt:179:13
 returns : tie.Need-returns Inv-loop μ-loop
-returns c = ?
+returns c =
+    let l = c .before .before .before .before .loop in
+    let a = c .before .before .before .before .before .before .args in
+    sym (l .inv .1 ∙ all-no (λ v. ltb v (a .n)) (a .nodes .now) (l .i) (omega arith) (le-ltb (getD (a .nodes .now) (l .i) 0) (a .n) (omega arith)))
 
--- src/common.rt:181:9
 add-i : tie.Need-add-i Inv-loop μ-loop
-add-i c = ?
+add-i c = search needs
 
--- src/common.rt:177:5
 loop-less : tie.Need-loop-less Inv-loop μ-loop
-loop-less c = ?
+loop-less c = search needs
 
--- src/common.rt:177:5
 loop-again : tie.Need-loop-again Inv-loop μ-loop
-loop-again c = ?
+loop-again c =
+    let l = c .before .before .before .before .loop in
+    let a = c .before .before .before .before .before .before .args in
+    (search needs, l .inv .1 ∙ all-yes (λ v. ltb v (a .n)) (a .nodes .now) (l .i) (omega arith) (lt-ltb (getD (a .nodes .now) (l .i) 0) (a .n) (omega arith)))
 
--- src/common.rt:173:1
 returns-2 : tie.Need-returns-2 Inv-loop μ-loop
-returns-2 c = ?
+returns-2 c =
+    let l = c .before .loop in
+    let a = c .before .before .before .args in
+    sym (l .inv .1 ∙ all-end (λ v. ltb v (a .n)) (a .nodes .now) (l .i) (omega arith))
 
 pub below-spec : {M : Type 1} → statement M
 below-spec =

@@ -1,62 +1,66 @@
+use mathlib.Core.Path.{_≡_, refl, sym, ap, _∙_}
+use Prim.Native.Nat.{_+_, _-_, _≤_}
+use native.Mathlib.Omega.{arith}
+use lib.ListN.{length, drop}
+use Rattle.tables.specs.FlowFile.{entriesOf, framed}
+use Rattle.tables.proofs.ReadingEntries.{entries-end, entries-short, entries-cut, framed-next}
+use borrow.Author.Needs.{needs}
 use Rattle.tables.proofs.common.entries_end.Statement.{statement}
 use Rattle.tables.proofs.common.entries_end.Tie as tie
-use Rattle.tables.proofs.common.entries_end.Reads as reads
-use Rattle.tables.proofs.common.entries_end.Lts as lts
-use Rattle.tables.proofs.common.wide.Reads as wide-reads
 
 abbrev Inv-loop : tie.InvT-loop
-Inv-loop sets i₀ i = ?
+Inv-loop p i₀ i = (i ≤ length p) × (framed (entriesOf p) ≡ framed (entriesOf (drop i p)))
 
 abbrev μ-loop : tie.MeasureT-loop
-μ-loop sets i₀ i = ?
+μ-loop p i₀ i = length p - i
 
--- src/common.rt:296:5
 loop-holds : tie.Need-loop-holds Inv-loop μ-loop
-loop-holds c = ?
+loop-holds c = (search needs, refl)
 
--- src/common.rt:297:20
 sub-left : tie.Need-sub-left Inv-loop μ-loop
-sub-left c = ?
+sub-left c = search needs
 
--- src/common.rt:299:13
 returns : tie.Need-returns Inv-loop μ-loop
-returns c = ?
+returns c =
+    let l = c .before .before .loop in
+    let p = c .before .before .before .before .args .sets .now in
+    sym (l .inv .1 ∙ ap framed (entries-short p (l .i) (omega arith) (omega arith)))
 
--- src/common.rt:301:31
 add-wide : tie.Need-add-wide Inv-loop μ-loop
-add-wide c = ?
+add-wide c = search needs
 
--- src/common.rt:301:26
 shared-slice-read-wide : tie.Need-shared-slice-read-wide Inv-loop μ-loop
-shared-slice-read-wide c = ?
+shared-slice-read-wide c = search needs
 
--- src/common.rt:301:13
 wide-requires : tie.Need-wide-requires Inv-loop μ-loop
-wide-requires c κs = ?
+wide-requires c κs = search needs
 
--- src/common.rt:303:13
 returns-2 : tie.Need-returns-2 Inv-loop μ-loop
-returns-2 c = ?
+returns-2 c =
+    let l = c .before .before .before .before .before .loop in
+    let p = c .before .before .before .before .before .before .before .args .sets .now in
+    sym (l .inv .1 ∙ ap framed (entries-cut p (l .i) (omega arith) (omega arith)))
 
--- src/common.rt:305:14
 add-i : tie.Need-add-i Inv-loop μ-loop
-add-i c = ?
+add-i c = search needs
 
--- src/common.rt:305:9
 add-i-2 : tie.Need-add-i-2 Inv-loop μ-loop
-add-i-2 c = ?
+add-i-2 c = search needs
 
--- src/common.rt:296:5
 loop-less : tie.Need-loop-less Inv-loop μ-loop
-loop-less c = ?
+loop-less c = search needs
 
--- src/common.rt:296:5
 loop-again : tie.Need-loop-again Inv-loop μ-loop
-loop-again c = ?
+loop-again c =
+    let l = c .before .before .before .before .before .loop in
+    let p = c .before .before .before .before .before .before .before .args .sets .now in
+    (search needs, l .inv .1 ∙ framed-next p (l .i) (l .i + (2 + c .before .wide .result)) (omega arith) (omega arith))
 
--- src/common.rt:292:1
 returns-3 : tie.Need-returns-3 Inv-loop μ-loop
-returns-3 c = ?
+returns-3 c =
+    let l = c .before .loop in
+    let p = c .before .before .before .args .sets .now in
+    sym (l .inv .1 ∙ ap framed (entries-end p (l .i) (omega arith)))
 
 pub entries-end-spec : {M : Type 1} → statement M
 entries-end-spec =

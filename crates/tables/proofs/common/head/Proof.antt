@@ -1,50 +1,45 @@
+use mathlib.Core.Path.{sym, _∙_}
+use native.Mathlib.Omega.{arith}
+use Rattle.tables.proofs.ReadingHead.{part-short, part-other, part-cut, part-whole}
 use borrow.Author.Needs.{needs}
 use Rattle.tables.proofs.common.head.Statement.{statement}
 use Rattle.tables.proofs.common.head.Tie as tie
-use Rattle.tables.proofs.common.head.Reads as reads
-use Rattle.tables.proofs.common.head.Lts as lts
-use Rattle.tables.proofs.common.kind_field.Reads as kind-field-reads
-use Rattle.tables.proofs.common.length_field.Reads as length-field-reads
 
--- src/common.rt:151:9
 returns : tie.Need-returns
-returns c = ?
+returns c = let a = c .before .before .args in (part-short (a .file .now) (a .at) (a .kind) (omega arith), tt)
 
--- src/common.rt:154:9
 returns-2 : tie.Need-returns-2
-returns-2 c = ?
+returns-2 c = let a = c .before .before .before .args in (part-short (a .file .now) (a .at) (a .kind) (omega arith), tt)
 
--- src/common.rt:156:8
 kind-field-requires : tie.Need-kind-field-requires
 kind-field-requires c κs = search needs
 
--- src/common.rt:157:9
 returns-3 : tie.Need-returns-3
-returns-3 c = ?
+returns-3 c = let a = c .before .before .before .before .before .args in (part-other (a .file .now) (a .at) (a .kind) (omega arith) (λ e. c .if3 .taken (c .before .kind-field .ensures ∙ e)), tt)
 
--- src/common.rt:159:9
 length-field-requires : tie.Need-length-field-requires
 length-field-requires c κs = search needs
 
--- src/common.rt:160:17
 add-start : tie.Need-add-start
 add-start c = search needs
 
--- src/common.rt:161:16
 sub-if4 : tie.Need-sub-if4
 sub-if4 c = search needs
 
--- src/common.rt:162:9
 returns-4 : tie.Need-returns-4
-returns-4 c = ?
+returns-4 c =
+    let a = c .before .before .before .before .before .before .before .args in
+    let f = c .before .length-field in
+    (part-cut (a .file .now) (a .at) (a .kind) (omega arith) (sym (c .before .before .before .kind-field .ensures) ∙ c .before .before .if3 .left) (f .result) (f .ensures .0) (omega arith), tt)
 
--- src/common.rt:166:14
 add-t11 : tie.Need-add-t11
 add-t11 c = search needs
 
--- src/common.rt:146:1
 returns-5 : tie.Need-returns-5
-returns-5 c = ?
+returns-5 c =
+    let a = c .before .before .before .before .before .before .before .args in
+    let f = c .before .length-field in
+    (part-whole (a .file .now) (a .at) (a .kind) (omega arith) (sym (c .before .before .before .kind-field .ensures) ∙ c .before .before .if3 .left) (f .result) (f .ensures .0) (omega arith), search needs)
 
 pub head-spec : {M : Type 1} → statement M
 head-spec =
