@@ -1,4 +1,4 @@
--- The cases of a refusal: document 01's number, a and b for each.
+-- Document 01's number, a and b for each cause of a refusal.
 use Prim.Native.Nat.{ℕ}
 use Rattle.tables.specs.Answer.{Refusal, refusal}
 use Rattle.tables.specs.declared.common.Refused.{Refused}

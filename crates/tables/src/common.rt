@@ -15,6 +15,9 @@ use nodes::utils::NodeSet;
 // The bytes of a record's length and kind.
 pub const HEAD_BYTES: usize = 6;
 
+// The bytes of an entry's node and count.
+pub const ENTRY_HEAD_BYTES: usize = 2;
+
 pub const KIND_OPEN: u16 = 0x0001;
 
 pub const KIND_EDGES: u16 = 0x0002;
@@ -43,7 +46,7 @@ pub const MODE_PLANES: u8 = 2;
 
 pub const MODE_PAULI: u8 = 3;
 
-// The highest measurement byte of each mode.
+// The highest measurement byte of each mode; the lowest of each is that of XY.
 const PLANE_XY: u8 = 1;
 
 const PLANE_XZ: u8 = 3;
@@ -130,6 +133,7 @@ enum Asks {
     Sets(usize),
 }
 
+// A byte as a count or a place.
 fn wide(x: u8) -> usize
     ensures { λ r. ⌜ (r ≡ x) × (r < 256) ⌝ }
 {
@@ -259,13 +263,13 @@ fn allow(mode: u8, output: bool, byte: u8) -> bool
     if output {
         return byte == 0;
     }
-    if byte < 1 {
+    if byte < PLANE_XY {
         return false;
     }
     byte <= highest_of(mode)
 }
 
-// Is the node in the set, of any number?
+// Is the node in the set? None past the highest is.
 fn among(set: NodeSet, node: usize) -> bool
     ensures { λ r. ⌜ r ≡ member set node ⌝ }
 {
@@ -290,7 +294,7 @@ fn all_allowed(measurements: &[u8], mode: u8, outputs: NodeSet) -> bool
     true
 }
 
-// The nodes of a payload as a set.
+// The nodes of a payload as a set; a set has no room for those past its highest.
 pub fn set_of(nodes: &[u8]) -> NodeSet
     ensures { λ r. ⌜ member r ≡ (λ u. has (now (nodes .entry)) u && leb u highest) ⌝ }
 {
@@ -312,14 +316,14 @@ fn entries_end(sets: &[u8]) -> bool
     let mut i = 0;
     while i < sets.len() {
         let left = sets.len() - i;
-        if left < 2 {
+        if left < ENTRY_HEAD_BYTES {
             return false;
         }
         let count = wide(sets[i + 1]);
-        if count > left - 2 {
+        if count > left - ENTRY_HEAD_BYTES {
             return false;
         }
-        i += 2 + count;
+        i += ENTRY_HEAD_BYTES + count;
     }
     true
 }
@@ -332,7 +336,7 @@ fn entries_below(sets: &[u8], n: usize) -> bool
     let mut i = 0;
     while i < sets.len() {
         let count = wide(sets[i + 1]);
-        let start = i + 2;
+        let start = i + ENTRY_HEAD_BYTES;
         let end = start + count;
         if wide(sets[i]) >= n {
             return false;
@@ -355,7 +359,7 @@ fn entries_rising(sets: &[u8]) -> bool
     while i < sets.len() {
         let u = wide(sets[i]);
         let count = wide(sets[i + 1]);
-        let start = i + 2;
+        let start = i + ENTRY_HEAD_BYTES;
         let end = start + count;
         if u < low {
             return false;
@@ -379,7 +383,7 @@ fn counts_one(sets: &[u8]) -> bool
         if sets[i + 1] != 1 {
             return false;
         }
-        i += 3;
+        i += ENTRY_HEAD_BYTES + 1;
     }
     true
 }
@@ -508,7 +512,7 @@ fn checked_record(file: &[u8], at: usize, kind: u16, asks: Asks) -> Found
     }
 }
 
-// ---- A job: five records in order, each once. Every reader hands on to the next.
+// ---- A job: five records in order, each once. Each reader hands what was read so far on to the next.
 
 fn read_measurements(
     file: &[u8],

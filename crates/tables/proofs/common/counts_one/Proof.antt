@@ -37,7 +37,10 @@ returns c =
     sym (l .inv .2 ∙ one-no p (l .i) (l .i + 2 + getD p (l .i + 1) 0) refl y (l .inv .1) (c .if1 .taken))
 
 add-i : tie.Need-add-i Inv-loop μ-loop
-add-i c =
+add-i c = search needs
+
+add-i-2 : tie.Need-add-i-2 Inv-loop μ-loop
+add-i-2 c =
     let l = c .before .before .before .loop in
     let p = c .before .before .before .before .args .sets .now in
     let y = fits-here (c .before .before) in
@@ -75,6 +78,7 @@ counts-one-spec =
     shared-slice-read-if1
     returns
     add-i
+    add-i-2
     loop-less
     loop-again
     returns-2)
