@@ -13,3 +13,5 @@ pub mod ReadingLoops
 pub mod ReadingHead
 pub mod ReadingEntries
 pub mod ReadingRecords
+pub mod Asking
+pub mod AskingNodes

@@ -12,3 +12,4 @@ pub mod Solutions
 pub mod Refusals
 pub mod Views
 pub mod Cases
+pub mod Loaded
