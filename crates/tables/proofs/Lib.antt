@@ -15,3 +15,4 @@ pub mod ReadingEntries
 pub mod ReadingRecords
 pub mod Asking
 pub mod AskingNodes
+pub mod AskingDefinition

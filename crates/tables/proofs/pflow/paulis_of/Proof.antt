@@ -1,3 +1,30 @@
+use mathlib.Core.Path.{_≡_, refl, sym, ap, ap₂, _∙_, fun-ext}
+use mathlib.Core.Bool.{Bool, true, false, cond, not, _&&_, _||_}
+use mathlib.Core.Option.{Option, none, some}
+use mathlib.Core.List.{List, []}
+use Prim.Native.Nat.{ℕ, _+_, _-_, _≤_, _<_}
+use native.Mathlib.Omega.{arith}
+use lib.Dec.{T, eqb, leb, ltb, ltb→lt}
+use lib.ListN.{length, getD}
+use borrow.Author.Tests.{not-true, not-false, lt-ltb, le-ltb, eq-eqb, ne-eqb}
+use Rattle.nodes.specs.Bit.{_⊕_}
+use Rattle.nodes.specs.Row.{anyBelow, lowest, parity, count}
+use Rattle.nodes.specs.NodeSet.{member, highest, capacity, wordsOf}
+use Rattle.nodes.specs.SetTable.{setAt}
+use Rattle.nodes.proofs.NodeSet.{member-past}
+use Rattle.nodes.proofs.SetTable.{set-past}
+use Rattle.nodes.proofs.Remove.{count-lowest}
+use Rattle.nodes.proofs.Logic.{is-true, is-false, unless-in, unless-out, and-l, and-r}
+use Rattle.finder.specs.Job.{Job, odd, own, isXorY, isYorZ, pauliY}
+use Rattle.finder.specs.Finder.{jobIn}
+use Rattle.tables.specs.Answer.{Refusal}
+use Rattle.tables.specs.JobFile.{modeCausal, modePlanes, modePauli}
+use Rattle.tables.specs.FlowFile.{Flow}
+use Rattle.tables.specs.Verdict.{ask, _next_, each, eachFrom, later, memberAsk, oddAsk, yAsk, ownAsk, neighbourAsk, causalAsk, causalNodeAsk, measuredAsk, definitionAsk}
+use Rattle.tables.specs.Loaded.{flowIn, noNodes, within, askedOf, firstIn, Sorted}
+use Rattle.tables.proofs.Asking.{each-start, each-end, each-no, each-yes, first-none, first-some, ask-yes, ask-no, next-stops, next-goes}
+use Rattle.tables.proofs.AskingNodes.{odd-past, order-plain, order-excused, y-first}
+use Rattle.tables.proofs.AskingDefinition.{node-output, node-members, node-odd, node-rest, planes-y, pair-late, pair-around, pair-last, only, only-start, only-none, only-at, only-next, causal-node, range-cut, two-of, one-of}
 use borrow.Author.Needs.{needs}
 use Rattle.tables.proofs.pflow.paulis_of.Statement.{statement}
 use Rattle.tables.proofs.pflow.paulis_of.Tie as tie
@@ -40,7 +67,18 @@ difference-requires-3 c κs = search needs
 
 -- src/pflow.rt:34:1
 returns : tie.Need-returns
-returns c = ?
+returns c = let b = c .before in
+    let d = b .before in
+    let p = d .before in
+    let z = p .before in
+    let y = z .before in
+    let x = y .before in
+    let a = x .before .before .args in
+    record {
+      membersFree = d .difference .ensures ∙ fun-ext (λ v. rw (x .nodes-from .ensures, z .nodes-from3 .ensures) (range-cut (within (a .n) v) (leb 4 (getD (a .measured .now) v 0)) (leb 6 (getD (a .measured .now) v 0)) ∙ ap (λ (t : Bool). within (a .n) v && t) (two-of 4 (getD (a .measured .now) v 0))));
+      oddsFree = b .difference2 .ensures ∙ fun-ext (λ v. rw (y .nodes-from2 .ensures, p .nodes-from4 .ensures) (range-cut (within (a .n) v) (leb 5 (getD (a .measured .now) v 0)) (leb 7 (getD (a .measured .now) v 0)) ∙ ap (λ (t : Bool). within (a .n) v && t) (two-of 5 (getD (a .measured .now) v 0))));
+      bothFree = c .difference3 .ensures ∙ fun-ext (λ v. rw (y .nodes-from2 .ensures, z .nodes-from3 .ensures) (range-cut (within (a .n) v) (leb 5 (getD (a .measured .now) v 0)) (leb 6 (getD (a .measured .now) v 0)) ∙ ap (λ (t : Bool). within (a .n) v && t) (one-of 5 (getD (a .measured .now) v 0))));
+    }
 
 pub paulis-of-spec : {M : Type 1} → statement M
 paulis-of-spec =

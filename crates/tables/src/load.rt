@@ -1,0 +1,62 @@
+// A file's edges and sets as tables of sets, a set for each node.
+ghost use mathlib.Core.Path.{_≡_};
+ghost use mathlib.Core.Bool.{true, _&&_, _||_};
+ghost use Prim.Native.Nat.{ℕ, _≤_};
+ghost use lib.Dec.{eqb, leb, ltb};
+ghost use lib.ListN.{length};
+ghost use Rattle.nodes.specs.NodeSet.{member, highest, capacity};
+ghost use Rattle.nodes.specs.SetTable.{setAt};
+ghost use Rattle.finder.specs.Finder.{tableWords};
+ghost use Rattle.tables.specs.JobFile.{all, joined};
+ghost use Rattle.tables.specs.FlowFile.{entriesOf, framed, listed, allEntries, entryBelow, setIn, entryIn};
+use crate::common::set_of;
+use nodes::utils::NodeSet;
+use nodes::utils::clear_table;
+use nodes::utils::put_set;
+use nodes::utils::set_at;
+
+// The nodes of more join set u.
+fn add_set(table: &mut [u64], u: u8, more: NodeSet)
+    requires { ⌜ (length (now table) ≡ tableWords) × (u ≤ highest) ⌝ }
+    ensures { λ _. ⌜ ((v w : ℕ) → setAt (now (table .exit)) v w ≡ setAt (now (table .entry)) v w || (eqb v u && member more w)) ⌝ }
+{
+    let old = set_at(table, u);
+    put_set(table, u, old.union(more));
+}
+
+// Each edge joins both ways.
+pub(crate) fn load_graph(edges: &[u8], graph: &mut [u64])
+    requires { ⌜ (length (now graph) ≡ tableWords) × (all (λ v. leb v highest) (now edges) ≡ true) ⌝ }
+    ensures { λ _. ⌜ ((u v : ℕ) → setAt (now (graph .exit)) u v ≡ joined (now (edges .entry)) u v) ⌝ }
+{
+    clear_table(graph);
+    let mut i = 0;
+    while edges.len() - i >= 2 {
+        let a = edges[i];
+        let b = edges[i + 1];
+        add_set(graph, a, NodeSet::empty().with(b));
+        add_set(graph, b, NodeSet::empty().with(a));
+        i += 2;
+    }
+}
+
+// The members of each entry go into its node's set; the answer is the nodes that have an entry.
+pub(crate) fn load_sets(sets: &[u8], table: &mut [u64]) -> NodeSet
+    requires { ⌜ length (now table) ≡ tableWords ⌝ }
+    requires { ⌜ (framed (entriesOf (now sets)) ≡ true) × (allEntries (entryBelow capacity) (listed (entriesOf (now sets))) ≡ true) ⌝ }
+    ensures { λ r. ⌜ ((u v : ℕ) → setAt (now (table .exit)) u v ≡ setIn (listed (entriesOf (now (sets .entry)))) u v) ⌝ }
+    ensures { λ r. ⌜ ((u : ℕ) → member r u ≡ entryIn (listed (entriesOf (now (sets .entry)))) u) ⌝ }
+{
+    clear_table(table);
+    let mut entries = NodeSet::empty();
+    let mut i = 0;
+    while i < sets.len() {
+        let u = sets[i];
+        let start = i + 2;
+        let end = start + sets[i + 1] as usize;
+        add_set(table, u, set_of(&sets[start..end]));
+        entries = entries.with(u);
+        i = end;
+    }
+    entries
+}
