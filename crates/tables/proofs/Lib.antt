@@ -16,3 +16,4 @@ pub mod ReadingRecords
 pub mod Asking
 pub mod AskingNodes
 pub mod AskingDefinition
+pub mod LoadingTables

@@ -24,6 +24,15 @@ fn add_set(table: &mut [u64], u: u8, more: NodeSet)
     put_set(table, u, old.union(more));
 }
 
+// Node b becomes a neighbor of a.
+fn join(graph: &mut [u64], a: u8, b: u8)
+    requires { ⌜ (length (now graph) ≡ tableWords) × (a ≤ highest) × (b ≤ highest) ⌝ }
+    ensures { λ _. ⌜ ((u v : ℕ) → setAt (now (graph .exit)) u v ≡ setAt (now (graph .entry)) u v || (eqb u a && eqb v b)) ⌝ }
+{
+    let one = NodeSet::empty().with(b);
+    add_set(graph, a, one);
+}
+
 // Each edge joins both ways.
 pub(crate) fn load_graph(edges: &[u8], graph: &mut [u64])
     requires { ⌜ (length (now graph) ≡ tableWords) × (all (λ v. leb v highest) (now edges) ≡ true) ⌝ }
@@ -34,8 +43,8 @@ pub(crate) fn load_graph(edges: &[u8], graph: &mut [u64])
     while edges.len() - i >= 2 {
         let a = edges[i];
         let b = edges[i + 1];
-        add_set(graph, a, NodeSet::empty().with(b));
-        add_set(graph, b, NodeSet::empty().with(a));
+        join(graph, a, b);
+        join(graph, b, a);
         i += 2;
     }
 }
@@ -54,7 +63,8 @@ pub(crate) fn load_sets(sets: &[u8], table: &mut [u64]) -> NodeSet
         let u = sets[i];
         let start = i + 2;
         let end = start + sets[i + 1] as usize;
-        add_set(table, u, set_of(&sets[start..end]));
+        let members = set_of(&sets[start..end]);
+        add_set(table, u, members);
         entries = entries.with(u);
         i = end;
     }

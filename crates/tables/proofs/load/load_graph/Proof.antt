@@ -1,85 +1,104 @@
+use mathlib.Core.Path.{_≡_, refl, sym, ap, ap₂, _∙_, fun-ext}
+use mathlib.Core.Bool.{Bool, true, false, _&&_, _||_}
+use mathlib.Core.List.{List}
+use Prim.Native.Nat.{ℕ, _+_, _-_, _≤_, _<_}
+use native.Mathlib.Omega.{arith}
+use lib.Dec.{eqb, leb, ltb}
+use lib.ListN.{length, getD, drop, length-replicate}
+use borrow.Author.Tests.{le-leb, leb-true}
+use Rattle.nodes.specs.NodeSet.{member, highest, capacity}
+use Rattle.nodes.specs.SetTable.{setAt}
+use Rattle.nodes.proofs.Logic.{and-all, or-none}
+use Rattle.finder.specs.Finder.{tableWords}
+use Rattle.tables.specs.JobFile.{all, has, joined}
+use Rattle.tables.specs.FlowFile.{entriesOf, framed, listed, allEntries, entryBelow, setIn, entryIn}
+use Rattle.tables.specs.Views.{between}
+use Rattle.tables.proofs.ReadingEntries.{two-more, fits, framed-next}
+use Rattle.tables.proofs.ReadingRecords.{has-small}
+use Rattle.tables.proofs.LoadingTables.{put-union, cleared, all-at, joined-end, joined-more, set-end, entry-end, set-more, entry-more, below-out}
+use borrow.Author.Needs.{needs}
 use Rattle.tables.proofs.load.load_graph.Statement.{statement}
 use Rattle.tables.proofs.load.load_graph.Tie as tie
 use Rattle.tables.proofs.load.load_graph.Reads as reads
 use Rattle.tables.proofs.load.load_graph.Lts as lts
-use Rattle.nodes.proofs.utils.NodeSet.empty.Reads as empty-reads
-use Rattle.nodes.proofs.utils.NodeSet.with.Reads as with-reads
 use Rattle.nodes.proofs.utils.clear_table.Reads as clear-table-reads
-use Rattle.tables.proofs.load.add_set.Reads as add-set-reads
+use Rattle.tables.proofs.load.join.Reads as join-reads
 
 abbrev Inv-loop : tie.InvT-loop
-Inv-loop edges graph₀ i₀ graph i = ?
+Inv-loop edges graph₀ i₀ graph i = (i ≤ length edges) × (length graph ≡ tableWords) × ((u v : ℕ) → joined edges u v ≡ setAt graph u v || joined (drop i edges) u v)
 
 abbrev μ-loop : tie.MeasureT-loop
-μ-loop edges graph₀ i₀ graph i = ?
+μ-loop edges graph₀ i₀ graph i = length edges - i
 
--- src/load.rt:32:5
+-- src/load.rt:41:5
 clear-table-requires : tie.Need-clear-table-requires Inv-loop μ-loop
-clear-table-requires c κs = ?
+clear-table-requires c κs = search needs
 
--- src/load.rt:34:5
+-- src/load.rt:43:5
 loop-holds : tie.Need-loop-holds Inv-loop μ-loop
-loop-holds c = ?
+loop-holds c = let t = c .before .before in
+    let s = t .before .before .before .before in
+    (search needs, ap length (t .clear-table .ensures) ∙ length-replicate _ 0 ∙ s .pre .0, λ u v. ap (λ (b : Bool). b || joined (s .args .edges .now) u v) (sym (cleared _ (length (s .args .graph .now)) (t .clear-table .ensures) u v)))
 
--- src/load.rt:34:11
+-- src/load.rt:43:11
 sub-loop : tie.Need-sub-loop Inv-loop μ-loop
-sub-loop c = ?
+sub-loop c = search needs
 
--- src/load.rt:35:17
+-- src/load.rt:44:17
 shared-slice-read-a : tie.Need-shared-slice-read-a Inv-loop μ-loop
-shared-slice-read-a c = ?
+shared-slice-read-a c = search needs
 
--- src/load.rt:36:23
+-- src/load.rt:45:23
 add-b : tie.Need-add-b Inv-loop μ-loop
-add-b c = ?
+add-b c = search needs
 
--- src/load.rt:36:17
+-- src/load.rt:45:17
 shared-slice-read-b : tie.Need-shared-slice-read-b Inv-loop μ-loop
-shared-slice-read-b c = ?
+shared-slice-read-b c = search needs
 
--- src/load.rt:37:27
-empty-requires : tie.Need-empty-requires Inv-loop μ-loop
-empty-requires c κs = ?
+-- src/load.rt:46:9
+join-requires : tie.Need-join-requires Inv-loop μ-loop
+join-requires c κs = let l = c .before .before .before .before .loop in
+    let s = c .before .before .before .before .before .before .before .before .before .before .before in
+    let h : getD (s .args .edges .now) (l .i) 0 ≤ highest = leb-true (getD (s .args .edges .now) (l .i) 0) highest (all-at (λ v. leb v highest) (s .args .edges .now) (l .i) (s .pre .1) (omega arith)) in
+    let g : getD (s .args .edges .now) (l .i + 1) 0 ≤ highest = leb-true (getD (s .args .edges .now) (l .i + 1) 0) highest (all-at (λ v. leb v highest) (s .args .edges .now) (l .i + 1) (s .pre .1) (omega arith)) in
+    (search needs, omega arith, omega arith)
 
--- src/load.rt:37:27
-with-requires : tie.Need-with-requires Inv-loop μ-loop
-with-requires c κs = ?
+-- src/load.rt:47:9
+join-requires-2 : tie.Need-join-requires-2 Inv-loop μ-loop
+join-requires-2 c κs = let l = c .before .before .before .before .before .before .before .before .loop in
+    let s = c .before .before .before .before .before .before .before .before .before .before .before .before .before .before .before in
+    let h : getD (s .args .edges .now) (l .i) 0 ≤ highest = leb-true (getD (s .args .edges .now) (l .i) 0) highest (all-at (λ v. leb v highest) (s .args .edges .now) (l .i) (s .pre .1) (omega arith)) in
+    let g : getD (s .args .edges .now) (l .i + 1) 0 ≤ highest = leb-true (getD (s .args .edges .now) (l .i + 1) 0) highest (all-at (λ v. leb v highest) (s .args .edges .now) (l .i + 1) (s .pre .1) (omega arith)) in
+    (search needs, omega arith, omega arith)
 
--- src/load.rt:37:9
-add-set-requires : tie.Need-add-set-requires Inv-loop μ-loop
-add-set-requires c κs = ?
-
--- src/load.rt:38:27
-empty-requires-2 : tie.Need-empty-requires-2 Inv-loop μ-loop
-empty-requires-2 c κs = ?
-
--- src/load.rt:38:27
-with-requires-2 : tie.Need-with-requires-2 Inv-loop μ-loop
-with-requires-2 c κs = ?
-
--- src/load.rt:38:9
-add-set-requires-2 : tie.Need-add-set-requires-2 Inv-loop μ-loop
-add-set-requires-2 c κs = ?
-
--- src/load.rt:39:9
+-- src/load.rt:48:9
 add-i : tie.Need-add-i Inv-loop μ-loop
-add-i c = ?
+add-i c = search needs
 
--- src/load.rt:34:5
+-- src/load.rt:43:5
 loop-less : tie.Need-loop-less Inv-loop μ-loop
-loop-less c = ?
+loop-less c = search needs
 
--- src/load.rt:34:5
+-- src/load.rt:43:5
 loop-again : tie.Need-loop-again Inv-loop μ-loop
-loop-again c = ?
+loop-again c = let j = c .before .before .before .before .before .before in
+    let l = c .before .before .before .before .before .before .before .before .before .before .before .loop in
+    let p = c .before .before .before .before .before .before .before .before .before .before .before .before .before .before .before .before .before .before .args .edges .now in
+    (search needs, search needs,
+    λ u v. l .inv .2 u v ∙ joined-more p (l .i) u v (omega arith) (setAt (l .graph) u v)
+        ∙ ap (λ (t : Bool). t || joined (drop (l .i + 2) p) u v)
+        (sym (c .before .before .join2 .ensures u v ∙ ap (λ (t : Bool). t || (eqb u (getD p (l .i + 1) 0) && eqb v (getD p (l .i) 0))) (j .join .ensures u v))))
 
--- src/load.rt:28:1
+-- src/load.rt:37:1
 same-length : tie.Need-same-length Inv-loop μ-loop
-same-length c = ?
+same-length c = search needs
 
--- src/load.rt:28:1
+-- src/load.rt:37:1
 returns : tie.Need-returns Inv-loop μ-loop
-returns c = ?
+returns c u v = let l = c .before .loop in
+    let p = c .before .before .before .before .before .before .before .before .args .edges .now in
+    sym (l .inv .2 u v ∙ ap (λ (t : Bool). setAt (l .graph) u v || t) (joined-end p (l .i) u v (omega arith)) ∙ or-none (setAt (l .graph) u v))
 
 pub load-graph-spec : {M : Type 1} → statement M
 load-graph-spec =
@@ -93,12 +112,8 @@ load-graph-spec =
     shared-slice-read-a
     add-b
     shared-slice-read-b
-    empty-requires
-    with-requires
-    add-set-requires
-    empty-requires-2
-    with-requires-2
-    add-set-requires-2
+    join-requires
+    join-requires-2
     add-i
     loop-less
     loop-again
