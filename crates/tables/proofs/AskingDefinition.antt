@@ -14,11 +14,11 @@ use Rattle.nodes.proofs.Logic.{is-true, is-false, from-true, and-all, lt-or-ge,
 use Rattle.nodes.proofs.Row.{any-in}
 use Rattle.nodes.proofs.Members.{lowest-none, lowest-member}
 use Rattle.nodes.proofs.Remove.{removed, removed-other, removed-same}
-use Rattle.finder.specs.Job.{Job}
+use Rattle.finder.specs.Job.{Job, odd}
 use Rattle.tables.specs.Answer.{Refusal}
 use Rattle.tables.specs.JobFile.{modeCausal, modePlanes, modePauli}
 use Rattle.tables.specs.FlowFile.{Flow}
-use Rattle.tables.specs.Verdict.{_next_, each, later, memberAsk, oddAsk, yAsk, ownAsk, nodeAsk, neighbourAsk, adjacentAsk, causalAsk, causalNodeAsk, measuredAsk, definitionAsk, checkDomain, checkInitial, checkDefinition, verify}
+use Rattle.tables.specs.Verdict.{_next_, each, later, laterAsk, memberAsk, oddAsk, yAsk, ownAsk, nodeAsk, neighbourAsk, adjacentAsk, causalAsk, causalNodeAsk, measuredAsk, definitionAsk, checkDomain, checkInitial, checkDefinition, verify}
 use Rattle.tables.specs.Loaded.{within}
 use Rattle.tables.proofs.Questions.{each-in}
 use Rattle.tables.proofs.Asking.{each-ext, each-at, within-yes}
@@ -127,3 +127,31 @@ one-of low m = by (ℕ-discrete m low) (le-or-lt low m)
         past : m ≢ low → low ≤ m → low + 1 ≤ m
         past d l = omega arith
     by (no d) (inr l) = rw (ne-eqb m low d, lt-leb low m l)
+
+-- ---- all of them
+-- where the mode is neither 1 nor 3, it does not matter which
+module _ (j : Job) (f : Flow) (mode i : ℕ) (c : eqb mode modeCausal ≡ false) (p : eqb mode modePauli ≡ false) where
+  no-y : each (j .nodes) (yAsk j f mode i) ≡ none
+  no-y = each-in (j .nodes) (yAsk j f mode i) (λ v l. rw p)
+
+  plain-node : definitionAsk j f mode i ≡ cond (j .output i) none (each (j .nodes) (laterAsk j f (f .set i) (λ k. false) i) next each (j .nodes) (laterAsk j f (odd j (f .set i)) (λ k. false) i) next ownAsk j f i)
+  unfolding nodeAsk
+  plain-node = rw (c, p, no-y)
+
+module _ (j : Job) (f : Flow) (mode : ℕ) where
+  pub verify-domain : (r : Refusal) → checkDomain j f ≡ some r → verify j f mode ≡ some r
+  unfolding verify
+  verify-domain r e = rw e
+
+  module _ (e : checkDomain j f ≡ none) where
+    pub verify-initial : (r : Refusal) → checkInitial j f mode ≡ some r → verify j f mode ≡ some r
+    unfolding verify
+    verify-initial r g = rw (e, g)
+
+    pub verify-definition : checkInitial j f mode ≡ none → verify j f mode ≡ checkDefinition j f mode
+    unfolding verify
+    verify-definition g = rw (e, g)
+
+  -- a mode that is neither 1 nor 3 is asked as mode 2
+  pub planes-mode : (mode ≡ modeCausal → ⊥) → (mode ≡ modePauli → ⊥) → checkDefinition j f modePlanes ≡ checkDefinition j f mode
+  planes-mode c p = ap (λ (q : Option Refusal). each (j .nodes) (measuredAsk j f) next q) (each-ext (j .nodes) (definitionAsk j f modePlanes) (definitionAsk j f mode) (λ i l. plain-node j f modePlanes i refl refl ∙ sym (plain-node j f mode i (ne-eqb mode modeCausal c) (ne-eqb mode modePauli p))))

@@ -11,9 +11,16 @@ use Rattle.nodes.specs.NodeSet.{member, highest, capacity}
 use Rattle.nodes.specs.SetTable.{setAt}
 use Rattle.nodes.specs.declared.utils.NodeSet.{NodeSet}
 use Rattle.finder.specs.Job.{pauliY, isXorY, isYorZ}
-use Rattle.tables.specs.Answer.{Refusal}
-use Rattle.tables.specs.FlowFile.{Flow}
+use Rattle.tables.specs.Answer.{Refusal, Answer, gives, refuses, _>>=_, _>>_}
+use Rattle.tables.specs.JobFile.{JobFile, Measured, measuredOf, jobOf}
+use Rattle.tables.specs.FlowFile.{FlowFile, Flow, nothingLeft, oneMember, flowOf}
+use Rattle.tables.specs.Verdict.{verify}
+use Rattle.tables.specs.Calls.{verdict}
 use Rattle.tables.specs.Refusals.{refusalOf}
+use Rattle.tables.specs.Views.{bytesAt}
+use Rattle.tables.specs.declared.Measured as Places
+use Rattle.tables.specs.declared.Verified.{Verified}
+use Rattle.tables.specs.declared.Verified.the-variants.{Accepted, Refused as NotAccepted}
 use Rattle.tables.specs.declared.pflow.Paulis.{Paulis}
 use Rattle.tables.specs.declared.validate.Asked.{Asked}
 use Rattle.tables.specs.declared.validate.Asked.the-variants.{Passed, Refused as Stopped}
@@ -43,3 +50,19 @@ pub record Sorted (n : ℕ) (measured : List ℕ) (p : Paulis) : Type 0 where
   pub membersFree : member (p .xy) ≡ (λ v. within n v && isXorY (getD measured v 0))
   pub oddsFree : member (p .yz) ≡ (λ v. within n v && isYorZ (getD measured v 0))
   pub bothFree : member (p .y) ≡ (λ v. within n v && eqb (getD measured v 0) pauliY)
+
+-- the mode and the measurements to work with, by their place in the file
+abbrev pub measuredAt : List ℕ → Places.Measured → Measured
+measuredAt s m = record { mode = m .mode; measurements = bytesAt (m .measurements) s }
+
+-- the number of bytes written, or the refusal
+abbrev pub verifiedOf : Verified → Answer ℕ
+verifiedOf (Accepted k) = gives k
+verifiedOf (NotAccepted q) = refuses (refusalOf q)
+
+-- the questions that follow reading: 8, 9, and those on the flow
+unfoldable pub flowAsks : JobFile → FlowFile → Answer Bool
+flowAsks f g = do
+  nothingLeft (g .after)
+  oneMember (f .mode) (g .sets)
+  verdict (verify (jobOf f) (flowOf g) (measuredOf f .mode))

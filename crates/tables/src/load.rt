@@ -49,8 +49,27 @@ pub(crate) fn load_graph(edges: &[u8], graph: &mut [u64])
     }
 }
 
+// Do the entries end exactly with the payload?
+fn entries_end(sets: &[u8]) -> bool
+    ensures { λ r. ⌜ r ≡ framed (entriesOf (now (sets .entry))) ⌝ }
+{
+    let mut i = 0;
+    while i < sets.len() {
+        let left = sets.len() - i;
+        if left < 2 {
+            return false;
+        }
+        let count = sets[i + 1] as usize;
+        if count > left - 2 {
+            return false;
+        }
+        i += 2 + count;
+    }
+    true
+}
+
 // The members of each entry go into its node's set; the answer is the nodes that have an entry.
-pub(crate) fn load_sets(sets: &[u8], table: &mut [u64]) -> NodeSet
+fn load_entries(sets: &[u8], table: &mut [u64]) -> NodeSet
     requires { ⌜ length (now table) ≡ tableWords ⌝ }
     requires { ⌜ (framed (entriesOf (now sets)) ≡ true) × (allEntries (entryBelow capacity) (listed (entriesOf (now sets))) ≡ true) ⌝ }
     ensures { λ r. ⌜ ((u v : ℕ) → setAt (now (table .exit)) u v ≡ setIn (listed (entriesOf (now (sets .entry)))) u v) ⌝ }
@@ -69,4 +88,17 @@ pub(crate) fn load_sets(sets: &[u8], table: &mut [u64]) -> NodeSet
         i = end;
     }
     entries
+}
+
+// Bytes that are no entries have no set.
+pub(crate) fn load_sets(sets: &[u8], table: &mut [u64]) -> NodeSet
+    requires { ⌜ (length (now table) ≡ tableWords) × (allEntries (entryBelow capacity) (listed (entriesOf (now sets))) ≡ true) ⌝ }
+    ensures { λ r. ⌜ ((u v : ℕ) → setAt (now (table .exit)) u v ≡ setIn (listed (entriesOf (now (sets .entry)))) u v) ⌝ }
+    ensures { λ r. ⌜ ((u : ℕ) → member r u ≡ entryIn (listed (entriesOf (now (sets .entry)))) u) ⌝ }
+{
+    if !entries_end(sets) {
+        clear_table(table);
+        return NodeSet::empty();
+    }
+    load_entries(sets, table)
 }
