@@ -17,3 +17,4 @@ pub mod Asking
 pub mod AskingNodes
 pub mod AskingDefinition
 pub mod LoadingTables
+pub mod LoadingFiles
