@@ -1,18 +1,18 @@
 -- Questions asked of the nodes in order: by a loop, or of the least member of a set.
 use Prim.Native.Nat.{ℕ, zero, suc, _+_, _-_, _≤_, _<_, zero-le}
 use mathlib.Core.Path.{_≡_, refl, sym, ap, _∙_}
-use mathlib.Core.Bool.{Bool, true, false, cond, not, _&&_, _||_}
+use mathlib.Core.Bool.{Bool, true, false, cond, _&&_}
 use mathlib.Core.Option.{Option, none, some}
 use mathlib.Core.Logic.{_⊎_, inl, inr}
 use native.Mathlib.Omega.{arith}
 use native.Mathlib.Nat.{le-refl, eq-or-lt-of-le}
-use lib.Dec.{T, eqb, leb, ltb, ltb→lt}
+use lib.Dec.{T, leb, ltb, ltb→lt}
 use borrow.Author.Tests.{le-leb, lt-ltb}
 use Rattle.nodes.specs.Row.{anyBelow, lowest}
 use Rattle.nodes.specs.NodeSet.{highest, capacity}
 use Rattle.nodes.proofs.Logic.{is-true, is-false, from-true, from-false, and-l, and-r, lt-or-ge}
 use Rattle.nodes.proofs.Row.{any-in}
-use Rattle.nodes.proofs.Members.{lowest-le, lowest-none, lowest-member}
+use Rattle.nodes.proofs.Members.{lowest-none, lowest-member}
 use Rattle.tables.specs.Answer.{Refusal}
 use Rattle.tables.specs.Verdict.{ask, _next_, eachFrom, each}
 use Rattle.tables.specs.Loaded.{within, firstIn}
@@ -69,34 +69,34 @@ within-yes n k l m = rw (lt-ltb k n l, le-leb k highest (omega arith))
 -- p says which nodes are refused; none is past what a set can have, and d is the set of those below n
 module _ (n : ℕ) (g : ℕ → Option Refusal) (d p : ℕ → Bool) (r : ℕ → Refusal)
     (e : (k : ℕ) → g k ≡ cond (p k) (some (r k)) none) (z : (k : ℕ) → capacity ≤ k → p k ≡ false) (f : (k : ℕ) → d k ≡ within n k && p k)
-    where
-  quiet : (k : ℕ) → k < n → d k ≡ false → g k ≡ none
-  quiet k l h = e k ∙ ap (λ (b : Bool). cond b (some (r k)) none) (by (lt-or-ge k capacity))
-    where
-      by : (k < capacity) ⊎ (capacity ≤ k) → p k ≡ false
-      by (inl c) = sym (f k ∙ ap (λ (b : Bool). b && p k) (within-yes n k l c)) ∙ h
-      by (inr c) = z k c
+  where
+    quiet : (k : ℕ) → k < n → d k ≡ false → g k ≡ none
+    quiet k l h = e k ∙ ap (λ (b : Bool). cond b (some (r k)) none) (by (lt-or-ge k capacity))
+      where
+        by : (k < capacity) ⊎ (capacity ≤ k) → p k ≡ false
+        by (inl c) = sym (f k ∙ ap (λ (b : Bool). b && p k) (within-yes n k l c)) ∙ h
+        by (inr c) = z k c
 
-  pub each-first : each n g ≡ firstIn d r
-  unfolding firstIn
-  each-first = by (anyBelow capacity d) refl
-    where
-      by : (b : Bool) → anyBelow capacity d ≡ b → each n g ≡ cond b (some (r (lowest capacity d))) none
-      by true t =
-          let low = lowest capacity d in
-          let here : T (within n low && p low) = rw f at (lowest-member capacity d (from-true (anyBelow capacity d) t)) in
-          let l : low < n = ltb→lt low n (and-l (ltb low n) (leb low highest) (and-l (within n low) (p low) here)) in
-          each-at n low g (r low) l (λ j m. quiet j (omega arith) (lowest-none capacity d j m))
-          (e low ∙ ap (λ (b : Bool). cond b (some (r low)) none) (is-true (p low) (and-r (within n low) (p low) here)))
-      by false t = each-in n g (λ k l. quiet k l (out k (lt-or-ge k capacity)))
-        where
-          out : (k : ℕ) → (k < capacity) ⊎ (capacity ≤ k) → d k ≡ false
-          out k (inl c) = is-false (d k) (λ x. from-false (anyBelow capacity d) t (any-in capacity d k c x))
-          out k (inr c) = f k ∙ ap (λ (b : Bool). within n k && b) (z k c) ∙ none-in (within n k)
-            where
-              none-in : (b : Bool) → b && false ≡ false
-              none-in true = refl
-              none-in false = refl
+    pub each-first : each n g ≡ firstIn d r
+    unfolding firstIn
+    each-first = by (anyBelow capacity d) refl
+      where
+        by : (b : Bool) → anyBelow capacity d ≡ b → each n g ≡ cond b (some (r (lowest capacity d))) none
+        by true t =
+            let low = lowest capacity d in
+            let here : T (within n low && p low) = rw f at (lowest-member capacity d (from-true (anyBelow capacity d) t)) in
+            let l : low < n = ltb→lt low n (and-l (ltb low n) (leb low highest) (and-l (within n low) (p low) here)) in
+            each-at n low g (r low) l (λ j m. quiet j (omega arith) (lowest-none capacity d j m))
+            (e low ∙ ap (λ (b : Bool). cond b (some (r low)) none) (is-true (p low) (and-r (within n low) (p low) here)))
+        by false t = each-in n g (λ k l. quiet k l (out k (lt-or-ge k capacity)))
+          where
+            out : (k : ℕ) → (k < capacity) ⊎ (capacity ≤ k) → d k ≡ false
+            out k (inl c) = is-false (d k) (λ x. from-false (anyBelow capacity d) t (any-in capacity d k c x))
+            out k (inr c) = f k ∙ ap (λ (b : Bool). within n k && b) (z k c) ∙ none-in (within n k)
+              where
+                none-in : (b : Bool) → b && false ≡ false
+                none-in true = refl
+                none-in false = refl
 
 -- what the code has of it
 module _ (d : ℕ → Bool) (r : ℕ → Refusal) where

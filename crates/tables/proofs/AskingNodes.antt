@@ -2,7 +2,7 @@
 use Prim.Native.Nat.{ℕ, _+_, _≤_, _<_}
 use mathlib.Core.Path.{_≡_, refl, sym, ap, ap₂, _∙_}
 use mathlib.Core.Bool.{Bool, true, false, cond, not, _&&_, _||_, Bool·beq}
-use mathlib.Core.Option.{Option, none, some}
+use mathlib.Core.Option.{none, some}
 use mathlib.Core.Logic.{_⊎_, inl, inr}
 use native.Mathlib.Omega.{arith}
 use native.Mathlib.Decide.{ℕ-discrete}
@@ -11,7 +11,7 @@ use borrow.Author.Tests.{le-leb, lt-leb, lt-ltb, le-ltb, eq-eqb, ne-eqb}
 use Rattle.nodes.specs.Bit.{_⊕_}
 use Rattle.nodes.specs.Row.{anyBelow, parity}
 use Rattle.nodes.specs.NodeSet.{highest, capacity}
-use Rattle.nodes.proofs.Logic.{is-true, is-false, dec, and-l, and-r, and-in, or-l, or-r, or-out, and-none, and-all, or-none, beq-eq, lt-or-ge, le-or-lt}
+use Rattle.nodes.proofs.Logic.{and-l, and-r, and-in, and-none, and-all, or-none, beq-eq, lt-or-ge, le-or-lt}
 use Rattle.nodes.proofs.Row.{any-in, any-out, parity-ext, parity-past, parity-none}
 use Rattle.tables.specs.Answer.{Refusal}
 use Rattle.tables.specs.Verdict.{ask, each}

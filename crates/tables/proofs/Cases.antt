@@ -25,9 +25,9 @@ use Rattle.tables.specs.Cases.{equal, allHold, cases, jobF, flowF}
 
 pub cases-hold : T (allHold cases)
 unfolding
-  bit parity anyBelow allBelow count lowestFrom membersFrom solve entryOf digits listOf fits bothFit wellShaped solveCall own branches firstSolvable rounds
-  lengthField part checked written all has rises pairsRise allows allAllowed openNo edgesNo nodesNo measurementsNo readJob readEdges readInputs readOutputs readMeasurements joined
-  entriesIn allEntries entriesRise layersNo setsNo readFlow readSets setIn entryIn eachFrom nodeAsk causalAsk verify setBytes findAsks verifyAsks findProgram verifyProgram equal
+    bit parity anyBelow allBelow count lowestFrom membersFrom solve entryOf digits listOf fits bothFit wellShaped solveCall own branches firstSolvable rounds
+    lengthField part checked written all has rises pairsRise allows allAllowed openNo edgesNo nodesNo measurementsNo readJob readEdges readInputs readOutputs readMeasurements joined
+    entriesIn allEntries entriesRise layersNo setsNo readFlow readSets setIn entryIn eachFrom nodeAsk causalAsk verify setBytes findAsks verifyAsks findProgram verifyProgram equal
 cases-hold = tt
 
 -- ---- case F

@@ -118,6 +118,7 @@ module _ (f : JobFile) (v : ValidJob f) (g : FlowFile) (w : ValidFlow (f .n) g) 
 pub verifier-published : (s : List ℕ) (f : JobFile) (g : FlowFile) (b : Bool) → readJob s ≡ gives f → readFlow (f .n) (f .after) ≡ gives g → g .after ≡ [] → oneMember (f .mode) (g .sets) ≡ gives b
     → (verifyAsks s ≡ gives true ↔ Conditions (f .mode) (jobOf f) g)
 unfolding verifyAsks
-verifier-published s f g b p q r t =
-    ((λ e. verify-published f (job-asked s f p) g (flow-asked (f .n) (f .after) g q) (b, t) (verdict-out (verify (jobOf f) (flowOf g) (f .mode)) true (rw (p, q, r, t) at e))),
-    λ c. rw (p, q, r, t, published-verify f (job-asked s f p) g (flow-asked (f .n) (f .after) g q) (b, t) c))
+verifier-published s f g b p q r t = (
+  (λ e. verify-published f (job-asked s f p) g (flow-asked (f .n) (f .after) g q) (b, t) (verdict-out (verify (jobOf f) (flowOf g) (f .mode)) true (rw (p, q, r, t) at e))),
+  λ c. rw (p, q, r, t, published-verify f (job-asked s f p) g (flow-asked (f .n) (f .after) g q) (b, t) c),
+)

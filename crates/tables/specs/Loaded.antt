@@ -11,7 +11,7 @@ use Rattle.nodes.specs.NodeSet.{member, highest, capacity}
 use Rattle.nodes.specs.SetTable.{setAt}
 use Rattle.nodes.specs.declared.utils.NodeSet.{NodeSet}
 use Rattle.finder.specs.Job.{pauliY, isXorY, isYorZ}
-use Rattle.tables.specs.Answer.{Refusal, Answer, gives, refuses, _>>=_, _>>_}
+use Rattle.tables.specs.Answer.{Refusal, Answer, gives, refuses, _>>_}
 use Rattle.tables.specs.JobFile.{JobFile, Measured, measuredOf, jobOf}
 use Rattle.tables.specs.FlowFile.{FlowFile, Flow, nothingLeft, oneMember, flowOf}
 use Rattle.tables.specs.Verdict.{verify}

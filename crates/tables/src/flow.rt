@@ -33,14 +33,7 @@ fn check_pair(n: u8, graph: &[u64], layers: &[u8], i: u8, k: u8) -> Asked
 }
 
 // Node i, where it is no output, with each member of its set: there is one, by question 9.
-fn check_node(
-    n: u8,
-    graph: &[u64],
-    outputs: NodeSet,
-    layers: &[u8],
-    sets: &[u64],
-    i: u8,
-) -> Asked
+fn check_node(n: u8, graph: &[u64], outputs: NodeSet, layers: &[u8], sets: &[u64], i: u8) -> Asked
     ensures { λ r. ⌜ askedOf r ≡ definitionAsk (jobIn n (now (graph .entry)) noNodes outputs []) (flowIn (now (layers .entry)) noNodes (now (sets .entry))) modeCausal i ⌝ }
 {
     if outputs.has(i) {
@@ -57,13 +50,7 @@ fn check_node(
     Asked::Passed
 }
 
-fn check_nodes(
-    n: u8,
-    graph: &[u64],
-    outputs: NodeSet,
-    layers: &[u8],
-    sets: &[u64],
-) -> Asked
+fn check_nodes(n: u8, graph: &[u64], outputs: NodeSet, layers: &[u8], sets: &[u64]) -> Asked
     ensures { λ r. ⌜ askedOf r ≡ each n (definitionAsk (jobIn n (now (graph .entry)) noNodes outputs []) (flowIn (now (layers .entry)) noNodes (now (sets .entry))) modeCausal) ⌝ }
 {
     let mut i: u8 = 0;
@@ -78,7 +65,7 @@ fn check_nodes(
 }
 
 // Has each entry a measurement (17)? Then node by node.
-pub fn check_definition(
+pub(crate) fn check_definition(
     n: u8,
     graph: &[u64],
     outputs: NodeSet,

@@ -70,7 +70,7 @@ fn check_nodes(
 }
 
 // Has each entry a measurement (17)? Then node by node.
-pub fn check_definition(
+pub(crate) fn check_definition(
     n: u8,
     graph: &[u64],
     outputs: NodeSet,

@@ -1,27 +1,25 @@
 // Job and flow files, and the verifier of document 01.
 pub mod common; // common.rt: the records, and reading them
-pub mod flow; // flow.rt: checking a causal flow
-pub mod gflow; // gflow.rt: checking a generalized flow
+mod flow; // flow.rt: checking a causal flow
+mod gflow; // gflow.rt: checking a generalized flow
 mod load; // load.rt: a file's edges and sets as tables of sets
-pub mod pflow; // pflow.rt: checking a Pauli flow
-pub mod validate; // validate.rt: what every flow is asked
+mod pflow; // pflow.rt: checking a Pauli flow
+mod validate; // validate.rt: what every flow is asked
 
 ghost use mathlib.Core.Path.{_≡_};
-ghost use mathlib.Core.Bool.{Bool, not, _||_};
+ghost use mathlib.Core.Bool.{not, _||_};
 ghost use mathlib.Core.List.{List, []};
 ghost use Prim.Native.Nat.{ℕ};
 ghost use lib.Dec.{eqb};
 ghost use lib.ListN.{length};
-ghost use Rattle.nodes.specs.NodeSet.{member};
-ghost use Rattle.nodes.specs.SetTable.{setAt};
-ghost use Rattle.finder.specs.Finder.{jobIn, tableWords};
+ghost use Rattle.finder.specs.Finder.{jobIn};
 ghost use Rattle.tables.specs.Records.{written, kindAccepted};
 ghost use Rattle.tables.specs.JobFile.{modeCausal, measuredOf, jobOf};
 ghost use Rattle.tables.specs.FlowFile.{entriesOf, listed, allEntries, flowOf};
 ghost use Rattle.tables.specs.Encoding.{ValidJob, ValidFlow};
 ghost use Rattle.tables.specs.Verdict.{verify as verifyOf};
 ghost use Rattle.tables.specs.Calls.{verdict, verifyAsks, put, verifyCall};
-ghost use Rattle.tables.specs.Views.{bytesAt, Lies, fileAt, JobLies, flowAt, FlowLies};
+ghost use Rattle.tables.specs.Views.{Lies, fileAt, JobLies, flowAt, FlowLies};
 ghost use Rattle.tables.specs.Loaded.{flowIn, askedOf, measuredAt, flowAsks, verifiedOf};
 use common::FlowPlaces;
 use common::FlowRead;

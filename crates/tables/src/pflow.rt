@@ -8,6 +8,9 @@ ghost use Rattle.tables.specs.Verdict.{ask, _next_, each, definitionAsk,
 ghost use Rattle.tables.specs.Loaded.{flowIn, noNodes, askedOf, firstIn, Sorted};
 use crate::common::Refused;
 use crate::validate::Asked;
+use crate::validate::PAULI_X;
+use crate::validate::PAULI_Y;
+use crate::validate::PAULI_Z;
 use crate::validate::byte_at;
 use crate::validate::check_measured;
 use crate::validate::in_order;
@@ -17,12 +20,6 @@ use crate::validate::odd_of;
 use crate::validate::own_holds;
 use nodes::utils::NodeSet;
 use nodes::utils::set_at;
-
-const PAULI_X: u8 = 4;
-
-const PAULI_Y: u8 = 5;
-
-const PAULI_Z: u8 = 6;
 
 // The nodes measured X or Y, those measured Y or Z, and those measured Y.
 struct Paulis {
@@ -117,7 +114,7 @@ fn check_nodes(
 }
 
 // Has each entry a measurement (17)? Then node by node.
-pub fn check_definition(
+pub(crate) fn check_definition(
     n: u8,
     graph: &[u64],
     outputs: NodeSet,

@@ -2,7 +2,6 @@
 ghost use mathlib.Core.Path.{_≡_};
 ghost use mathlib.Core.Bool.{cond, not, _&&_, _||_};
 ghost use mathlib.Core.List.{[]};
-ghost use Prim.Native.Nat.{ℕ};
 ghost use lib.Dec.{eqb, leb, ltb};
 ghost use lib.ListN.{getD};
 ghost use Rattle.nodes.specs.Row.{parity};
@@ -10,7 +9,7 @@ ghost use Rattle.nodes.specs.NodeSet.{member, highest};
 ghost use Rattle.nodes.specs.SetTable.{setAt};
 ghost use Rattle.finder.specs.Job.{own};
 ghost use Rattle.finder.specs.Finder.{jobIn};
-ghost use Rattle.tables.specs.Verdict.{ask, each, measuredAsk, inputAsk, domainAsk, layerAsk, checkDomain, checkInitial};
+ghost use Rattle.tables.specs.Verdict.{ask, each, measuredAsk, inputAsk, domainAsk, checkDomain, checkInitial};
 ghost use Rattle.tables.specs.JobFile.{modePauli};
 ghost use Rattle.tables.specs.Loaded.{flowIn, noNodes, within, askedOf, firstIn};
 use crate::common::MODE_PAULI;
@@ -18,6 +17,19 @@ use crate::common::Refused;
 use nodes::utils::NodeSet;
 use nodes::utils::odd_neighbors;
 use nodes::utils::set_at;
+
+// The measurements by their numbers.
+pub const PLANE_XY: u8 = 1;
+
+pub const PLANE_YZ: u8 = 2;
+
+pub const PLANE_XZ: u8 = 3;
+
+pub const PAULI_X: u8 = 4;
+
+pub const PAULI_Y: u8 = 5;
+
+pub const PAULI_Z: u8 = 6;
 
 pub enum Asked {
     Passed,
@@ -27,7 +39,7 @@ pub enum Asked {
 // ---- Sets of nodes by what the flow and the measurements say of them.
 
 // The node's byte; a byte past the end is 0.
-pub fn byte_at(bytes: &[u8], u: u8) -> u8
+pub(crate) fn byte_at(bytes: &[u8], u: u8) -> u8
     ensures { λ r. ⌜ r ≡ getD (now (bytes .entry)) u 0 ⌝ }
 {
     let at = u as usize;
@@ -48,7 +60,7 @@ fn with_if(s: NodeSet, v: u8, put: bool) -> NodeSet
 }
 
 // The nodes below n whose byte is low or more.
-pub fn nodes_from(n: u8, bytes: &[u8], low: u8) -> NodeSet
+pub(crate) fn nodes_from(n: u8, bytes: &[u8], low: u8) -> NodeSet
     ensures { λ r. ⌜ member r ≡ (λ v. within n v && leb low (getD (now (bytes .entry)) v 0)) ⌝ }
 {
     let mut s = NodeSet::empty();
@@ -62,7 +74,7 @@ pub fn nodes_from(n: u8, bytes: &[u8], low: u8) -> NodeSet
 }
 
 // The nodes below n other than i that are not later than i.
-pub fn not_later(n: u8, layers: &[u8], i: u8) -> NodeSet
+pub(crate) fn not_later(n: u8, layers: &[u8], i: u8) -> NodeSet
     ensures { λ r. ⌜ member r ≡ (λ v. (within n v && leb (getD (now (layers .entry)) i 0) (getD (now (layers .entry)) v 0)) && not (eqb v i)) ⌝ }
 {
     let layer = byte_at(layers, i);
@@ -70,7 +82,7 @@ pub fn not_later(n: u8, layers: &[u8], i: u8) -> NodeSet
 }
 
 // Odd of the set, of whose members those below n count.
-pub fn odd_of(n: u8, graph: &[u64], set: NodeSet) -> NodeSet
+pub(crate) fn odd_of(n: u8, graph: &[u64], set: NodeSet) -> NodeSet
     ensures { λ r. ⌜ member r ≡ (λ v. parity n (λ k. setAt (now (graph .entry)) k v && member set k)) ⌝ }
 {
     let all = NodeSet::below(n as usize);
@@ -80,7 +92,7 @@ pub fn odd_of(n: u8, graph: &[u64], set: NodeSet) -> NodeSet
 // ---- Questions that more than one definition asks.
 
 // Question 18 of node i: the least of the nodes that should be later and are not.
-pub fn in_order(i: u8, early: NodeSet) -> Asked
+pub(crate) fn in_order(i: u8, early: NodeSet) -> Asked
     ensures { λ r. ⌜ askedOf r ≡ firstIn (member early) (λ k. record { number = 18; a = i; b = k }) ⌝ }
 {
     if early.is_empty() {
@@ -90,26 +102,26 @@ pub fn in_order(i: u8, early: NodeSet) -> Asked
 }
 
 // Does a node's own measurement hold, by whether it is in its set and in Odd of it?
-pub fn own_holds(measurement: u8, inside: bool, odd: bool) -> bool
+pub(crate) fn own_holds(measurement: u8, inside: bool, odd: bool) -> bool
     ensures { λ r. ⌜ r ≡ own measurement inside odd ⌝ }
 {
     match measurement {
-        1 => !inside && odd,
-        2 => inside && !odd,
-        3 => inside && odd,
-        4 => odd,
-        5 => inside != odd,
-        6 => inside,
+        PLANE_XY => !inside && odd,
+        PLANE_YZ => inside && !odd,
+        PLANE_XZ => inside && odd,
+        PAULI_X => odd,
+        PAULI_Y => inside != odd,
+        PAULI_Z => inside,
         _ => false,
     }
 }
 
 // Has each entry a measurement (17)?
-pub fn check_measured(n: u8, measured: &[u8], entries: NodeSet) -> Asked
+pub(crate) fn check_measured(n: u8, measured: &[u8], entries: NodeSet) -> Asked
     ensures { λ r. ⌜ askedOf r ≡ each n (measuredAsk (jobIn n [] noNodes noNodes (now (measured .entry))) (flowIn [] entries [])) ⌝ }
 {
     let all = NodeSet::below(n as usize);
-    let some = nodes_from(n, measured, 1);
+    let some = nodes_from(n, measured, PLANE_XY);
     let bare = entries.intersection(all).difference(some);
     if bare.is_empty() {
         return Asked::Passed;
@@ -126,7 +138,10 @@ fn check_codomain(n: u8, inputs: NodeSet, sets: &[u64]) -> Asked
     let mut u: u8 = 0;
     while u < n {
         let all = NodeSet::below(n as usize);
-        let wrong = set_at(sets, u).intersection(inputs).intersection(all).without(u);
+        let wrong = set_at(sets, u)
+            .intersection(inputs)
+            .intersection(all)
+            .without(u);
         if !wrong.is_empty() {
             return Asked::Refused(Refused::InvalidFlowCodomain(u));
         }
@@ -152,7 +167,7 @@ fn check_members(n: u8, outputs: NodeSet, sets: &[u64]) -> Asked
 }
 
 // What the questions do not look at, the graph and the layers, is left empty in the contract.
-pub fn check_domain(n: u8, inputs: NodeSet, outputs: NodeSet, sets: &[u64]) -> Asked
+pub(crate) fn check_domain(n: u8, inputs: NodeSet, outputs: NodeSet, sets: &[u64]) -> Asked
     ensures { λ r. ⌜ askedOf r ≡ checkDomain (jobIn n [] inputs outputs []) (flowIn [] noNodes (now (sets .entry))) ⌝ }
 {
     let a = check_codomain(n, inputs, sets);
@@ -181,7 +196,7 @@ fn check_layer(mode: u8, output: bool, u: u8, layer: u8) -> Asked
     Asked::Passed
 }
 
-pub fn check_initial(n: u8, mode: u8, outputs: NodeSet, layers: &[u8]) -> Asked
+pub(crate) fn check_initial(n: u8, mode: u8, outputs: NodeSet, layers: &[u8]) -> Asked
     ensures { λ r. ⌜ askedOf r ≡ checkInitial (jobIn n [] noNodes outputs []) (flowIn (now (layers .entry)) noNodes []) mode ⌝ }
 {
     let mut u: u8 = 0;

@@ -1,4 +1,4 @@
-use mathlib.Core.Path.{_≡_, refl, sym, ap, _∙_}
+use mathlib.Core.Path.{_≡_, sym, ap, _∙_}
 use Rattle.finder.specs.Job.{Job}
 use Rattle.finder.specs.Finder.{jobIn}
 use Rattle.tables.specs.FlowFile.{Flow}
@@ -8,13 +8,6 @@ use Rattle.tables.proofs.AskingDefinition.{verify-domain, verify-initia
 use borrow.Author.Needs.{needs}
 use Rattle.tables.proofs.verify_loaded.Statement.{statement}
 use Rattle.tables.proofs.verify_loaded.Tie as tie
-use Rattle.tables.proofs.verify_loaded.Reads as reads
-use Rattle.tables.proofs.verify_loaded.Lts as lts
-use Rattle.tables.proofs.flow.check_definition.Reads as flow-check-definition-reads
-use Rattle.tables.proofs.gflow.check_definition.Reads as gflow-check-definition-reads
-use Rattle.tables.proofs.pflow.check_definition.Reads as pflow-check-definition-reads
-use Rattle.tables.proofs.validate.check_domain.Reads as check-domain-reads
-use Rattle.tables.proofs.validate.check_initial.Reads as check-initial-reads
 
 abbrev G : tie.Start → Job
 G s = jobIn (s .args .n) (s .args .graph .now) (s .args .inputs) (s .args .outputs) (s .args .measured .now)
@@ -31,36 +24,30 @@ left c =
     let s = a .before .before .before .before .before in
     verify-definition (G s) (F s) (s .args .mode) (sym (a .check-domain .ensures) ∙ ap askedOf (t .enum-told .given .1)) (sym (b .check-initial .ensures) ∙ ap askedOf (c .enum-told3 .given .1))
 
--- src/lib.rt:78:9
 check-domain-requires : tie.Need-check-domain-requires
 check-domain-requires c κs = search needs
 
 enum-told : tie.Need-enum-told
 enum-told c = search needs
 
--- src/lib.rt:80:9
 enum-told-2 : tie.Need-enum-told-2
 enum-told-2 c = search needs
 
--- src/lib.rt:80:9
 returns : tie.Need-returns
 returns c = let a = c .before .before in
     let s = a .before .before .before .before .before in
     let t = ap askedOf (c .enum-told2 .given .1) in
     t ∙ sym (verify-domain (G s) (F s) (s .args .mode) _ (sym (a .check-domain .ensures) ∙ t))
 
--- src/lib.rt:82:9
 check-initial-requires : tie.Need-check-initial-requires
 check-initial-requires c κs = search needs
 
 enum-told-3 : tie.Need-enum-told-3
 enum-told-3 c = search needs
 
--- src/lib.rt:84:9
 enum-told-4 : tie.Need-enum-told-4
 enum-told-4 c = search needs
 
--- src/lib.rt:84:9
 returns-2 : tie.Need-returns-2
 returns-2 c = let b = c .before .before in
     let a = b .before .before .before in
@@ -68,33 +55,27 @@ returns-2 c = let b = c .before .before in
     let t = ap askedOf (c .enum-told4 .given .1) in
     t ∙ sym (verify-initial (G s) (F s) (s .args .mode) (sym (a .check-domain .ensures) ∙ ap askedOf (b .before .enum-told .given .1)) _ (sym (b .check-initial .ensures) ∙ t))
 
--- src/lib.rt:87:9
 check-definition-requires : tie.Need-check-definition-requires
 check-definition-requires c κs = search needs
 
--- src/lib.rt:87:9
 returns-3 : tie.Need-returns-3
 unfolding nodeAsk causalAsk
 returns-3 c = let i = c .before in
     let s = i .before .before .before .before .before .before .before .before .before .before .before in
     c .check-definition .ensures ∙ ap (checkDefinition (G s) (F s)) (sym (i .if1 .taken)) ∙ sym (left (i .before))
 
--- src/lib.rt:90:9
 check-definition-requires-2 : tie.Need-check-definition-requires-2
 check-definition-requires-2 c κs = search needs
 
--- src/lib.rt:90:9
 returns-4 : tie.Need-returns-4
 unfolding nodeAsk causalAsk
 returns-4 c = let i = c .before in
     let s = i .before .before .before .before .before .before .before .before .before .before .before .before in
     c .check-definition2 .ensures ∙ ap (checkDefinition (G s) (F s)) (sym (i .if2 .taken)) ∙ sym (left (i .before .before))
 
--- src/lib.rt:92:5
 check-definition-requires-3 : tie.Need-check-definition-requires-3
 check-definition-requires-3 c κs = search needs
 
--- src/lib.rt:65:1
 returns-5 : tie.Need-returns-5
 unfolding nodeAsk causalAsk
 returns-5 c = let i = c .before in

@@ -1,43 +1,24 @@
-use mathlib.Core.Path.{_≡_, refl, sym, ap, ap₂, _∙_, fun-ext}
-use mathlib.Core.Bool.{Bool, true, false, cond, not, _&&_, _||_}
-use mathlib.Core.Option.{Option, none, some}
-use mathlib.Core.List.{List, []}
-use Prim.Native.Nat.{ℕ, _+_, _-_, _≤_, _<_}
+use mathlib.Core.Path.{_≡_, sym, ap, _∙_, fun-ext}
+use mathlib.Core.Bool.{Bool, _&&_}
+use mathlib.Core.List.{[]}
+use Prim.Native.Nat.{ℕ, _<_}
 use native.Mathlib.Omega.{arith}
-use lib.Dec.{T, eqb, leb, ltb, ltb→lt}
-use lib.ListN.{length, getD}
-use borrow.Author.Tests.{not-true, not-false, lt-ltb, le-ltb, eq-eqb, ne-eqb}
-use Rattle.nodes.specs.Bit.{_⊕_}
-use Rattle.nodes.specs.Row.{anyBelow, lowest, parity, count}
+use lib.Dec.{T, leb, ltb, ltb→lt}
+use Rattle.nodes.specs.Row.{anyBelow, lowest, count}
 use Rattle.nodes.specs.NodeSet.{member, highest, capacity, wordsOf}
 use Rattle.nodes.specs.SetTable.{setAt}
 use Rattle.nodes.proofs.NodeSet.{member-past}
 use Rattle.nodes.proofs.SetTable.{set-past}
 use Rattle.nodes.proofs.Remove.{count-lowest}
-use Rattle.nodes.proofs.Logic.{is-true, is-false, unless-in, unless-out, and-l, and-r}
-use Rattle.finder.specs.Job.{Job, odd, own, isXorY, isYorZ, pauliY}
+use Rattle.nodes.proofs.Logic.{unless-in, unless-out, and-l, and-r}
 use Rattle.finder.specs.Finder.{jobIn}
-use Rattle.tables.specs.Answer.{Refusal}
-use Rattle.tables.specs.JobFile.{modeCausal, modePlanes, modePauli}
-use Rattle.tables.specs.FlowFile.{Flow}
-use Rattle.tables.specs.Verdict.{ask, _next_, each, eachFrom, later, memberAsk, oddAsk, yAsk, ownAsk, neighbourAsk, causalAsk, causalNodeAsk, measuredAsk, definitionAsk}
-use Rattle.tables.specs.Loaded.{flowIn, noNodes, within, askedOf, firstIn, Sorted}
-use Rattle.tables.proofs.Asking.{each-start, each-end, each-no, each-yes, first-none, first-some, ask-yes, ask-no, next-stops, next-goes}
-use Rattle.tables.proofs.AskingNodes.{odd-past, order-plain, order-excused, y-first}
-use Rattle.tables.proofs.AskingDefinition.{node-output, node-members, node-odd, node-rest, planes-y, pair-late, pair-around, pair-last, only, only-start, only-none, only-at, only-next, causal-node, range-cut, two-of, one-of}
+use Rattle.tables.specs.JobFile.{modeCausal}
+use Rattle.tables.specs.Verdict.{each, causalAsk}
+use Rattle.tables.specs.Loaded.{flowIn, noNodes, within, askedOf}
+use Rattle.tables.proofs.AskingDefinition.{node-output, only, only-start, only-none, only-at, only-next, causal-node}
 use borrow.Author.Needs.{needs}
 use Rattle.tables.proofs.flow.check_node.Statement.{statement}
 use Rattle.tables.proofs.flow.check_node.Tie as tie
-use Rattle.tables.proofs.flow.check_node.Reads as reads
-use Rattle.tables.proofs.flow.check_node.Lts as lts
-use Rattle.nodes.proofs.utils.NodeSet.below.Reads as below-reads
-use Rattle.nodes.proofs.utils.NodeSet.has.Reads as has-reads
-use Rattle.nodes.proofs.utils.NodeSet.intersection.Reads as intersection-reads
-use Rattle.nodes.proofs.utils.NodeSet.is_empty.Reads as is-empty-reads
-use Rattle.nodes.proofs.utils.NodeSet.lowest.Reads as lowest-reads
-use Rattle.nodes.proofs.utils.NodeSet.without_lowest.Reads as without-lowest-reads
-use Rattle.nodes.proofs.utils.set_at.Reads as set-at-reads
-use Rattle.tables.proofs.flow.check_pair.Reads as check-pair-reads
 
 abbrev Inv-loop : tie.InvT-loop
 Inv-loop n graph layers sets i s₀ s = ((k : ℕ) → T (member s k) → k < n) × (each n (only (setAt sets i) (causalAsk (jobIn n graph noNodes noNodes []) (flowIn layers noNodes []) i)) ≡ each n (only (member s) (causalAsk (jobIn n graph noNodes noNodes []) (flowIn layers noNodes []) i)))
@@ -48,27 +29,21 @@ abbrev μ-loop : tie.MeasureT-loop
 below : (n : ℕ) (s : ℕ → Bool) (k : ℕ) → T (s k && within n k) → k < n
 below n s k t = ltb→lt k n (and-l (ltb k n) (leb k highest) (and-r (s k) (within n k) t))
 
--- src/flow.rt:46:8
 has-requires : tie.Need-has-requires Inv-loop μ-loop
 has-requires c κs = search needs
 
--- src/flow.rt:47:9
 returns : tie.Need-returns Inv-loop μ-loop
 returns c = let s = c .before .before .before .before .before in node-output (jobIn (s .args .n) (s .args .graph .now) noNodes (s .args .outputs) []) (flowIn (s .args .layers .now) noNodes (s .args .sets .now)) modeCausal (s .args .i) (sym (c .before .has .ensures) ∙ c .if1 .taken)
 
--- src/flow.rt:49:17
 set-at-requires : tie.Need-set-at-requires Inv-loop μ-loop
 set-at-requires c κs = search needs
 
--- src/flow.rt:49:46
 below-requires : tie.Need-below-requires Inv-loop μ-loop
 below-requires c κs = search needs
 
--- src/flow.rt:49:9
 intersection-requires : tie.Need-intersection-requires Inv-loop μ-loop
 intersection-requires c κs = search needs
 
--- src/flow.rt:50:5
 loop-holds : tie.Need-loop-holds Inv-loop μ-loop
 loop-holds c = let b = c .before in
     let e = b .before in
@@ -76,26 +51,21 @@ loop-holds c = let b = c .before in
     let s : member (c .intersection .result) ≡ (λ k. setAt (a .sets .now) (a .i) k && within (a .n) k) = c .intersection .ensures ∙ fun-ext (λ k. rw (e .set-at .ensures, b .below .ensures)) in
     (λ k t. below (a .n) (setAt (a .sets .now) (a .i)) k (rw s at t), only-start (a .n) (setAt (a .sets .now) (a .i)) (causalAsk (jobIn (a .n) (a .graph .now) noNodes noNodes []) (flowIn (a .layers .now) noNodes []) (a .i)) (λ k l. set-past (a .sets .now) (a .i) k l) ∙ ap (λ (f : ℕ → Bool). each (a .n) (only f (causalAsk (jobIn (a .n) (a .graph .now) noNodes noNodes []) (flowIn (a .layers .now) noNodes []) (a .i)))) (sym s))
 
--- src/flow.rt:50:12
 is-empty-requires : tie.Need-is-empty-requires Inv-loop μ-loop
 is-empty-requires c κs = search needs
 
--- src/flow.rt:51:49
 lowest-requires : tie.Need-lowest-requires Inv-loop μ-loop
 lowest-requires c κs = search needs
 
--- src/flow.rt:51:13
 check-pair-requires : tie.Need-check-pair-requires Inv-loop μ-loop
 check-pair-requires c κs = search needs
 
 enum-told : tie.Need-enum-told Inv-loop μ-loop
 enum-told c = search needs
 
--- src/flow.rt:53:13
 enum-told-2 : tie.Need-enum-told-2 Inv-loop μ-loop
 enum-told-2 c = search needs
 
--- src/flow.rt:53:13
 returns-2 : tie.Need-returns-2 Inv-loop μ-loop
 unfolding causalAsk
 returns-2 c = let p = c .before .before in
@@ -109,11 +79,9 @@ returns-2 c = let p = c .before .before in
     let t = ap askedOf (c .enum-told2 .given .1) in
     t ∙ sym ((causal-node (jobIn (a .n) (a .graph .now) noNodes (a .outputs) []) (flowIn (a .layers .now) noNodes (a .sets .now)) (a .i) (sym (o .has .ensures) ∙ x .if1 .left)) ∙ l .inv .1 ∙ only-at (a .n) (member (l .s)) (causalAsk (jobIn (a .n) (a .graph .now) noNodes noNodes []) (flowIn (a .layers .now) noNodes []) (a .i)) left (w .lowest .result) (w .lowest .ensures) (l .inv .0) _ (sym (p .check-pair .ensures) ∙ t))
 
--- src/flow.rt:55:9
 without-lowest-requires : tie.Need-without-lowest-requires Inv-loop μ-loop
 without-lowest-requires c κs = search needs
 
--- src/flow.rt:50:5
 loop-less : tie.Need-loop-less Inv-loop μ-loop
 loop-less c = let e = c .before .before .before .before .before .before in
     let s = e .before .loop .s in
@@ -121,7 +89,6 @@ loop-less c = let e = c .before .before .before .before .before .before in
     let fewer = ap (count capacity) (c .without-lowest .ensures) in
     omega (arith, count-lowest capacity (member s) left, fewer)
 
--- src/flow.rt:50:5
 loop-again : tie.Need-loop-again Inv-loop μ-loop
 loop-again c = let p = c .before .before .before in
     let w = p .before in
@@ -129,12 +96,12 @@ loop-again c = let p = c .before .before .before in
     let l = e .before .loop in
     let a = e .before .before .before .before .before .before .before .before .before .before .args in
     let left = unless-in (e .is-empty .result) (anyBelow capacity (member (l .s))) (e .is-empty .ensures) (w .before .if2 .taken) in
-    let t = ap askedOf (c .before .enum-told .given .1) in
-    (λ k m. l .inv .0 k (and-l (member (l .s) k) _ (rw (c .without-lowest .ensures) at m)),
-    l .inv .1 ∙ only-next (a .n) (member (l .s)) (causalAsk (jobIn (a .n) (a .graph .now) noNodes noNodes []) (flowIn (a .layers .now) noNodes []) (a .i)) left (w .lowest .result) (w .lowest .ensures) (sym (p .check-pair .ensures) ∙ t)
-    ∙ ap (λ (f : ℕ → Bool). each (a .n) (only f (causalAsk (jobIn (a .n) (a .graph .now) noNodes noNodes []) (flowIn (a .layers .now) noNodes []) (a .i)))) (sym (c .without-lowest .ensures)))
+    let t = ap askedOf (c .before .enum-told .given .1) in (
+      λ k m. l .inv .0 k (and-l (member (l .s) k) _ (rw (c .without-lowest .ensures) at m)),
+      l .inv .1 ∙ only-next (a .n) (member (l .s)) (causalAsk (jobIn (a .n) (a .graph .now) noNodes noNodes []) (flowIn (a .layers .now) noNodes []) (a .i)) left (w .lowest .result) (w .lowest .ensures) (sym (p .check-pair .ensures) ∙ t)
+          ∙ ap (λ (f : ℕ → Bool). each (a .n) (only f (causalAsk (jobIn (a .n) (a .graph .now) noNodes noNodes []) (flowIn (a .layers .now) noNodes []) (a .i)))) (sym (c .without-lowest .ensures)),
+    )
 
--- src/flow.rt:36:1
 returns-3 : tie.Need-returns-3 Inv-loop μ-loop
 unfolding causalAsk
 returns-3 c = let e = c .before in

@@ -1,41 +1,22 @@
-use mathlib.Core.Path.{_≡_, refl, sym, ap, ap₂, _∙_, fun-ext}
-use mathlib.Core.Bool.{Bool, true, false, cond, not, _&&_, _||_}
-use mathlib.Core.Option.{Option, none, some}
-use mathlib.Core.List.{List, []}
-use Prim.Native.Nat.{ℕ, _+_, _-_, _≤_, _<_}
+use mathlib.Core.Path.{_≡_, sym, ap, _∙_}
+use mathlib.Core.Bool.{Bool, true}
+use mathlib.Core.List.{[]}
+use Prim.Native.Nat.{ℕ, _≤_, _<_}
 use native.Mathlib.Omega.{arith}
-use lib.Dec.{T, eqb, leb, ltb, ltb→lt}
-use lib.ListN.{length, getD}
-use borrow.Author.Tests.{not-true, not-false, lt-ltb, le-ltb, eq-eqb, ne-eqb}
-use Rattle.nodes.specs.Bit.{_⊕_}
-use Rattle.nodes.specs.Row.{anyBelow, lowest, parity, count}
-use Rattle.nodes.specs.NodeSet.{member, highest, capacity, wordsOf}
-use Rattle.nodes.specs.SetTable.{setAt}
-use Rattle.nodes.proofs.NodeSet.{member-past}
+use borrow.Author.Tests.{not-true, not-false, lt-ltb, le-ltb}
+use Rattle.nodes.specs.NodeSet.{member}
 use Rattle.nodes.proofs.SetTable.{set-past}
-use Rattle.nodes.proofs.Remove.{count-lowest}
-use Rattle.nodes.proofs.Logic.{is-true, is-false, unless-in, unless-out, and-l, and-r}
-use Rattle.finder.specs.Job.{Job, odd, own, isXorY, isYorZ, pauliY}
+use Rattle.finder.specs.Job.{Job}
 use Rattle.finder.specs.Finder.{jobIn}
-use Rattle.tables.specs.Answer.{Refusal}
-use Rattle.tables.specs.JobFile.{modeCausal, modePlanes, modePauli}
 use Rattle.tables.specs.FlowFile.{Flow}
-use Rattle.tables.specs.Verdict.{ask, _next_, each, eachFrom, later, memberAsk, oddAsk, yAsk, ownAsk, neighbourAsk, causalAsk, causalNodeAsk, measuredAsk, definitionAsk}
-use Rattle.tables.specs.Loaded.{flowIn, noNodes, within, askedOf, firstIn, Sorted}
-use Rattle.tables.proofs.Asking.{each-start, each-end, each-no, each-yes, first-none, first-some, ask-yes, ask-no, next-stops, next-goes}
-use Rattle.tables.proofs.AskingNodes.{odd-past, order-plain, order-excused, y-first}
-use Rattle.tables.proofs.AskingDefinition.{node-output, node-members, node-odd, node-rest, planes-y, pair-late, pair-around, pair-last, only, only-start, only-none, only-at, only-next, causal-node, range-cut, two-of, one-of}
+use Rattle.tables.specs.Verdict.{each, later, neighbourAsk}
+use Rattle.tables.specs.Loaded.{flowIn, noNodes, askedOf}
+use Rattle.tables.proofs.Asking.{ask-yes, ask-no}
+use Rattle.tables.proofs.AskingNodes.{order-plain}
+use Rattle.tables.proofs.AskingDefinition.{pair-late, pair-around, pair-last}
 use borrow.Author.Needs.{needs}
 use Rattle.tables.proofs.flow.check_pair.Statement.{statement}
 use Rattle.tables.proofs.flow.check_pair.Tie as tie
-use Rattle.tables.proofs.flow.check_pair.Reads as reads
-use Rattle.tables.proofs.flow.check_pair.Lts as lts
-use Rattle.nodes.proofs.utils.NodeSet.has.Reads as has-reads
-use Rattle.nodes.proofs.utils.NodeSet.intersection.Reads as intersection-reads
-use Rattle.nodes.proofs.utils.set_at.Reads as set-at-reads
-use Rattle.tables.proofs.validate.byte_at.Reads as byte-at-reads
-use Rattle.tables.proofs.validate.in_order.Reads as in-order-reads
-use Rattle.tables.proofs.validate.not_later.Reads as not-later-reads
 
 abbrev G : tie.Start → Job
 G s = jobIn (s .args .n) (s .args .graph .now) noNodes noNodes []
@@ -63,45 +44,36 @@ around c =
     (λ k. ap (λ (f : ℕ → Bool). f k) (d .intersection .ensures) ∙ rw (e .set-at .ensures, m .not-later .ensures))
     ∙ sym (c .in-order .ensures)
 
--- src/flow.rt:21:8
 byte-at-requires : tie.Need-byte-at-requires
 byte-at-requires c κs = search needs
 
--- src/flow.rt:21:30
 byte-at-requires-2 : tie.Need-byte-at-requires-2
 byte-at-requires-2 c κs = search needs
 
--- src/flow.rt:22:9
 returns : tie.Need-returns
 returns c = let t = c .before in
     let s = t .before .before .before .before in
     let l : t .byte-at2 .result ≤ t .before .byte-at .result = omega arith in
     pair-late (G s) (F s) (s .args .i) (s .args .k) (rw (← t .before .byte-at .ensures, ← t .byte-at2 .ensures) (le-ltb _ _ l))
 
--- src/flow.rt:24:9
 set-at-requires : tie.Need-set-at-requires
 set-at-requires c κs = search needs
 
--- src/flow.rt:25:45
 not-later-requires : tie.Need-not-later-requires
 not-later-requires c κs = search needs
 
--- src/flow.rt:25:25
 intersection-requires : tie.Need-intersection-requires
 intersection-requires c κs = search needs
 
--- src/flow.rt:25:9
 in-order-requires : tie.Need-in-order-requires
 in-order-requires c κs = search needs
 
 enum-told : tie.Need-enum-told
 enum-told c = search needs
 
--- src/flow.rt:27:9
 enum-told-2 : tie.Need-enum-told-2
 enum-told-2 c = search needs
 
--- src/flow.rt:27:9
 returns-2 : tie.Need-returns-2
 returns-2 c = let m = c .before .before in
     let e = m .before .before .before in
@@ -109,11 +81,9 @@ returns-2 c = let m = c .before .before in
     let t = ap askedOf (c .enum-told2 .given .1) in
     t ∙ sym (pair-around (G s) (F s) (s .args .i) (s .args .k) (late e) _ (around m ∙ t))
 
--- src/flow.rt:29:9
 has-requires : tie.Need-has-requires
 has-requires c κs = search needs
 
--- src/flow.rt:30:9
 returns-3 : tie.Need-returns-3
 returns-3 c = let h = c .before in
     let t = h .before in
@@ -123,7 +93,6 @@ returns-3 c = let h = c .before in
     sym (pair-last (G s) (F s) (s .args .i) (s .args .k) (late e) (around m ∙ ap askedOf (t .enum-told .given .1))
     ∙ ask-no (G s .edge (s .args .k) (s .args .i)) 18 (s .args .i) (s .args .k) (sym (h .has .ensures ∙ rw (e .set-at .ensures)) ∙ not-true _ (c .if2 .taken)))
 
--- src/flow.rt:18:1
 returns-4 : tie.Need-returns-4
 returns-4 c = let h = c .before in
     let t = h .before in

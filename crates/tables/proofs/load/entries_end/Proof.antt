@@ -7,8 +7,6 @@ use Rattle.tables.proofs.ReadingEntries.{entries-end, entries-short, en
 use borrow.Author.Needs.{needs}
 use Rattle.tables.proofs.load.entries_end.Statement.{statement}
 use Rattle.tables.proofs.load.entries_end.Tie as tie
-use Rattle.tables.proofs.load.entries_end.Reads as reads
-use Rattle.tables.proofs.load.entries_end.Lts as lts
 
 abbrev Inv-loop : tie.InvT-loop
 Inv-loop sets i₀ i = (i ≤ length sets) × (framed (entriesOf sets) ≡ framed (entriesOf (drop i sets)))
@@ -16,57 +14,45 @@ Inv-loop sets i₀ i = (i ≤ length sets) × (framed (entriesOf sets) ≡ frame
 abbrev μ-loop : tie.MeasureT-loop
 μ-loop sets i₀ i = length sets - i
 
--- src/load.rt:57:5
 loop-holds : tie.Need-loop-holds Inv-loop μ-loop
 loop-holds c = (search needs, refl)
 
--- src/load.rt:58:20
 sub-left : tie.Need-sub-left Inv-loop μ-loop
 sub-left c = search needs
 
--- src/load.rt:60:13
 returns : tie.Need-returns Inv-loop μ-loop
 returns c = let l = c .before .before .loop in
     let p = c .before .before .before .args .sets .now in
     sym (l .inv .1 ∙ ap framed (entries-short p (l .i) (omega arith) (omega arith)))
 
--- src/load.rt:62:26
 add-count : tie.Need-add-count Inv-loop μ-loop
 add-count c = search needs
 
--- src/load.rt:62:21
 shared-slice-read-count : tie.Need-shared-slice-read-count Inv-loop μ-loop
 shared-slice-read-count c = search needs
 
--- src/load.rt:62:21
 cast-count : tie.Need-cast-count Inv-loop μ-loop
 cast-count c = omega (arith, c .shared-slice-known .given (c .before .before .before .loop .i + 1))
 
--- src/load.rt:64:13
 returns-2 : tie.Need-returns-2 Inv-loop μ-loop
 returns-2 c = let l = c .before .before .before .before .loop in
     let p = c .before .before .before .before .before .args .sets .now in
     sym (l .inv .1 ∙ ap framed (entries-cut p (l .i) (omega arith) (omega arith)))
 
--- src/load.rt:66:14
 add-i : tie.Need-add-i Inv-loop μ-loop
 add-i c = search needs
 
--- src/load.rt:66:9
 add-i-2 : tie.Need-add-i-2 Inv-loop μ-loop
 add-i-2 c = search needs
 
--- src/load.rt:57:5
 loop-less : tie.Need-loop-less Inv-loop μ-loop
 loop-less c = search needs
 
--- src/load.rt:57:5
 loop-again : tie.Need-loop-again Inv-loop μ-loop
 loop-again c = let l = c .before .before .before .before .loop in
     let p = c .before .before .before .before .before .args .sets .now in
     (search needs, l .inv .1 ∙ framed-next p (l .i) (l .i + (2 + getD p (l .i + 1) 0)) (omega arith) (omega arith))
 
--- src/load.rt:53:1
 returns-3 : tie.Need-returns-3 Inv-loop μ-loop
 returns-3 c = let l = c .before .loop in
     let p = c .before .before .args .sets .now in

@@ -1,31 +1,23 @@
-use mathlib.Core.Path.{_≡_, refl, sym, ap, ap₂, _∙_, fun-ext}
-use mathlib.Core.Bool.{Bool, true, false, _&&_, _||_}
-use mathlib.Core.List.{List}
-use Prim.Native.Nat.{ℕ, _+_, _-_, _≤_, _<_}
+use mathlib.Core.Path.{_≡_, refl, sym, ap, _∙_}
+use mathlib.Core.Bool.{Bool, true, _&&_, _||_}
+use Prim.Native.Nat.{ℕ, _+_, _-_, _≤_}
 use native.Mathlib.Omega.{arith}
-use lib.Dec.{eqb, leb, ltb}
+use lib.Dec.{eqb}
 use lib.ListN.{length, getD, drop, length-replicate}
-use borrow.Author.Tests.{le-leb, leb-true}
+use borrow.Author.Tests.{le-leb}
 use Rattle.nodes.specs.NodeSet.{member, highest, capacity}
 use Rattle.nodes.specs.SetTable.{setAt}
-use Rattle.nodes.proofs.Logic.{and-all, or-none}
+use Rattle.nodes.proofs.Logic.{and-all}
 use Rattle.finder.specs.Finder.{tableWords}
-use Rattle.tables.specs.JobFile.{all, has, joined}
+use Rattle.tables.specs.JobFile.{has}
 use Rattle.tables.specs.FlowFile.{entriesOf, framed, listed, allEntries, entryBelow, setIn, entryIn}
 use Rattle.tables.specs.Views.{between}
 use Rattle.tables.proofs.ReadingEntries.{two-more, fits, framed-next}
 use Rattle.tables.proofs.ReadingRecords.{has-small}
-use Rattle.tables.proofs.LoadingTables.{put-union, cleared, all-at, joined-end, joined-more, set-end, entry-end, set-more, entry-more, below-out}
+use Rattle.tables.proofs.LoadingTables.{cleared, set-end, entry-end, set-more, entry-more, below-out}
 use borrow.Author.Needs.{needs}
 use Rattle.tables.proofs.load.load_entries.Statement.{statement}
 use Rattle.tables.proofs.load.load_entries.Tie as tie
-use Rattle.tables.proofs.load.load_entries.Reads as reads
-use Rattle.tables.proofs.load.load_entries.Lts as lts
-use Rattle.nodes.proofs.utils.NodeSet.empty.Reads as empty-reads
-use Rattle.nodes.proofs.utils.NodeSet.with.Reads as with-reads
-use Rattle.nodes.proofs.utils.clear_table.Reads as clear-table-reads
-use Rattle.tables.proofs.common.set_of.Reads as set-of-reads
-use Rattle.tables.proofs.load.add_set.Reads as add-set-reads
 
 abbrev Inv-loop : tie.InvT-loop
 Inv-loop sets table₀ entries₀ i₀ table entries i = (i ≤ length sets) × (length table ≡ tableWords) × (framed (entriesOf (drop i sets)) ≡ true) × (allEntries (entryBelow capacity) (listed (entriesOf (drop i sets))) ≡ true)
@@ -35,27 +27,26 @@ Inv-loop sets table₀ entries₀ i₀ table entries i = (i ≤ length sets) × 
 abbrev μ-loop : tie.MeasureT-loop
 μ-loop sets table₀ entries₀ i₀ table entries i = length sets - i
 
--- src/load.rt:59:5
 clear-table-requires : tie.Need-clear-table-requires Inv-loop μ-loop
 clear-table-requires c κs = search needs
 
--- src/load.rt:60:9
 empty-requires : tie.Need-empty-requires Inv-loop μ-loop
 empty-requires c κs = search needs
 
--- src/load.rt:62:5
 loop-holds : tie.Need-loop-holds Inv-loop μ-loop
 loop-holds c = let t = c .before .before .before in
-    let s = t .before .before .before .before in
-    (search needs, ap length (t .clear-table .ensures) ∙ length-replicate _ 0 ∙ s .pre .0, s .pre .1 .0, s .pre .1 .1,
-    (λ u v. ap (λ (b : Bool). b || setIn (listed (entriesOf (s .args .sets .now))) u v) (sym (cleared _ (length (s .args .table .now)) (t .clear-table .ensures) u v))),
-    λ u. ap (λ (f : ℕ → Bool). f u || entryIn (listed (entriesOf (s .args .sets .now))) u) (sym (c .empty .ensures)))
+    let s = t .before .before .before .before in (
+      search needs,
+      ap length (t .clear-table .ensures) ∙ length-replicate _ 0 ∙ s .pre .0,
+      s .pre .1 .0,
+      s .pre .1 .1,
+      (λ u v. ap (λ (b : Bool). b || setIn (listed (entriesOf (s .args .sets .now))) u v) (sym (cleared _ (length (s .args .table .now)) (t .clear-table .ensures) u v))),
+      λ u. ap (λ (f : ℕ → Bool). f u || entryIn (listed (entriesOf (s .args .sets .now))) u) (sym (c .empty .ensures)),
+    )
 
--- src/load.rt:63:17
 shared-slice-read-u : tie.Need-shared-slice-read-u Inv-loop μ-loop
 shared-slice-read-u c = search needs
 
--- src/load.rt:64:21
 add-start : tie.Need-add-start Inv-loop μ-loop
 add-start c = let l = c .before .before .loop in
     let p = c .before .before .before .before .before .before .before .before .before .before .args .sets .now in
@@ -63,7 +54,6 @@ add-start c = let l = c .before .before .loop in
     let y = fits p (l .i) (l .inv .2) (omega arith) in
     search needs
 
--- src/load.rt:65:32
 add-end : tie.Need-add-end Inv-loop μ-loop
 add-end c = let l = c .before .before .loop in
     let p = c .before .before .before .before .before .before .before .before .before .before .args .sets .now in
@@ -71,7 +61,6 @@ add-end c = let l = c .before .before .loop in
     let y = fits p (l .i) (l .inv .2) (omega arith) in
     search needs
 
--- src/load.rt:65:27
 shared-slice-read-end : tie.Need-shared-slice-read-end Inv-loop μ-loop
 shared-slice-read-end c = let l = c .before .before .before .loop in
     let p = c .before .before .before .before .before .before .before .before .before .before .before .args .sets .now in
@@ -79,11 +68,9 @@ shared-slice-read-end c = let l = c .before .before .before .loop in
     let y = fits p (l .i) (l .inv .2) (omega arith) in
     omega arith
 
--- src/load.rt:65:27
 cast-end : tie.Need-cast-end Inv-loop μ-loop
 cast-end c = omega (arith, c .shared-slice-known3 .given (c .before .before .before .loop .i + 1))
 
--- src/load.rt:65:19
 add-end-2 : tie.Need-add-end-2 Inv-loop μ-loop
 add-end-2 c = let l = c .before .before .before .loop in
     let p = c .before .before .before .before .before .before .before .before .before .before .before .args .sets .now in
@@ -91,7 +78,6 @@ add-end-2 c = let l = c .before .before .before .loop in
     let y = fits p (l .i) (l .inv .2) (omega arith) in
     search needs
 
--- src/load.rt:66:30
 sub-set-of : tie.Need-sub-set-of Inv-loop μ-loop
 sub-set-of c = let l = c .before .before .before .loop in
     let p = c .before .before .before .before .before .before .before .before .before .before .before .args .sets .now in
@@ -99,7 +85,6 @@ sub-set-of c = let l = c .before .before .before .loop in
     let y = fits p (l .i) (l .inv .2) (omega arith) in
     search needs
 
--- src/load.rt:66:30
 part-set-of-start : tie.Need-part-set-of-start Inv-loop μ-loop
 part-set-of-start c = let l = c .before .before .before .loop in
     let p = c .before .before .before .before .before .before .before .before .before .before .before .args .sets .now in
@@ -107,7 +92,6 @@ part-set-of-start c = let l = c .before .before .before .loop in
     let y = fits p (l .i) (l .inv .2) (omega arith) in
     search needs
 
--- src/load.rt:66:30
 part-set-of-end : tie.Need-part-set-of-end Inv-loop μ-loop
 part-set-of-end c = let l = c .before .before .before .loop in
     let p = c .before .before .before .before .before .before .before .before .before .before .before .args .sets .now in
@@ -115,11 +99,9 @@ part-set-of-end c = let l = c .before .before .before .loop in
     let y = fits p (l .i) (l .inv .2) (omega arith) in
     search needs
 
--- src/load.rt:66:13
 set-of-requires : tie.Need-set-of-requires Inv-loop μ-loop
 set-of-requires c κs = search needs
 
--- src/load.rt:67:9
 add-set-requires : tie.Need-add-set-requires Inv-loop μ-loop
 add-set-requires c κs = let l = c .before .before .before .before .before .before .loop in
     let p = c .before .before .before .before .before .before .before .before .before .before .before .before .before .before .args .sets .now in
@@ -130,11 +112,9 @@ add-set-requires c κs = let l = c .before .before .before .before .before .befo
     let (a, b, d) = below-out p (l .i) j e (omega arith) (l .inv .2) capacity (l .inv .3) in
     (search needs, omega arith)
 
--- src/load.rt:68:9
 with-requires : tie.Need-with-requires Inv-loop μ-loop
 with-requires c κs = search needs
 
--- src/load.rt:62:5
 loop-less : tie.Need-loop-less Inv-loop μ-loop
 loop-less c = let l = c .before .before .before .before .before .before .before .before .before .before .loop in
     let p = c .before .before .before .before .before .before .before .before .before .before .before .before .before .before .before .before .before .before .args .sets .now in
@@ -142,7 +122,6 @@ loop-less c = let l = c .before .before .before .before .before .before .before 
     let y = fits p (l .i) (l .inv .2) (omega arith) in
     omega arith
 
--- src/load.rt:62:5
 loop-again : tie.Need-loop-again Inv-loop μ-loop
 loop-again c = let l = c .before .before .before .before .before .before .before .before .before .before .loop in
     let p = c .before .before .before .before .before .before .before .before .before .before .before .before .before .before .before .before .before .before .args .sets .now in
@@ -167,16 +146,15 @@ loop-again c = let l = c .before .before .before .before .before .before .before
           (sym (put u)),
     )
 
--- src/load.rt:53:1
 same-length : tie.Need-same-length Inv-loop μ-loop
 same-length c = search needs
 
--- src/load.rt:53:1
 returns : tie.Need-returns Inv-loop μ-loop
 returns c = let l = c .before .loop in
-    let p = c .before .before .before .before .before .before .before .before .before .args .sets .now in
-    ((λ u v. sym (l .inv .4 u v ∙ set-end p (l .i) u v (setAt (l .table) u v) (omega arith))),
-    λ u. sym (l .inv .5 u ∙ entry-end p (l .i) u (member (l .entries) u) (omega arith)))
+    let p = c .before .before .before .before .before .before .before .before .before .args .sets .now in (
+      (λ u v. sym (l .inv .4 u v ∙ set-end p (l .i) u v (setAt (l .table) u v) (omega arith))),
+      λ u. sym (l .inv .5 u ∙ entry-end p (l .i) u (member (l .entries) u) (omega arith)),
+    )
 
 pub load-entries-spec : {M : Type 1} → statement M
 load-entries-spec =

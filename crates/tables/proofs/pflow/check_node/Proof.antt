@@ -1,45 +1,24 @@
-use mathlib.Core.Path.{_≡_, refl, sym, ap, ap₂, _∙_, fun-ext}
-use mathlib.Core.Bool.{Bool, true, false, cond, not, _&&_, _||_}
-use mathlib.Core.Option.{Option, none, some}
-use mathlib.Core.List.{List, []}
-use Prim.Native.Nat.{ℕ, _+_, _-_, _≤_, _<_}
-use native.Mathlib.Omega.{arith}
-use lib.Dec.{T, eqb, leb, ltb, ltb→lt}
-use lib.ListN.{length, getD}
-use borrow.Author.Tests.{not-true, not-false, lt-ltb, le-ltb, eq-eqb, ne-eqb}
-use Rattle.nodes.specs.Bit.{_⊕_}
-use Rattle.nodes.specs.Row.{anyBelow, lowest, parity, count}
-use Rattle.nodes.specs.NodeSet.{member, highest, capacity, wordsOf}
+use mathlib.Core.Path.{_≡_, refl, sym, ap, _∙_, fun-ext}
+use mathlib.Core.Bool.{Bool, false, _&&_}
+use mathlib.Core.Option.{Option}
+use Prim.Native.Nat.{ℕ}
+use lib.Dec.{eqb}
+use Rattle.nodes.specs.Row.{parity}
+use Rattle.nodes.specs.NodeSet.{member}
 use Rattle.nodes.specs.SetTable.{setAt}
-use Rattle.nodes.proofs.NodeSet.{member-past}
 use Rattle.nodes.proofs.SetTable.{set-past}
-use Rattle.nodes.proofs.Remove.{count-lowest}
-use Rattle.nodes.proofs.Logic.{is-true, is-false, unless-in, unless-out, and-l, and-r}
 use Rattle.finder.specs.Job.{Job, odd, own, isXorY, isYorZ, pauliY}
 use Rattle.finder.specs.Finder.{jobIn}
 use Rattle.tables.specs.Answer.{Refusal}
-use Rattle.tables.specs.JobFile.{modeCausal, modePlanes, modePauli}
+use Rattle.tables.specs.JobFile.{modePauli}
 use Rattle.tables.specs.FlowFile.{Flow}
-use Rattle.tables.specs.Verdict.{ask, _next_, each, eachFrom, later, memberAsk, oddAsk, yAsk, ownAsk, neighbourAsk, causalAsk, causalNodeAsk, measuredAsk, definitionAsk}
-use Rattle.tables.specs.Loaded.{flowIn, noNodes, within, askedOf, firstIn, Sorted}
-use Rattle.tables.proofs.Asking.{each-start, each-end, each-no, each-yes, first-none, first-some, ask-yes, ask-no, next-stops, next-goes}
-use Rattle.tables.proofs.AskingNodes.{odd-past, order-plain, order-excused, y-first}
-use Rattle.tables.proofs.AskingDefinition.{node-output, node-members, node-odd, node-rest, planes-y, pair-late, pair-around, pair-last, only, only-start, only-none, only-at, only-next, causal-node, range-cut, two-of, one-of}
+use Rattle.tables.specs.Verdict.{ask, _next_, each, memberAsk, oddAsk, yAsk, ownAsk, definitionAsk}
+use Rattle.tables.specs.Loaded.{flowIn, noNodes, askedOf, firstIn}
+use Rattle.tables.proofs.AskingNodes.{odd-past, order-excused, y-first}
+use Rattle.tables.proofs.AskingDefinition.{node-output, node-members, node-odd, node-rest}
 use borrow.Author.Needs.{needs}
 use Rattle.tables.proofs.pflow.check_node.Statement.{statement}
 use Rattle.tables.proofs.pflow.check_node.Tie as tie
-use Rattle.tables.proofs.pflow.check_node.Reads as reads
-use Rattle.tables.proofs.pflow.check_node.Lts as lts
-use Rattle.nodes.proofs.utils.NodeSet.difference.Reads as difference-reads
-use Rattle.nodes.proofs.utils.NodeSet.has.Reads as has-reads
-use Rattle.nodes.proofs.utils.NodeSet.intersection.Reads as intersection-reads
-use Rattle.nodes.proofs.utils.NodeSet.xor.Reads as xor-reads
-use Rattle.nodes.proofs.utils.set_at.Reads as set-at-reads
-use Rattle.tables.proofs.pflow.check_measurement.Reads as check-measurement-reads
-use Rattle.tables.proofs.validate.byte_at.Reads as byte-at-reads
-use Rattle.tables.proofs.validate.in_order.Reads as in-order-reads
-use Rattle.tables.proofs.validate.not_later.Reads as not-later-reads
-use Rattle.tables.proofs.validate.odd_of.Reads as odd-of-reads
 
 abbrev G : tie.Start → Job
 G s = jobIn (s .args .n) (s .args .graph .now) noNodes (s .args .outputs) (s .args .measured .now)
@@ -103,42 +82,33 @@ third c =
     (odd-past (s .args .n) (setAt (s .args .graph .now)) (F s .set (s .args .i)) (set-past (s .args .graph .now)))
     (λ k. ap (λ (f : ℕ → Bool). f k) (c .intersection4 .ensures) ∙ rw (m .intersection3 .ensures, x .xor .ensures, set-odd o, e .set-at .ensures, e .before .not-later .ensures, s .pre .bothFree))
 
--- src/pflow.rt:76:8
 has-requires : tie.Need-has-requires
 has-requires c κs = search needs
 
--- src/pflow.rt:77:9
 returns : tie.Need-returns
 returns c = let s = c .before .before .before .before .before .before in node-output (G s) (F s) modePauli (s .args .i) (sym (c .before .has .ensures) ∙ c .if1 .taken)
 
--- src/pflow.rt:79:9
 not-later-requires : tie.Need-not-later-requires
 not-later-requires c κs = search needs
 
--- src/pflow.rt:80:9
 set-at-requires : tie.Need-set-at-requires
 set-at-requires c κs = search needs
 
--- src/pflow.rt:82:42
 difference-requires : tie.Need-difference-requires
 difference-requires c κs = search needs
 
--- src/pflow.rt:82:25
 intersection-requires : tie.Need-intersection-requires
 intersection-requires c κs = search needs
 
--- src/pflow.rt:82:9
 in-order-requires : tie.Need-in-order-requires
 in-order-requires c κs = search needs
 
 enum-told : tie.Need-enum-told
 enum-told c = search needs
 
--- src/pflow.rt:84:9
 enum-told-2 : tie.Need-enum-told-2
 enum-told-2 c = search needs
 
--- src/pflow.rt:84:9
 returns-2 : tie.Need-returns-2
 returns-2 c = let m = c .before .before in
     let e = m .before .before .before .before in
@@ -146,30 +116,24 @@ returns-2 c = let m = c .before .before in
     let t = ap askedOf (c .enum-told2 .given .1) in
     t ∙ sym (node-members (G s) (F s) modePauli (s .args .i) (plain e) refl _ (first m ∙ t))
 
--- src/pflow.rt:86:9
 odd-of-requires : tie.Need-odd-of-requires
 odd-of-requires c κs = search needs
 
--- src/pflow.rt:88:42
 difference-requires-2 : tie.Need-difference-requires-2
 difference-requires-2 c κs = search needs
 
--- src/pflow.rt:88:25
 intersection-requires-2 : tie.Need-intersection-requires-2
 intersection-requires-2 c κs = search needs
 
--- src/pflow.rt:88:9
 in-order-requires-2 : tie.Need-in-order-requires-2
 in-order-requires-2 c κs = search needs
 
 enum-told-3 : tie.Need-enum-told-3
 enum-told-3 c = search needs
 
--- src/pflow.rt:90:9
 enum-told-4 : tie.Need-enum-told-4
 enum-told-4 c = search needs
 
--- src/pflow.rt:90:9
 returns-3 : tie.Need-returns-3
 returns-3 c = let l = c .before .before in
     let t = l .before .before .before .before .before in
@@ -179,27 +143,21 @@ returns-3 c = let l = c .before .before in
     let x = ap askedOf (c .enum-told4 .given .1) in
     x ∙ sym (node-odd (G s) (F s) modePauli (s .args .i) (plain e) refl (first m ∙ ap askedOf (t .enum-told .given .1)) _ (second l ∙ x))
 
--- src/pflow.rt:93:17
 xor-requires : tie.Need-xor-requires
 xor-requires c κs = search needs
 
--- src/pflow.rt:93:17
 intersection-requires-3 : tie.Need-intersection-requires-3
 intersection-requires-3 c κs = search needs
 
--- src/pflow.rt:93:9
 intersection-requires-4 : tie.Need-intersection-requires-4
 intersection-requires-4 c κs = search needs
 
--- src/pflow.rt:94:26
 byte-at-requires : tie.Need-byte-at-requires
 byte-at-requires c κs = search needs
 
--- src/pflow.rt:94:5
 check-measurement-requires : tie.Need-check-measurement-requires
 check-measurement-requires c κs = search needs
 
--- src/pflow.rt:63:1
 returns-4 : tie.Need-returns-4
 returns-4 c = let b = c .before in
     let w = b .before in

@@ -1,35 +1,22 @@
-use mathlib.Core.Path.{_≡_, refl, sym, ap, ap₂, _∙_, fun-ext}
-use mathlib.Core.Bool.{Bool, true, false, cond, not, _&&_, _||_, Bool·beq}
-use mathlib.Core.Option.{Option, none, some}
-use mathlib.Core.List.{List, []}
-use Prim.Native.Nat.{ℕ, _+_, _-_, _≤_, _<_}
+use mathlib.Core.Path.{_≡_, sym, _∙_, fun-ext}
+use mathlib.Core.Option.{Option}
+use mathlib.Core.List.{[]}
+use Prim.Native.Nat.{ℕ, _-_, _≤_}
 use native.Mathlib.Omega.{arith}
-use lib.Dec.{eqb, leb, ltb}
-use lib.ListN.{length, getD, List·getD-eq-default}
-use borrow.Author.Tests.{not-true, not-false, lt-ltb, le-ltb, eq-eqb, ne-eqb}
-use Rattle.nodes.specs.Row.{anyBelow, lowest, parity}
-use Rattle.nodes.specs.NodeSet.{member, highest, capacity, wordsOf}
+use Rattle.nodes.specs.Row.{anyBelow}
+use Rattle.nodes.specs.NodeSet.{member, capacity}
 use Rattle.nodes.specs.SetTable.{setAt}
-use Rattle.nodes.proofs.NodeSet.{member-past}
 use Rattle.nodes.proofs.SetTable.{set-past}
-use Rattle.nodes.proofs.Logic.{or-none, is-true, is-false, unless-in, unless-out}
-use Rattle.finder.specs.Job.{own}
+use Rattle.nodes.proofs.Logic.{is-true, is-false, unless-in, unless-out}
 use Rattle.finder.specs.Finder.{jobIn}
 use Rattle.tables.specs.Answer.{Refusal}
-use Rattle.tables.specs.Verdict.{ask, each, eachFrom, inputAsk, domainAsk, layerAsk, measuredAsk}
-use Rattle.tables.specs.Loaded.{flowIn, noNodes, within, askedOf, firstIn}
-use Rattle.tables.proofs.Asking.{each-start, each-end, each-no, each-yes, first-none, first-some, ask-yes, ask-no, next-stops, next-goes}
-use Rattle.tables.proofs.AskingNodes.{from-none, from-more, any-within, parity-within, input-first, domain-test, measured-first, unequal}
+use Rattle.tables.specs.Verdict.{each, eachFrom, inputAsk}
+use Rattle.tables.specs.Loaded.{flowIn, noNodes}
+use Rattle.tables.proofs.Asking.{each-start, each-end, each-no, each-yes, first-none, first-some}
+use Rattle.tables.proofs.AskingNodes.{input-first}
 use borrow.Author.Needs.{needs}
 use Rattle.tables.proofs.validate.check_codomain.Statement.{statement}
 use Rattle.tables.proofs.validate.check_codomain.Tie as tie
-use Rattle.tables.proofs.validate.check_codomain.Reads as reads
-use Rattle.tables.proofs.validate.check_codomain.Lts as lts
-use Rattle.nodes.proofs.utils.NodeSet.below.Reads as below-reads
-use Rattle.nodes.proofs.utils.NodeSet.intersection.Reads as intersection-reads
-use Rattle.nodes.proofs.utils.NodeSet.is_empty.Reads as is-empty-reads
-use Rattle.nodes.proofs.utils.NodeSet.without.Reads as without-reads
-use Rattle.nodes.proofs.utils.set_at.Reads as set-at-reads
 
 abbrev Inv-loop : tie.InvT-loop
 Inv-loop n inputs sets u₀ u = (u ≤ n) × (each n (λ v. each n (inputAsk (jobIn n [] inputs noNodes []) (flowIn [] noNodes sets) v)) ≡ eachFrom u (n - u) (λ v. each n (inputAsk (jobIn n [] inputs noNodes []) (flowIn [] noNodes sets) v)))
@@ -37,35 +24,27 @@ Inv-loop n inputs sets u₀ u = (u ≤ n) × (each n (λ v. each n (inputAsk (jo
 abbrev μ-loop : tie.MeasureT-loop
 μ-loop n inputs sets u₀ u = n - u
 
--- src/validate.rt:127:5
 loop-holds : tie.Need-loop-holds Inv-loop μ-loop
 loop-holds c = (search needs, each-start _ _)
 
--- src/validate.rt:128:13
 below-requires : tie.Need-below-requires Inv-loop μ-loop
 below-requires c κs = search needs
 
--- src/validate.rt:129:21
 set-at-requires : tie.Need-set-at-requires Inv-loop μ-loop
 set-at-requires c κs = search needs
 
--- src/validate.rt:129:21
 intersection-requires : tie.Need-intersection-requires Inv-loop μ-loop
 intersection-requires c κs = search needs
 
--- src/validate.rt:129:21
 intersection-requires-2 : tie.Need-intersection-requires-2 Inv-loop μ-loop
 intersection-requires-2 c κs = search needs
 
--- src/validate.rt:129:13
 without-requires : tie.Need-without-requires Inv-loop μ-loop
 without-requires c κs = search needs
 
--- src/validate.rt:130:13
 is-empty-requires : tie.Need-is-empty-requires Inv-loop μ-loop
 is-empty-requires c κs = search needs
 
--- src/validate.rt:131:13
 returns : tie.Need-returns Inv-loop μ-loop
 returns c = let e = c .before in
     let w = e .before in
@@ -76,19 +55,16 @@ returns c = let e = c .before in
     let a = s .before .before .before .before .before .args in
     let f : ℕ → Option Refusal = λ v. each (a .n) (inputAsk (jobIn (a .n) [] (a .inputs) noNodes []) (flowIn [] noNodes (a .sets .now)) v) in
     let here = input-first (a .n) (l .u) (setAt (a .sets .now) (l .u)) (member (a .inputs)) (member (w .without .result)) (λ k h. set-past (a .sets .now) (l .u) k h)
-            (w .without .ensures ∙ fun-ext (λ k. rw (m .intersection2 .ensures, i .intersection .ensures, s .set-at .ensures, s .before .below .ensures))) in
+    (w .without .ensures ∙ fun-ext (λ k. rw (m .intersection2 .ensures, i .intersection .ensures, s .set-at .ensures, s .before .below .ensures))) in
     sym (l .inv .1 ∙ each-no (a .n) (l .u) f (omega arith) _
     (here ∙ sym (first-some (member (w .without .result)) (λ k. record { number = 13; a = l .u; b = 0 }) (is-true _ (unless-in (e .is-empty .result) (anyBelow capacity (member (w .without .result))) (e .is-empty .ensures) (c .if1 .taken))))))
 
--- src/validate.rt:133:9
 add-u : tie.Need-add-u Inv-loop μ-loop
 add-u c = search needs
 
--- src/validate.rt:127:5
 loop-less : tie.Need-loop-less Inv-loop μ-loop
 loop-less c = search needs
 
--- src/validate.rt:127:5
 loop-again : tie.Need-loop-again Inv-loop μ-loop
 loop-again c = let e = c .before in
     let w = e .before in
@@ -99,11 +75,12 @@ loop-again c = let e = c .before in
     let a = s .before .before .before .before .before .args in
     let f : ℕ → Option Refusal = λ v. each (a .n) (inputAsk (jobIn (a .n) [] (a .inputs) noNodes []) (flowIn [] noNodes (a .sets .now)) v) in
     let here = input-first (a .n) (l .u) (setAt (a .sets .now) (l .u)) (member (a .inputs)) (member (w .without .result)) (λ k h. set-past (a .sets .now) (l .u) k h)
-            (w .without .ensures ∙ fun-ext (λ k. rw (m .intersection2 .ensures, i .intersection .ensures, s .set-at .ensures, s .before .below .ensures))) in
-    (search needs, l .inv .1 ∙ each-yes (a .n) (l .u) f (omega arith)
-    (here ∙ sym (first-none (member (w .without .result)) (λ k. record { number = 13; a = l .u; b = 0 }) (is-false _ (unless-out (e .is-empty .result) (anyBelow capacity (member (w .without .result))) (e .is-empty .ensures) (c .if1 .left))))))
+    (w .without .ensures ∙ fun-ext (λ k. rw (m .intersection2 .ensures, i .intersection .ensures, s .set-at .ensures, s .before .below .ensures))) in (
+      search needs,
+      l .inv .1 ∙ each-yes (a .n) (l .u) f (omega arith)
+          (here ∙ sym (first-none (member (w .without .result)) (λ k. record { number = 13; a = l .u; b = 0 }) (is-false _ (unless-out (e .is-empty .result) (anyBelow capacity (member (w .without .result))) (e .is-empty .ensures) (c .if1 .left))))),
+    )
 
--- src/validate.rt:123:1
 returns-2 : tie.Need-returns-2 Inv-loop μ-loop
 returns-2 c = let l = c .before .loop in
     let a = c .before .before .before .args in
