@@ -6,4 +6,6 @@ pub mod Search
 pub mod Premise
 pub mod Flows
 pub mod Sizes
+pub mod Filling
+pub mod Packing
 pub mod Progress

@@ -5,3 +5,4 @@ pub mod Planes
 pub mod Paulis
 pub mod Premise
 pub mod Finder
+pub mod Views

@@ -13,10 +13,10 @@ use Rattle.nodes.specs.NodeSet.{highest, capacity}
 use Rattle.nodes.proofs.Logic.{is-true, is-false, from-true, from-false, and-l, and-r, lt-or-ge}
 use Rattle.nodes.proofs.Row.{any-in}
 use Rattle.nodes.proofs.Members.{lowest-none, lowest-member}
-use Rattle.tables.specs.Answer.{Refusal}
-use Rattle.tables.specs.Verdict.{ask, _next_, eachFrom, each}
+use Rattle.records.specs.Answer.{Refusal}
+use Rattle.verdicts.specs.Verdict.{ask, _next_, eachFrom, each}
 use Rattle.tables.specs.Loaded.{within, firstIn}
-use Rattle.tables.proofs.Questions.{each-in}
+use Rattle.verdicts.proofs.Questions.{each-in}
 
 -- ---- a loop: what is asked of all nodes is what is asked of those left
 pub each-start : (n : ℕ) (f : ℕ → Option Refusal) → each n f ≡ eachFrom 0 (n - 0) f

@@ -15,12 +15,12 @@ use Rattle.nodes.proofs.Row.{any-in}
 use Rattle.nodes.proofs.Members.{lowest-none, lowest-member}
 use Rattle.nodes.proofs.Remove.{removed, removed-other, removed-same}
 use Rattle.finder.specs.Job.{Job, odd}
-use Rattle.tables.specs.Answer.{Refusal}
-use Rattle.tables.specs.JobFile.{modeCausal, modePlanes, modePauli}
-use Rattle.tables.specs.FlowFile.{Flow}
-use Rattle.tables.specs.Verdict.{_next_, each, later, laterAsk, memberAsk, oddAsk, yAsk, ownAsk, nodeAsk, neighbourAsk, adjacentAsk, causalAsk, causalNodeAsk, measuredAsk, definitionAsk, checkDomain, checkInitial, checkDefinition, verify}
+use Rattle.records.specs.Answer.{Refusal}
+use Rattle.records.specs.JobFile.{modeCausal, modePlanes, modePauli}
+use Rattle.records.specs.FlowFile.{Flow}
+use Rattle.verdicts.specs.Verdict.{_next_, each, later, laterAsk, memberAsk, oddAsk, yAsk, ownAsk, nodeAsk, neighbourAsk, adjacentAsk, causalAsk, causalNodeAsk, measuredAsk, definitionAsk, checkDomain, checkInitial, checkDefinition, verify}
 use Rattle.tables.specs.Loaded.{within}
-use Rattle.tables.proofs.Questions.{each-in}
+use Rattle.verdicts.proofs.Questions.{each-in}
 use Rattle.tables.proofs.Asking.{each-ext, each-at, within-yes}
 
 -- ---- modes 2 and 3

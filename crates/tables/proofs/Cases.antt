@@ -13,14 +13,15 @@ use Rattle.solver.specs.Solver.{fits, bothFit, wellShaped, solveCall}
 use Rattle.finder.specs.Job.{own}
 use Rattle.finder.specs.Branch.{branches, firstSolvable}
 use Rattle.finder.specs.Search.{rounds}
-use Rattle.tables.specs.Answer.{gives}
-use Rattle.tables.specs.Records.{lengthField, part, checked, written}
-use Rattle.tables.specs.JobFile.{JobFile, all, has, rises, pairsRise, allows, allAllowed, openNo, edgesNo, nodesNo, measurementsNo, readJob, readEdges, readInputs, readOutputs, readMeasurements, joined, jobOf}
-use Rattle.tables.specs.FlowFile.{FlowFile, entriesIn, allEntries, entriesRise, layersNo, setsNo, readFlow, readSets, setIn, entryIn, flowOf}
-use Rattle.tables.specs.Verdict.{eachFrom, nodeAsk, causalAsk, verify}
-use Rattle.tables.specs.Calls.{setBytes, findAsks, verifyAsks}
+use Rattle.records.specs.Answer.{gives}
+use Rattle.records.specs.Records.{lengthField, part, checked, written}
+use Rattle.records.specs.JobFile.{JobFile, all, has, rises, pairsRise, allows, allAllowed, openNo, edgesNo, nodesNo, measurementsNo, readJob, readEdges, readInputs, readOutputs, readMeasurements, joined, jobOf}
+use Rattle.records.specs.FlowFile.{FlowFile, entriesIn, allEntries, entriesRise, layersNo, setsNo, readFlow, readSets, setIn, entryIn, flowOf}
+use Rattle.verdicts.specs.Verdict.{eachFrom, nodeAsk, causalAsk, verify}
+use Rattle.tables.specs.Calls.{findAsks, verifyAsks}
+use Rattle.records.specs.Writing.{setBytes}
 use Rattle.tables.specs.Programs.{findProgram, verifyProgram}
-use Rattle.tables.specs.Published.{PlaneFlow}
+use Rattle.verdicts.specs.Published.{PlaneFlow}
 use Rattle.tables.specs.Cases.{equal, allHold, cases, jobF, flowF}
 
 pub cases-hold : T (allHold cases)

@@ -21,21 +21,22 @@ use Rattle.finder.proofs.Conditions.{Ok}
 use Rattle.finder.proofs.Premise.{premiseAt}
 use Rattle.finder.proofs.Table.{needs-one}
 use Rattle.finder.proofs.Flows.{findAt, earlierThan, Found, found-flow, found-ok, found-earliest, firstRound}
-use Rattle.tables.specs.Answer.{Refusal, Answer, gives, refuses, refusal, asks, _>>=_, _>>_}
-use Rattle.tables.specs.Records.{written, kindNoFlow}
-use Rattle.tables.specs.JobFile.{JobFile, readJob, jobOf, measuredOf, modeCausal, modePlanes, modePauli}
-use Rattle.tables.specs.FlowFile.{FlowFile, Flow, readFlow, flowOf, nothingLeft, oneMember}
-use Rattle.tables.specs.Encoding.{ValidJob, ValidFlow, foundFlow}
-use Rattle.tables.specs.Verdict.{verify, checkDomain, checkInitial, checkDefinition}
-use Rattle.tables.specs.Calls.{Outcome, put, zeros, findOutcome, findAsks, findCall, foundBytes, flowBytes, search, workBytes, verifyAsks}
-use Rattle.tables.specs.Published.{Measured}
+use Rattle.records.specs.Answer.{Refusal, Answer, gives, refuses, refusal, asks, _>>=_, _>>_}
+use Rattle.records.specs.Records.{written, kindNoFlow}
+use Rattle.records.specs.JobFile.{JobFile, readJob, jobOf, measuredOf, modeCausal, modePlanes, modePauli}
+use Rattle.records.specs.FlowFile.{FlowFile, Flow, readFlow, flowOf, nothingLeft, oneMember}
+use Rattle.records.specs.Encoding.{ValidJob, ValidFlow, foundFlow}
+use Rattle.verdicts.specs.Verdict.{verify, checkDomain, checkInitial, checkDefinition}
+use Rattle.tables.specs.Calls.{Outcome, put, zeros, findOutcome, findAsks, findCall, foundBytes, search, workBytes, verifyAsks}
+use Rattle.records.specs.Writing.{flowBytes}
+use Rattle.verdicts.specs.Published.{Measured}
 use Rattle.tables.specs.Demand.{premise, Accepted, FlowBytes, layerIn, DemandHolds, Demand3}
-use Rattle.tables.proofs.Records.{give-inj, never, bind-out, asks-out}
-use Rattle.tables.proofs.JobFile.{job-asked, measured-range, measured-most, output-zero, measured-plane, edge-loop}
-use Rattle.tables.proofs.FlowFile.{flow-asked, nothing-left, one-member-other}
-use Rattle.tables.proofs.Writing.{found-reads, found-valid, found-layer, found-entry, found-set, no-flow-unread}
-use Rattle.tables.proofs.Verdict.{Preliminary, domain-asked, initial-asked, definition-asked, verify-in, verify-preliminary, verify-nodes, node-in, node-out}
-use Rattle.tables.proofs.Published as Pub
+use Rattle.records.proofs.Records.{give-inj, never, bind-out, asks-out}
+use Rattle.records.proofs.JobFile.{job-asked, measured-range, measured-most, output-zero, measured-plane, edge-loop}
+use Rattle.records.proofs.FlowFile.{flow-asked, nothing-left, one-member-other}
+use Rattle.records.proofs.Writing.{found-reads, found-valid, found-layer, found-entry, found-set, no-flow-unread}
+use Rattle.verdicts.proofs.Verdict.{Preliminary, domain-asked, initial-asked, definition-asked, verify-in, verify-preliminary, verify-nodes, node-in, node-out}
+use Rattle.verdicts.proofs.Published as Pub
 use Rattle.tables.proofs.Judging.{Judged, judged-in, judged-out, readable, planes}
 
 -- a node's conditions depend on the nodes below n only

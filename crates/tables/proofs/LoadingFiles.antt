@@ -10,25 +10,25 @@ use lib.Dec.{eqb, leb, ltb}
 use lib.ListN.{length, getD}
 use Rattle.nodes.specs.NodeSet.{highest, capacity}
 use Rattle.finder.specs.Job.{Job}
-use Rattle.tables.specs.Answer.{Refusal, refusal, gives, refuses}
-use Rattle.tables.specs.Records.{written, kindAccepted}
-use Rattle.tables.specs.JobFile.{JobFile, mostNodes, modeCausal, measuredOf, all, has, joined, readJob, jobOf}
-use Rattle.tables.specs.FlowFile.{SetEntry, FlowFile, Flow, framed, listed, allEntries, entryBelow, readFlow, setIn, entryIn, flowOf}
-use Rattle.tables.specs.Verdict.{verify}
+use Rattle.records.specs.Answer.{Refusal, refusal, gives, refuses}
+use Rattle.records.specs.Records.{written, kindAccepted}
+use Rattle.records.specs.JobFile.{JobFile, mostNodes, modeCausal, measuredOf, all, has, joined, readJob, jobOf}
+use Rattle.records.specs.FlowFile.{SetEntry, FlowFile, Flow, framed, listed, allEntries, entryBelow, readFlow, setIn, entryIn, flowOf}
+use Rattle.verdicts.specs.Verdict.{verify}
 use Rattle.tables.specs.Calls.{verdict, verifyAsks, put, verifyCall}
-use Rattle.tables.specs.Refusals.{refusalOf}
-use Rattle.tables.specs.Views.{fileAt, jobOfRead, JobLies, JobInside, flowAt, flowOfRead, FlowLies, FlowInside}
+use Rattle.records.specs.Refusals.{refusalOf}
+use Rattle.records.specs.Views.{fileAt, jobOfRead, JobLies, JobInside, flowAt, flowOfRead, FlowLies, FlowInside}
 use Rattle.tables.specs.Loaded.{askedOf, flowAsks}
-use Rattle.tables.specs.declared.common.Refused.{Refused}
-use Rattle.tables.specs.declared.common.JobPlaces.{JobPlaces}
-use Rattle.tables.specs.declared.common.JobRead.{JobRead}
-use Rattle.tables.specs.declared.common.JobRead.the-variants.{Job as AJob, Refused as NoJob}
-use Rattle.tables.specs.declared.common.FlowPlaces.{FlowPlaces}
-use Rattle.tables.specs.declared.common.FlowRead.{FlowRead}
-use Rattle.tables.specs.declared.common.FlowRead.the-variants.{Flow as AFlow, Refused as NoFlow}
+use Rattle.records.specs.declared.common.Refused.{Refused}
+use Rattle.records.specs.declared.common.JobPlaces.{JobPlaces}
+use Rattle.records.specs.declared.common.JobRead.{JobRead}
+use Rattle.records.specs.declared.common.JobRead.the-variants.{Job as AJob, Refused as NoJob}
+use Rattle.records.specs.declared.common.FlowPlaces.{FlowPlaces}
+use Rattle.records.specs.declared.common.FlowRead.{FlowRead}
+use Rattle.records.specs.declared.common.FlowRead.the-variants.{Flow as AFlow, Refused as NoFlow}
 use Rattle.tables.specs.declared.validate.Asked.{Asked}
 use Rattle.tables.specs.declared.validate.Asked.the-variants.{Passed, Refused as Stopped}
-use Rattle.tables.proofs.Records.{and-out, all-more}
+use Rattle.records.proofs.Records.{and-out, all-more}
 
 -- ---- what was read, by the code's answer
 module _ (s : List ℕ) (r : JobRead) (e : jobOfRead s r ≡ readJob s) where

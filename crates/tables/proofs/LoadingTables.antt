@@ -14,12 +14,12 @@ use Rattle.nodes.specs.SetTable.{setWords, setAt, putSet, zeros}
 use Rattle.nodes.specs.declared.utils.NodeSet.{NodeSet}
 use Rattle.nodes.proofs.Logic.{or-none, eqb-comm, eqb-yes, eqb-no}
 use Rattle.nodes.proofs.SetTable.{put-each, zeros-empty}
-use Rattle.tables.specs.JobFile.{all, has, joined}
-use Rattle.tables.specs.FlowFile.{SetEntry, entriesOf, framed, listed, allEntries, entryBelow, setIn, entryIn}
-use Rattle.tables.specs.Views.{between}
-use Rattle.tables.proofs.Records.{and-out}
-use Rattle.tables.proofs.ReadingLoops.{rest-none, rest-cons, rest-two}
-use Rattle.tables.proofs.ReadingEntries.{entries-end, listed-next}
+use Rattle.records.specs.JobFile.{all, has, joined}
+use Rattle.records.specs.FlowFile.{SetEntry, entriesOf, framed, listed, allEntries, entryBelow, setIn, entryIn}
+use Rattle.records.specs.Views.{between}
+use Rattle.records.proofs.Records.{and-out}
+use Rattle.records.proofs.ReadingLoops.{rest-none, rest-cons, rest-two}
+use Rattle.records.proofs.ReadingEntries.{entries-end, listed-next}
 
 -- ---- a table to which the members of s are added at u
 pub put-union : (ws : List ℕ) (u : ℕ) (s : NodeSet) (more : ℕ → Bool) → setWords * u + setWords ≤ length ws → member s ≡ (λ w. setAt ws u w || more w)

@@ -18,18 +18,19 @@ use Rattle.finder.proofs.Branch.{put-out}
 use Rattle.finder.proofs.Table.{listed}
 use Rattle.finder.proofs.Tries.{contextAt, tryAt, planes-context, FirstOf, try-first, branch-answer, no-column-u}
 use Rattle.finder.proofs.Flows.{findAt, earlierThan, Found, found-flow, try-ext}
-use Rattle.tables.specs.Answer.{Answer as Reply, gives, refuses}
-use Rattle.tables.specs.Records.{written, kindNoFlow}
-use Rattle.tables.specs.JobFile.{JobFile, readJob, jobOf, modePlanes, modePauli, has}
-use Rattle.tables.specs.FlowFile.{FlowFile, flowOf, readFlow}
-use Rattle.tables.specs.Encoding.{foundFlow}
-use Rattle.tables.specs.Calls.{findCall, findAsks, findOutcome, foundBytes, flowBytes, zeros}
-use Rattle.tables.specs.Published.{Measured}
+use Rattle.records.specs.Answer.{Answer as Reply, gives, refuses}
+use Rattle.records.specs.Records.{written, kindNoFlow}
+use Rattle.records.specs.JobFile.{JobFile, readJob, jobOf, modePlanes, modePauli, has}
+use Rattle.records.specs.FlowFile.{FlowFile, flowOf, readFlow}
+use Rattle.records.specs.Encoding.{foundFlow}
+use Rattle.tables.specs.Calls.{findCall, findAsks, findOutcome, foundBytes, zeros}
+use Rattle.records.specs.Writing.{flowBytes}
+use Rattle.verdicts.specs.Published.{Measured}
 use Rattle.tables.specs.Demand.{FlowBytes, layerIn}
 use Rattle.tables.specs.Solutions.{contextIn, systemIn, others, TheSolution, Demand2}
-use Rattle.tables.proofs.Records.{give-inj, never}
-use Rattle.tables.proofs.FlowFile.{members-below, nodes-below}
-use Rattle.tables.proofs.Writing.{found-valid, found-layer, found-entry, found-set, no-flow-unread}
+use Rattle.records.proofs.Records.{give-inj, never}
+use Rattle.records.proofs.FlowFile.{members-below, nodes-below}
+use Rattle.records.proofs.Writing.{found-valid, found-layer, found-entry, found-set, no-flow-unread}
 use Rattle.tables.proofs.Demand.{asked-find, put-fits, reads-back, wrote-none, found-cases}
 
 listed-has : (l : List ℕ) (b : ℕ) → listed l b ≡ has l b

@@ -5,36 +5,24 @@ use mathlib.Core.Option.{Option, none, some}
 use mathlib.Core.List.{List, [], _∷_, _++_}
 use lib.Dec.{eqb, leb}
 use lib.ListN.{length, drop}
-use Rattle.nodes.specs.Row.{members}
 use Rattle.solver.specs.WorkMatrix.{listOf}
 use Rattle.solver.specs.Solver.{rowBytes, mostRows}
 use Rattle.finder.specs.Job.{Job}
 use Rattle.finder.specs.Search.{Progress}
 use Rattle.finder.specs.Planes as Planes
 use Rattle.finder.specs.Paulis as Paulis
-use Rattle.tables.specs.Answer.{Refusal, Answer, gives, refuses, _>>=_, _>>_, refusal, asks}
-use Rattle.tables.specs.Records.{written, kindLayers, kindSets, kindNoFlow, kindAccepted}
-use Rattle.tables.specs.JobFile.{JobFile, readJob, jobOf, measuredOf, modePlanes, modePauli}
-use Rattle.tables.specs.FlowFile.{readFlow, flowOf, nothingLeft, oneMember}
-use Rattle.tables.specs.Verdict.{verify}
+use Rattle.records.specs.Answer.{Refusal, Answer, gives, refuses, _>>=_, _>>_, refusal, asks}
+use Rattle.records.specs.Records.{written, kindAccepted}
+use Rattle.records.specs.Writing.{flowBytes}
+use Rattle.records.specs.JobFile.{JobFile, readJob, jobOf, measuredOf, modePlanes, modePauli}
+use Rattle.records.specs.FlowFile.{readFlow, flowOf, nothingLeft, oneMember}
+use Rattle.verdicts.specs.Verdict.{verify}
 
 -- the work buffer: 128 rows of 128 bits
 abbrev pub workBytes : ℕ
 workBytes = mostRows * rowBytes
 
 -- ---- what the finder writes
--- entries of the nodes in the list: node, count, members
-unfoldable pub setBytes : ℕ → (ℕ → ℕ → Bool) → List ℕ → List ℕ
-setBytes n set [] = []
-setBytes n set (u ∷ us) = u ∷ length (members n (set u)) ∷ members n (set u) ++ setBytes n set us
-
--- a flow file with an entry for each node that is no output, or 0013
-abbrev pub flowBytes : Job → Option Progress → List ℕ
-flowBytes j none = written kindNoFlow []
-flowBytes j (some s) =
-    written kindLayers (listOf (j .nodes) (s .layer))
-    ++ written kindSets (setBytes (j .nodes) (s .set) (members (j .nodes) (λ u. not (j .output u))))
-
 -- mode 2 searches by planes, mode 3 by Paulis
 abbrev pub search : ℕ → Job → Option Progress
 search mode j = cond (eqb mode modePlanes) (Planes.find j) (Paulis.find j)

@@ -8,7 +8,7 @@ use Rattle.solver.specs.WorkMatrix.{listOf}
 use Rattle.solver.specs.Solver as Solver
 use Rattle.solver.specs.declared.gf2_linalg.Solved.{Solved}
 use Rattle.solver.specs.declared.gf2_linalg.Solved.the-variants.{Solvable, Unsolvable, WrongShape, NoSuchEquation}
-use Rattle.tables.specs.Records.{written, kindOpen, kindEdges, kindInputs, kindOutputs, kindMeasurements, kindLayers, kindSets, kindNoFlow, kindAccepted, kindRefusal}
+use Rattle.records.specs.Records.{written, kindOpen, kindEdges, kindInputs, kindOutputs, kindMeasurements, kindLayers, kindSets, kindNoFlow, kindAccepted, kindRefusal}
 use Rattle.tables.specs.Programs.{findProgram, verifyProgram}
 
 pub data Case : Type 0 where

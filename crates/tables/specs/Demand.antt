@@ -7,10 +7,10 @@ use mathlib.Core.Logic.{_↔_, _⊎_}
 use lib.Dec.{T, eqb}
 use lib.ListN.{getD, take}
 use Rattle.finder.specs.Premise.{planesPremise, paulisPremise}
-use Rattle.tables.specs.Answer.{Answer, gives}
-use Rattle.tables.specs.Records.{written, kindNoFlow}
-use Rattle.tables.specs.JobFile.{JobFile, readJob, jobOf, measuredOf, modePlanes}
-use Rattle.tables.specs.FlowFile.{FlowFile, readFlow}
+use Rattle.records.specs.Answer.{Answer, gives}
+use Rattle.records.specs.Records.{written, kindNoFlow}
+use Rattle.records.specs.JobFile.{JobFile, readJob, jobOf, measuredOf, modePlanes}
+use Rattle.records.specs.FlowFile.{FlowFile, readFlow}
 use Rattle.tables.specs.Calls.{findCall, verifyAsks}
 
 abbrev pub premise : JobFile → Bool

@@ -11,13 +11,13 @@ use Rattle.nodes.specs.NodeSet.{member, highest, capacity}
 use Rattle.nodes.specs.SetTable.{setAt}
 use Rattle.nodes.specs.declared.utils.NodeSet.{NodeSet}
 use Rattle.finder.specs.Job.{pauliY, isXorY, isYorZ}
-use Rattle.tables.specs.Answer.{Refusal, Answer, gives, refuses, _>>_}
-use Rattle.tables.specs.JobFile.{JobFile, Measured, measuredOf, jobOf}
-use Rattle.tables.specs.FlowFile.{FlowFile, Flow, nothingLeft, oneMember, flowOf}
-use Rattle.tables.specs.Verdict.{verify}
+use Rattle.records.specs.Answer.{Refusal, Answer, gives, refuses, _>>_}
+use Rattle.records.specs.JobFile.{JobFile, Measured, measuredOf, jobOf}
+use Rattle.records.specs.FlowFile.{FlowFile, Flow, nothingLeft, oneMember, flowOf}
+use Rattle.verdicts.specs.Verdict.{verify}
 use Rattle.tables.specs.Calls.{verdict}
-use Rattle.tables.specs.Refusals.{refusalOf}
-use Rattle.tables.specs.Views.{bytesAt}
+use Rattle.records.specs.Refusals.{refusalOf}
+use Rattle.records.specs.Views.{bytesAt}
 use Rattle.tables.specs.declared.Measured as Places
 use Rattle.tables.specs.declared.Verified.{Verified}
 use Rattle.tables.specs.declared.Verified.the-variants.{Accepted, Refused as NotAccepted}

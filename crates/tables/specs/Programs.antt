@@ -2,9 +2,9 @@
 use Prim.Native.Nat.{ℕ, _*_, _+_}
 use mathlib.Core.List.{List, [], _∷_}
 use lib.ListN.{take}
-use Rattle.tables.specs.Answer.{Refusal, Answer, gives, refuses}
-use Rattle.tables.specs.Records.{written, headBytes, kindAccepted, kindRefusal}
-use Rattle.tables.specs.JobFile.{JobFile, mostNodes}
+use Rattle.records.specs.Answer.{Refusal, Answer, gives, refuses}
+use Rattle.records.specs.Records.{written, headBytes, kindAccepted, kindRefusal}
+use Rattle.records.specs.JobFile.{JobFile, mostNodes}
 use Rattle.tables.specs.Calls.{workBytes, zeros, foundBytes, findAsks, verifyAsks}
 
 -- each judges the first 65,536 bytes

@@ -10,9 +10,9 @@ use Rattle.finder.specs.Job.{Job}
 use Rattle.finder.specs.Branch.{Context, branches, systemAt, sideAt, inSet}
 use Rattle.finder.specs.Planes as Planes
 use Rattle.finder.specs.Paulis as Paulis
-use Rattle.tables.specs.Answer.{Answer as Reply, gives}
-use Rattle.tables.specs.JobFile.{JobFile, readJob, jobOf, measuredOf, modePlanes, has}
-use Rattle.tables.specs.FlowFile.{FlowFile, flowOf}
+use Rattle.records.specs.Answer.{Answer as Reply, gives}
+use Rattle.records.specs.JobFile.{JobFile, readJob, jobOf, measuredOf, modePlanes, has}
+use Rattle.records.specs.FlowFile.{FlowFile, flowOf}
 use Rattle.tables.specs.Calls.{findCall}
 use Rattle.tables.specs.Demand.{FlowBytes, layerIn}
 

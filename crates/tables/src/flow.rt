@@ -2,10 +2,9 @@
 ghost use mathlib.Core.Path.{_≡_};
 ghost use mathlib.Core.List.{[]};
 ghost use Rattle.finder.specs.Finder.{jobIn};
-ghost use Rattle.tables.specs.JobFile.{modeCausal};
-ghost use Rattle.tables.specs.Verdict.{each, causalAsk, definitionAsk, checkDefinition};
+ghost use Rattle.records.specs.JobFile.{modeCausal};
+ghost use Rattle.verdicts.specs.Verdict.{each, causalAsk, definitionAsk, checkDefinition};
 ghost use Rattle.tables.specs.Loaded.{flowIn, noNodes, askedOf};
-use crate::common::Refused;
 use crate::validate::Asked;
 use crate::validate::byte_at;
 use crate::validate::check_measured;
@@ -13,6 +12,7 @@ use crate::validate::in_order;
 use crate::validate::not_later;
 use nodes::utils::NodeSet;
 use nodes::utils::set_at;
+use records::common::Refused;
 
 // Node i with f(i) = k: is f(i) later, are its neighbors other than i later, are the two adjacent (18)?
 fn check_pair(n: u8, graph: &[u64], layers: &[u8], i: u8, k: u8) -> Asked

@@ -1,10 +1,9 @@
 // Checking a generalized flow, mode 2 of document 01.
 ghost use mathlib.Core.Path.{_≡_};
 ghost use Rattle.finder.specs.Finder.{jobIn};
-ghost use Rattle.tables.specs.JobFile.{modePlanes};
-ghost use Rattle.tables.specs.Verdict.{each, definitionAsk, checkDefinition};
+ghost use Rattle.records.specs.JobFile.{modePlanes};
+ghost use Rattle.verdicts.specs.Verdict.{each, definitionAsk, checkDefinition};
 ghost use Rattle.tables.specs.Loaded.{flowIn, noNodes, askedOf};
-use crate::common::Refused;
 use crate::validate::Asked;
 use crate::validate::byte_at;
 use crate::validate::check_measured;
@@ -14,6 +13,7 @@ use crate::validate::odd_of;
 use crate::validate::own_holds;
 use nodes::utils::NodeSet;
 use nodes::utils::set_at;
+use records::common::Refused;
 
 // Node i, where it is no output: is each member other than i later, and each node of Odd (18)? Does its own
 // measurement hold (19)?

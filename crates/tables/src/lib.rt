@@ -1,5 +1,4 @@
-// Job and flow files, and the verifier of document 01.
-pub mod common; // common.rt: the records, and reading them
+// Files and verdicts: the public entries.
 mod flow; // flow.rt: checking a causal flow
 mod gflow; // gflow.rt: checking a generalized flow
 mod load; // load.rt: a file's edges and sets as tables of sets
@@ -13,25 +12,25 @@ ghost use Prim.Native.Nat.{ℕ};
 ghost use lib.Dec.{eqb};
 ghost use lib.ListN.{length};
 ghost use Rattle.finder.specs.Finder.{jobIn};
-ghost use Rattle.tables.specs.Records.{written, kindAccepted};
-ghost use Rattle.tables.specs.JobFile.{modeCausal, measuredOf, jobOf};
-ghost use Rattle.tables.specs.FlowFile.{entriesOf, listed, allEntries, flowOf};
-ghost use Rattle.tables.specs.Encoding.{ValidJob, ValidFlow};
-ghost use Rattle.tables.specs.Verdict.{verify as verifyOf};
+ghost use Rattle.records.specs.Records.{written, kindAccepted};
+ghost use Rattle.records.specs.JobFile.{modeCausal, measuredOf, jobOf};
+ghost use Rattle.records.specs.FlowFile.{entriesOf, listed, allEntries, flowOf};
+ghost use Rattle.records.specs.Encoding.{ValidJob, ValidFlow};
+ghost use Rattle.verdicts.specs.Verdict.{verify as verifyOf};
 ghost use Rattle.tables.specs.Calls.{verdict, verifyAsks, put, verifyCall};
-ghost use Rattle.tables.specs.Views.{Lies, fileAt, JobLies, flowAt, FlowLies};
+ghost use Rattle.records.specs.Views.{Lies, fileAt, JobLies, flowAt, FlowLies};
 ghost use Rattle.tables.specs.Loaded.{flowIn, askedOf, measuredAt, flowAsks, verifiedOf};
-use common::FlowPlaces;
-use common::FlowRead;
-use common::HEAD_BYTES;
-use common::JobPlaces;
-use common::JobRead;
-use common::KIND_ACCEPTED;
-use common::MODE_CAUSAL;
-use common::MODE_PAULI;
-use common::Place;
-use common::Refused;
 use nodes::utils::NodeSet;
+use records::common::FlowPlaces;
+use records::common::FlowRead;
+use records::common::HEAD_BYTES;
+use records::common::JobPlaces;
+use records::common::JobRead;
+use records::common::KIND_ACCEPTED;
+use records::common::MODE_CAUSAL;
+use records::common::MODE_PAULI;
+use records::common::Place;
+use records::common::Refused;
 use validate::Asked;
 
 // The words of a table with a set for each node.
@@ -61,7 +60,7 @@ fn measured_of(job: JobPlaces) -> Measured
     }
 }
 
-// ---- The questions on a job and a flow, 13 to 19 in their order.
+// Questions 13 to 19 in their order. Reading allows modes 1 to 3; any other would be asked as mode 2.
 fn verify_loaded(
     n: u8,
     mode: u8,
@@ -93,6 +92,8 @@ fn verify_loaded(
 }
 
 // ---- From the places of the payloads to what they hold.
+
+// The flow's sets go into a table; the job's graph is in one already.
 fn verify_flow(
     file: &[u8],
     job: JobPlaces,
@@ -132,6 +133,7 @@ fn verify_flow(
     )
 }
 
+// The job's graph goes into a table, its inputs and outputs into sets.
 fn verify_job(file: &[u8], job: JobPlaces, flow: FlowPlaces) -> Asked
     requires { ⌜ JobLies (now file) job × FlowLies (now file) flow ⌝ }
     requires { ⌜ ValidJob (fileAt (now file) job) × ValidFlow (job .n) (flowAt (now file) flow) ⌝ }
@@ -145,11 +147,11 @@ fn verify_job(file: &[u8], job: JobPlaces, flow: FlowPlaces) -> Asked
     let inputs = job.inputs;
     let first = inputs.start;
     let past = inputs.end;
-    let iset = common::set_of(&file[first..past]);
+    let iset = records::common::set_of(&file[first..past]);
     let outputs = job.outputs;
     let from = outputs.start;
     let to = outputs.end;
-    let oset = common::set_of(&file[from..to]);
+    let oset = records::common::set_of(&file[from..to]);
     verify_flow(file, job, flow, &graph, iset, oset)
 }
 
@@ -160,7 +162,7 @@ fn one_each(mode: u8, sets: &[u8]) -> bool
     if mode != MODE_CAUSAL {
         return true;
     }
-    common::one_member(sets)
+    records::common::one_member(sets)
 }
 
 // Is nothing left (8)? Then 9, and the questions on the flow.
@@ -185,13 +187,13 @@ fn verify_read(file: &[u8], job: JobPlaces, flow: FlowPlaces) -> Asked
 fn verify_file(file: &[u8]) -> Asked
     ensures { λ r. ⌜ verdict (askedOf r) ≡ verifyAsks (now (file .entry)) ⌝ }
 {
-    match common::read_job(file) {
+    match records::common::read_job(file) {
         JobRead::Refused(q) => Asked::Refused(q),
         JobRead::Job(job) => {
             let n = job.n;
             let place = job.measurements;
             let end = place.end;
-            match common::read_flow(file, end, n) {
+            match records::common::read_flow(file, end, n) {
                 FlowRead::Refused(q) => Asked::Refused(q),
                 FlowRead::Flow(flow) => verify_read(file, job, flow),
             }

@@ -7,13 +7,13 @@ ghost use lib.ListN.{length};
 ghost use Rattle.nodes.specs.NodeSet.{member, highest, capacity};
 ghost use Rattle.nodes.specs.SetTable.{setAt};
 ghost use Rattle.finder.specs.Finder.{tableWords};
-ghost use Rattle.tables.specs.JobFile.{all, joined};
-ghost use Rattle.tables.specs.FlowFile.{entriesOf, framed, listed, allEntries, entryBelow, setIn, entryIn};
-use crate::common::set_of;
+ghost use Rattle.records.specs.JobFile.{all, joined};
+ghost use Rattle.records.specs.FlowFile.{entriesOf, framed, listed, allEntries, entryBelow, setIn, entryIn};
 use nodes::utils::NodeSet;
 use nodes::utils::clear_table;
 use nodes::utils::put_set;
 use nodes::utils::set_at;
+use records::common::set_of;
 
 // The nodes of more join set u.
 fn add_set(table: &mut [u64], u: u8, more: NodeSet)

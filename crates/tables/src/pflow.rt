@@ -3,10 +3,9 @@ ghost use mathlib.Core.Path.{_≡_};
 ghost use Rattle.nodes.specs.NodeSet.{member};
 ghost use Rattle.finder.specs.Job.{own};
 ghost use Rattle.finder.specs.Finder.{jobIn};
-ghost use Rattle.tables.specs.JobFile.{modePauli};
-ghost use Rattle.tables.specs.Verdict.{ask, _next_, each, definitionAsk, checkDefinition};
+ghost use Rattle.records.specs.JobFile.{modePauli};
+ghost use Rattle.verdicts.specs.Verdict.{ask, _next_, each, definitionAsk, checkDefinition};
 ghost use Rattle.tables.specs.Loaded.{flowIn, noNodes, askedOf, firstIn, Sorted};
-use crate::common::Refused;
 use crate::validate::Asked;
 use crate::validate::PAULI_X;
 use crate::validate::PAULI_Y;
@@ -20,6 +19,7 @@ use crate::validate::odd_of;
 use crate::validate::own_holds;
 use nodes::utils::NodeSet;
 use nodes::utils::set_at;
+use records::common::Refused;
 
 // The nodes measured X or Y, those measured Y or Z, and those measured Y.
 struct Paulis {

@@ -9,14 +9,14 @@ ghost use Rattle.nodes.specs.NodeSet.{member, highest};
 ghost use Rattle.nodes.specs.SetTable.{setAt};
 ghost use Rattle.finder.specs.Job.{own};
 ghost use Rattle.finder.specs.Finder.{jobIn};
-ghost use Rattle.tables.specs.Verdict.{ask, each, measuredAsk, inputAsk, domainAsk, checkDomain, checkInitial};
-ghost use Rattle.tables.specs.JobFile.{modePauli};
+ghost use Rattle.verdicts.specs.Verdict.{ask, each, measuredAsk, inputAsk, domainAsk, checkDomain, checkInitial};
+ghost use Rattle.records.specs.JobFile.{modePauli};
 ghost use Rattle.tables.specs.Loaded.{flowIn, noNodes, within, askedOf, firstIn};
-use crate::common::MODE_PAULI;
-use crate::common::Refused;
 use nodes::utils::NodeSet;
 use nodes::utils::odd_neighbors;
 use nodes::utils::set_at;
+use records::common::MODE_PAULI;
+use records::common::Refused;
 
 // The measurements by their numbers.
 pub const PLANE_XY: u8 = 1;

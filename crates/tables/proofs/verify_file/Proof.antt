@@ -1,13 +1,13 @@
 use mathlib.Core.Path.{_≡_, _∙_}
 use mathlib.Core.List.{List}
 use Prim.Native.Nat.{ℕ}
-use Rattle.tables.specs.Views.{fileAt, JobLies, flowAt}
-use Rattle.tables.proofs.JobFile.{job-asked}
-use Rattle.tables.proofs.FlowFile.{flow-asked}
+use Rattle.records.specs.Views.{fileAt, JobLies, flowAt}
+use Rattle.records.proofs.JobFile.{job-asked}
+use Rattle.records.proofs.FlowFile.{flow-asked}
 use Rattle.tables.proofs.LoadingFiles.{job-read, job-not, job-inside, flow-read, flow-not, flow-inside, asks-no-job, asks-no-flow, asks-flow}
-use Rattle.tables.specs.Answer.{gives}
-use Rattle.tables.specs.JobFile.{readJob}
-use Rattle.tables.specs.FlowFile.{readFlow}
+use Rattle.records.specs.Answer.{gives}
+use Rattle.records.specs.JobFile.{readJob}
+use Rattle.records.specs.FlowFile.{readFlow}
 use borrow.Author.Needs.{needs}
 use Rattle.tables.proofs.verify_file.Statement.{statement}
 use Rattle.tables.proofs.verify_file.Tie as tie

@@ -1,10 +1,10 @@
 use mathlib.Core.Path.{ap, _∙_, fun-ext}
 use Rattle.nodes.specs.NodeSet.{member}
 use Rattle.finder.specs.Finder.{jobIn}
-use Rattle.tables.specs.JobFile.{Measured}
-use Rattle.tables.specs.FlowFile.{flowOf}
-use Rattle.tables.specs.Verdict.{verify}
-use Rattle.tables.specs.Views.{fileAt, flowAt}
+use Rattle.records.specs.JobFile.{Measured}
+use Rattle.records.specs.FlowFile.{flowOf}
+use Rattle.verdicts.specs.Verdict.{verify}
+use Rattle.records.specs.Views.{fileAt, flowAt}
 use Rattle.tables.proofs.LoadingFiles.{entries-fit, same-flow}
 use borrow.Author.Needs.{needs}
 use Rattle.tables.proofs.verify_flow.Statement.{statement}

@@ -1,9 +1,9 @@
 use mathlib.Core.Path.{_∙_, fun-ext}
 use Rattle.nodes.specs.NodeSet.{member}
-use Rattle.tables.specs.JobFile.{measuredOf}
-use Rattle.tables.specs.FlowFile.{flowOf}
-use Rattle.tables.specs.Views.{bytesAt, fileAt, flowAt}
-use Rattle.tables.proofs.ReadingRecords.{has-small}
+use Rattle.records.specs.JobFile.{measuredOf}
+use Rattle.records.specs.FlowFile.{flowOf}
+use Rattle.records.specs.Views.{bytesAt, fileAt, flowAt}
+use Rattle.records.proofs.ReadingRecords.{has-small}
 use Rattle.tables.proofs.LoadingFiles.{all-fit, same-job}
 use borrow.Author.Needs.{needs}
 use Rattle.tables.proofs.verify_job.Statement.{statement}

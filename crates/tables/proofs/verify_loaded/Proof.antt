@@ -1,8 +1,8 @@
 use mathlib.Core.Path.{_≡_, sym, ap, _∙_}
 use Rattle.finder.specs.Job.{Job}
 use Rattle.finder.specs.Finder.{jobIn}
-use Rattle.tables.specs.FlowFile.{Flow}
-use Rattle.tables.specs.Verdict.{nodeAsk, causalAsk, checkDefinition, verify}
+use Rattle.records.specs.FlowFile.{Flow}
+use Rattle.verdicts.specs.Verdict.{nodeAsk, causalAsk, checkDefinition, verify}
 use Rattle.tables.specs.Loaded.{flowIn, askedOf}
 use Rattle.tables.proofs.AskingDefinition.{verify-domain, verify-initial, verify-definition, planes-mode}
 use borrow.Author.Needs.{needs}

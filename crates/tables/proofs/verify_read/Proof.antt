@@ -3,7 +3,7 @@ use native.Mathlib.Omega.{arith}
 use lib.ListN.{length, length-drop}
 use borrow.Author.Tests.{not-true, not-false}
 use Rattle.tables.specs.Calls.{verdict}
-use Rattle.tables.specs.Views.{fileAt, flowAt}
+use Rattle.records.specs.Views.{fileAt, flowAt}
 use Rattle.tables.proofs.LoadingFiles.{some-left, not-one, all-one}
 use borrow.Author.Needs.{needs}
 use Rattle.tables.proofs.verify_read.Statement.{statement}

@@ -5,8 +5,8 @@ use native.Mathlib.Omega.{arith}
 use lib.ListN.{length, length-set}
 use lib.Seq.{sets-eq}
 use borrow.Author.Tests.{le-leb, lt-leb}
-use Rattle.tables.specs.Records.{written}
-use Rattle.tables.specs.Answer.{gives}
+use Rattle.records.specs.Records.{written}
+use Rattle.records.specs.Answer.{gives}
 use Rattle.tables.specs.Calls.{Outcome, put}
 use borrow.Author.Needs.{needs}
 use Rattle.tables.proofs.write_accepted.Statement.{statement}

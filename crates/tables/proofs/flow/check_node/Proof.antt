@@ -12,8 +12,8 @@ use Rattle.nodes.proofs.SetTable.{set-past}
 use Rattle.nodes.proofs.Remove.{count-lowest}
 use Rattle.nodes.proofs.Logic.{unless-in, unless-out, and-l, and-r}
 use Rattle.finder.specs.Finder.{jobIn}
-use Rattle.tables.specs.JobFile.{modeCausal}
-use Rattle.tables.specs.Verdict.{each, causalAsk}
+use Rattle.records.specs.JobFile.{modeCausal}
+use Rattle.verdicts.specs.Verdict.{each, causalAsk}
 use Rattle.tables.specs.Loaded.{flowIn, noNodes, within, askedOf}
 use Rattle.tables.proofs.AskingDefinition.{node-output, only, only-start, only-none, only-at, only-next, causal-node}
 use borrow.Author.Needs.{needs}

@@ -3,8 +3,8 @@ use mathlib.Core.List.{[]}
 use Prim.Native.Nat.{_-_, _≤_}
 use native.Mathlib.Omega.{arith}
 use Rattle.finder.specs.Finder.{jobIn}
-use Rattle.tables.specs.JobFile.{modeCausal}
-use Rattle.tables.specs.Verdict.{each, eachFrom, definitionAsk}
+use Rattle.records.specs.JobFile.{modeCausal}
+use Rattle.verdicts.specs.Verdict.{each, eachFrom, definitionAsk}
 use Rattle.tables.specs.Loaded.{flowIn, noNodes, askedOf}
 use Rattle.tables.proofs.Asking.{each-start, each-end, each-no, each-yes}
 use borrow.Author.Needs.{needs}

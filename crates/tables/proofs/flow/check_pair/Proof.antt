@@ -8,8 +8,8 @@ use Rattle.nodes.specs.NodeSet.{member}
 use Rattle.nodes.proofs.SetTable.{set-past}
 use Rattle.finder.specs.Job.{Job}
 use Rattle.finder.specs.Finder.{jobIn}
-use Rattle.tables.specs.FlowFile.{Flow}
-use Rattle.tables.specs.Verdict.{each, later, neighbourAsk}
+use Rattle.records.specs.FlowFile.{Flow}
+use Rattle.verdicts.specs.Verdict.{each, later, neighbourAsk}
 use Rattle.tables.specs.Loaded.{flowIn, noNodes, askedOf}
 use Rattle.tables.proofs.Asking.{ask-yes, ask-no}
 use Rattle.tables.proofs.AskingNodes.{order-plain}

@@ -8,9 +8,9 @@ use Rattle.nodes.specs.SetTable.{setAt}
 use Rattle.nodes.proofs.SetTable.{set-past}
 use Rattle.finder.specs.Job.{Job, odd, own}
 use Rattle.finder.specs.Finder.{jobIn}
-use Rattle.tables.specs.JobFile.{modePlanes}
-use Rattle.tables.specs.FlowFile.{Flow}
-use Rattle.tables.specs.Verdict.{each, memberAsk, oddAsk, yAsk, ownAsk, definitionAsk}
+use Rattle.records.specs.JobFile.{modePlanes}
+use Rattle.records.specs.FlowFile.{Flow}
+use Rattle.verdicts.specs.Verdict.{each, memberAsk, oddAsk, yAsk, ownAsk, definitionAsk}
 use Rattle.tables.specs.Loaded.{flowIn, noNodes, askedOf}
 use Rattle.tables.proofs.Asking.{ask-yes, ask-no, next-goes}
 use Rattle.tables.proofs.AskingNodes.{odd-past, order-plain}

@@ -2,8 +2,8 @@ use mathlib.Core.Path.{_≡_, refl, sym, ap, _∙_}
 use Prim.Native.Nat.{_+_, _-_, _≤_}
 use native.Mathlib.Omega.{arith}
 use lib.ListN.{length, drop, getD}
-use Rattle.tables.specs.FlowFile.{entriesOf, framed}
-use Rattle.tables.proofs.ReadingEntries.{entries-end, entries-short, entries-cut, framed-next}
+use Rattle.records.specs.FlowFile.{entriesOf, framed}
+use Rattle.records.proofs.ReadingEntries.{entries-end, entries-short, entries-cut, framed-next}
 use borrow.Author.Needs.{needs}
 use Rattle.tables.proofs.load.entries_end.Statement.{statement}
 use Rattle.tables.proofs.load.entries_end.Tie as tie

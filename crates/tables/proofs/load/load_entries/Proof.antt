@@ -9,11 +9,11 @@ use Rattle.nodes.specs.NodeSet.{member, highest, capacity}
 use Rattle.nodes.specs.SetTable.{setAt}
 use Rattle.nodes.proofs.Logic.{and-all}
 use Rattle.finder.specs.Finder.{tableWords}
-use Rattle.tables.specs.JobFile.{has}
-use Rattle.tables.specs.FlowFile.{entriesOf, framed, listed, allEntries, entryBelow, setIn, entryIn}
-use Rattle.tables.specs.Views.{between}
-use Rattle.tables.proofs.ReadingEntries.{two-more, fits, framed-next}
-use Rattle.tables.proofs.ReadingRecords.{has-small}
+use Rattle.records.specs.JobFile.{has}
+use Rattle.records.specs.FlowFile.{entriesOf, framed, listed, allEntries, entryBelow, setIn, entryIn}
+use Rattle.records.specs.Views.{between}
+use Rattle.records.proofs.ReadingEntries.{two-more, fits, framed-next}
+use Rattle.records.proofs.ReadingRecords.{has-small}
 use Rattle.tables.proofs.LoadingTables.{cleared, set-end, entry-end, set-more, entry-more, below-out}
 use borrow.Author.Needs.{needs}
 use Rattle.tables.proofs.load.load_entries.Statement.{statement}

@@ -9,7 +9,7 @@ use Rattle.nodes.specs.NodeSet.{highest}
 use Rattle.nodes.specs.SetTable.{setAt}
 use Rattle.nodes.proofs.Logic.{or-none}
 use Rattle.finder.specs.Finder.{tableWords}
-use Rattle.tables.specs.JobFile.{joined}
+use Rattle.records.specs.JobFile.{joined}
 use Rattle.tables.proofs.LoadingTables.{cleared, all-at, joined-end, joined-more}
 use borrow.Author.Needs.{needs}
 use Rattle.tables.proofs.load.load_graph.Statement.{statement}

@@ -3,7 +3,7 @@ use mathlib.Core.Bool.{Bool}
 use Prim.Native.Nat.{ℕ}
 use lib.ListN.{length}
 use borrow.Author.Tests.{not-true, not-false}
-use Rattle.tables.specs.FlowFile.{entriesOf}
+use Rattle.records.specs.FlowFile.{entriesOf}
 use Rattle.tables.proofs.LoadingTables.{cleared}
 use Rattle.tables.proofs.LoadingFiles.{no-set, no-entry}
 use borrow.Author.Needs.{needs}

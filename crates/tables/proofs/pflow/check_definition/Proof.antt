@@ -1,5 +1,5 @@
 use mathlib.Core.Path.{sym, ap, _∙_}
-use Rattle.tables.specs.Verdict.{causalAsk, nodeAsk}
+use Rattle.verdicts.specs.Verdict.{causalAsk, nodeAsk}
 use Rattle.tables.specs.Loaded.{askedOf}
 use Rattle.tables.proofs.Asking.{next-stops, next-goes}
 use borrow.Author.Needs.{needs}

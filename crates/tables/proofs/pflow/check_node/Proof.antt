@@ -9,10 +9,10 @@ use Rattle.nodes.specs.SetTable.{setAt}
 use Rattle.nodes.proofs.SetTable.{set-past}
 use Rattle.finder.specs.Job.{Job, odd, own, isXorY, isYorZ, pauliY}
 use Rattle.finder.specs.Finder.{jobIn}
-use Rattle.tables.specs.Answer.{Refusal}
-use Rattle.tables.specs.JobFile.{modePauli}
-use Rattle.tables.specs.FlowFile.{Flow}
-use Rattle.tables.specs.Verdict.{ask, _next_, each, memberAsk, oddAsk, yAsk, ownAsk, definitionAsk}
+use Rattle.records.specs.Answer.{Refusal}
+use Rattle.records.specs.JobFile.{modePauli}
+use Rattle.records.specs.FlowFile.{Flow}
+use Rattle.verdicts.specs.Verdict.{ask, _next_, each, memberAsk, oddAsk, yAsk, ownAsk, definitionAsk}
 use Rattle.tables.specs.Loaded.{flowIn, noNodes, askedOf, firstIn}
 use Rattle.tables.proofs.AskingNodes.{odd-past, order-excused, y-first}
 use Rattle.tables.proofs.AskingDefinition.{node-output, node-members, node-odd, node-rest}

@@ -3,7 +3,7 @@ use mathlib.Core.List.{[]}
 use Prim.Native.Nat.{_-_, _≤_}
 use native.Mathlib.Omega.{arith}
 use Rattle.finder.specs.Finder.{jobIn}
-use Rattle.tables.specs.Verdict.{each, eachFrom, layerAsk}
+use Rattle.verdicts.specs.Verdict.{each, eachFrom, layerAsk}
 use Rattle.tables.specs.Loaded.{flowIn, noNodes, askedOf}
 use Rattle.tables.proofs.Asking.{each-start, each-end, each-no, each-yes}
 use borrow.Author.Needs.{needs}

@@ -8,7 +8,7 @@ use Rattle.nodes.specs.Row.{lowest}
 use Rattle.nodes.specs.NodeSet.{member, wordsOf}
 use Rattle.nodes.proofs.NodeSet.{member-past}
 use Rattle.finder.specs.Finder.{jobIn}
-use Rattle.tables.specs.Verdict.{each, measuredAsk}
+use Rattle.verdicts.specs.Verdict.{each, measuredAsk}
 use Rattle.tables.specs.Loaded.{flowIn, noNodes, firstIn}
 use Rattle.tables.proofs.Asking.{first-none, first-some}
 use Rattle.tables.proofs.AskingNodes.{measured-first}

@@ -9,7 +9,7 @@ use Rattle.nodes.specs.NodeSet.{member, capacity}
 use Rattle.nodes.specs.SetTable.{setAt}
 use Rattle.nodes.proofs.SetTable.{set-past}
 use Rattle.finder.specs.Finder.{jobIn}
-use Rattle.tables.specs.Verdict.{each, eachFrom, domainAsk}
+use Rattle.verdicts.specs.Verdict.{each, eachFrom, domainAsk}
 use Rattle.tables.specs.Loaded.{flowIn, noNodes}
 use Rattle.tables.proofs.Asking.{each-start, each-end, each-no, each-yes, ask-yes, ask-no}
 use Rattle.tables.proofs.AskingNodes.{any-within, domain-test}

@@ -1,0 +1,323 @@
+-- Flows: the entries of a sets record and their bytes, what a flow that was read has passed, and what follows for its nodes.
+use Prim.Native.Nat.{ℕ, zero, suc, _+_, _*_, _≤_, _<_, zero-le}
+use mathlib.Core.Path.{_≡_, refl, sym, ap, _∙_}
+use mathlib.Core.Bool.{Bool, true, false, cond, _&&_, _||_, false≢true}
+use mathlib.Core.Logic.{_⊎_, inl, inr, _↔_, _≢_}
+use mathlib.Core.Option.{Option, none, some, Option·some-injective, Option·none-ne-some}
+use mathlib.Core.List.{List, [], _∷_, _++_, append-assoc}
+use native.Mathlib.Omega.{arith}
+use native.Mathlib.Nat.{mul-le-mul, not-suc-le-zero, lt-suc-self, le-of-suc-le-suc}
+use borrow.Author.Tests.{leb-true, ltb-true, eqb-true, le-leb, eq-eqb, ne-eqb}
+use lib.Dec.{T, eqb, ltb, leb, eqb→eq, eqb-refl}
+use lib.ListN.{length, getD, take, drop, length-append, take-append-drop}
+use lib.Seq.{length-take-le, take-append-seam, drop-append-seam}
+use Rattle.nodes.proofs.Logic.{is-false, from-false, and-l, and-r, or-l, or-r, or-out, or-none, eqb-yes, lt-or-ge}
+use Rattle.records.specs.Answer.{Answer, gives, no}
+use Rattle.records.specs.Records.{checked, written, kindLayers, kindSets}
+use Rattle.records.specs.JobFile.{mostNodes, modeCausal, all, has, rises}
+use Rattle.records.specs.FlowFile.{SetEntry, addEntry, entriesIn, entriesOf, framed, listed, allEntries, entryBelow, entriesRise, layersNo, setsNo, FlowFile, readSets, readFlow, setIn, entryIn, nothingLeft, oneMember}
+use Rattle.records.specs.Encoding.{entryBytes, flowFileBytes, ValidFlow}
+use Rattle.records.proofs.Records.{give-inj, asks-yes, bind-out, no-out, and-out, checked-passed, checked-append, checked-written, record-bytes}
+use Rattle.records.proofs.JobFile.{has-below, rises-length}
+
+-- ---- entries and their bytes
+back : (k : ℕ) (es : List SetEntry) → length (entryBytes es) < k → entriesIn k (entryBytes es) ≡ some es
+unfolding entriesIn entryBytes
+back zero es h = absurd (not-suc-le-zero h)
+back (suc k) [] h = refl
+back (suc k) (e ∷ es) h =
+    let n : length (e .set ++ entryBytes es) ≡ length (e .set) + length (entryBytes es) = length-append (e .set) (entryBytes es) in
+    rw (le-leb (length (e .set)) (length (e .set ++ entryBytes es)) (omega arith), take-append-seam (e .set) (entryBytes es), drop-append-seam (e .set) (entryBytes es), back k es (omega arith))
+
+-- any entries are read back
+pub entries-back : (es : List SetEntry) → entriesOf (entryBytes es) ≡ some es
+entries-back es = back (suc (length (entryBytes es))) es (lt-suc-self (length (entryBytes es)))
+
+bytes-of : (k : ℕ) (s : List ℕ) (es : List SetEntry) → entriesIn k s ≡ some es → s ≡ entryBytes es
+unfolding entriesIn entryBytes
+bytes-of zero s es e = absurd (Option·none-ne-some _ e)
+bytes-of (suc k) [] es e = ap entryBytes (Option·some-injective _ _ e)
+bytes-of (suc k) (u ∷ []) es e = absurd (Option·none-ne-some _ e)
+bytes-of (suc k) (u ∷ c ∷ s) es e = by (leb c (length s)) refl (bytes-of k (drop c s)) e
+  where
+    whole : c ≤ length s → (l : List SetEntry) → drop c s ≡ entryBytes l → u ∷ c ∷ s ≡ u ∷ length (take c s) ∷ take c s ++ entryBytes l
+    whole h l q = rw (length-take-le c s h, ← q, take-append-drop c s)
+
+    more : c ≤ length s → (o : Option (List SetEntry)) → ((l : List SetEntry) → o ≡ some l → drop c s ≡ entryBytes l) → addEntry (record { node = u; set = take c s }) o ≡ some es → u ∷ c ∷ s ≡ entryBytes es
+    more h none ih e = absurd (Option·none-ne-some _ e)
+    more h (some l) ih e = whole h l (ih l refl) ∙ ap entryBytes (Option·some-injective _ _ e)
+
+    by : (b : Bool) → leb c (length s) ≡ b → ((l : List SetEntry) → entriesIn k (drop c s) ≡ some l → drop c s ≡ entryBytes l) → cond b (addEntry (record { node = u; set = take c s }) (entriesIn k (drop c s))) none ≡ some es → u ∷ c ∷ s ≡ entryBytes es
+    by true p ih e = more (leb-true c (length s) p) (entriesIn k (drop c s)) ih e
+    by false p ih e = absurd (Option·none-ne-some _ e)
+
+-- no other bytes are read so
+pub entries-encode : (s : List ℕ) (es : List SetEntry) → entriesOf s ≡ some es → s ≡ entryBytes es
+entries-encode s es e = bytes-of (suc (length s)) s es e
+
+-- ---- the questions of each record, as facts
+layers-out : (n : ℕ) (p : List ℕ) → layersNo n p ≡ 0 → length p ≡ n
+unfolding layersNo
+layers-out n p e = eqb-true (length p) n (no-out 2 (eqb (length p) n) 0 e .0)
+
+layers-in : (n : ℕ) (p : List ℕ) → length p ≡ n → layersNo n p ≡ 0
+unfolding layersNo
+layers-in n p e = rw (eq-eqb (length p) n e)
+
+framed-out : (o : Option (List SetEntry)) → framed o ≡ true → o ≡ some (listed o)
+framed-out none e = absurd (false≢true e)
+framed-out (some es) e = refl
+
+sets-out : (n : ℕ) (p : List ℕ) → setsNo n p ≡ 0 → (entriesOf p ≡ some (listed (entriesOf p))) × (allEntries (entryBelow n) (listed (entriesOf p)) ≡ true) × (entriesRise 0 (listed (entriesOf p)) ≡ true)
+unfolding setsNo
+sets-out n p e =
+    let (a, b) = no-out 2 (framed (entriesOf p)) (no 5 (allEntries (entryBelow n) (listed (entriesOf p))) (no 6 (entriesRise 0 (listed (entriesOf p))) 0)) e in
+    let (c, d) = no-out 4 (allEntries (entryBelow n) (listed (entriesOf p))) (no 6 (entriesRise 0 (listed (entriesOf p))) 0) b in
+    (framed-out (entriesOf p) a, c, no-out 5 (entriesRise 0 (listed (entriesOf p))) 0 d .0)
+
+sets-in : (n : ℕ) (es : List SetEntry) → allEntries (entryBelow n) es ≡ true → entriesRise 0 es ≡ true → setsNo n (entryBytes es) ≡ 0
+unfolding setsNo
+sets-in n es a b = rw (entries-back es, a, b)
+
+-- ---- the two records of a flow, each with the bytes behind it
+pub record FlowParts (n : ℕ) (s : List ℕ) (g : FlowFile) : Type 0 where
+  pub afterLayers : List ℕ
+  pub layers : checked kindLayers (layersNo n) s ≡ gives (record { payload = g .layers; rest = afterLayers })
+  pub sets : checked kindSets (setsNo n) afterLayers ≡ gives (record { payload = entryBytes (g .sets); rest = g .after })
+
+pub flow-of-parts : (n : ℕ) (s : List ℕ) (g : FlowFile) → FlowParts n s g → readFlow n s ≡ gives g
+unfolding readFlow readSets
+flow-of-parts n s g j = rw (j .layers, j .sets, entries-back (g .sets))
+
+pub flow-parts : (n : ℕ) (s : List ℕ) (g : FlowFile) → readFlow n s ≡ gives g → FlowParts n s g
+unfolding readFlow readSets
+flow-parts n s g e =
+    let (p, a1, e1) = bind-out (checked kindLayers (layersNo n) s) (λ p. readSets n (p .payload) (p .rest)) g e in
+    let (q, a2, e2) = bind-out (checked kindSets (setsNo n) (p .rest)) (λ q. gives (record { layers = p .payload; sets = listed (entriesOf (q .payload)); after = q .rest })) g e1 in
+    let (f, x, y) = sets-out n (q .payload) (checked-passed kindSets (setsNo n) (p .rest) q a2 .1) in
+    let here : FlowFile = record { layers = p .payload; sets = listed (entriesOf (q .payload)); after = q .rest } in
+    same here g e2 (record {
+      afterLayers = p .rest;
+      layers = a1;
+      sets = a2 ∙ ap (λ (t : List ℕ). gives (record { payload = t; rest = q .rest })) (entries-encode (q .payload) (listed (entriesOf (q .payload))) f);
+    })
+  where
+    same : (f g : FlowFile) → _≡_ {A = Answer FlowFile} (gives f) (gives g) → FlowParts n s f → FlowParts n s g
+    same f g e x = let h : f ≡ g = give-inj e in rw h at x
+
+-- ---- what reading has asked
+pub flow-asked : (n : ℕ) (s : List ℕ) (g : FlowFile) → readFlow n s ≡ gives g → ValidFlow n g
+flow-asked n s g e =
+    let j : FlowParts n s g = flow-parts n s g e in
+    let (a, b, c) = sets-out n (entryBytes (g .sets)) (checked-passed kindSets (setsNo n) (j .afterLayers) (record { payload = entryBytes (g .sets); rest = g .after }) (j .sets) .1) in
+    let same : listed (entriesOf (entryBytes (g .sets))) ≡ g .sets = ap listed (entries-back (g .sets)) in
+    record {
+      count = layers-out n (g .layers) (checked-passed kindLayers (layersNo n) s (record { payload = g .layers; rest = j .afterLayers }) (j .layers) .1);
+      below = ap (allEntries (entryBelow n)) (sym same) ∙ b;
+      rise = ap (entriesRise 0) (sym same) ∙ c;
+    }
+
+-- ---- bytes behind
+pub flow-append : (n : ℕ) (s t : List ℕ) (g : FlowFile) → readFlow n s ≡ gives g → readFlow n (s ++ t) ≡ gives (record { layers = g .layers; sets = g .sets; after = g .after ++ t })
+flow-append n s t g e =
+    let j : FlowParts n s g = flow-parts n s g e in
+    flow-of-parts n (s ++ t) (record { layers = g .layers; sets = g .sets; after = g .after ++ t }) (record {
+      afterLayers = j .afterLayers ++ t;
+      layers = checked-append kindLayers (layersNo n) s t (record { payload = g .layers; rest = j .afterLayers }) (j .layers);
+      sets = checked-append kindSets (setsNo n) (j .afterLayers) t (record { payload = entryBytes (g .sets); rest = g .after }) (j .sets);
+    })
+
+-- ---- how many entries and bytes there can be
+pub entries-few : (low n : ℕ) (es : List SetEntry) → low ≤ n → allEntries (entryBelow n) es ≡ true → entriesRise low es ≡ true → length es + low ≤ n
+unfolding allEntries entriesRise
+entries-few low n [] h a b = omega arith
+entries-few low n (e ∷ es) h a b =
+    let (p, q) = and-out (ltb (e .node) n && all (λ v. ltb v n) (e .set)) (allEntries (entryBelow n) es) a in
+    let (r, t) = and-out (leb low (e .node) && rises 0 (e .set)) (entriesRise (e .node + 1) es) b in
+    let lt : e .node < n = ltb-true (e .node) n (and-out (ltb (e .node) n) (all (λ v. ltb v n) (e .set)) p .0) in
+    let le : low ≤ e .node = leb-true low (e .node) (and-out (leb low (e .node)) (rises 0 (e .set)) r .0) in
+    let ih : length es + (e .node + 1) ≤ n = entries-few (e .node + 1) n es (omega arith) q t in
+    omega arith
+
+pub entry-bytes-length : (low n : ℕ) (es : List SetEntry) → allEntries (entryBelow n) es ≡ true → entriesRise low es ≡ true → length (entryBytes es) ≤ length es * (n + 2)
+unfolding allEntries entriesRise entryBytes
+entry-bytes-length low n [] a b = omega arith
+entry-bytes-length low n (e ∷ es) a b =
+    let (p, q) = and-out (ltb (e .node) n && all (λ v. ltb v n) (e .set)) (allEntries (entryBelow n) es) a in
+    let (r, t) = and-out (leb low (e .node) && rises 0 (e .set)) (entriesRise (e .node + 1) es) b in
+    let m : length (e .set) + 0 ≤ n = rises-length 0 n (e .set) zero-le (and-out (ltb (e .node) n) (all (λ v. ltb v n) (e .set)) p .1) (and-out (leb low (e .node)) (rises 0 (e .set)) r .1) in
+    let ih : length (entryBytes es) ≤ length es * (n + 2) = entry-bytes-length (e .node + 1) n es q t in
+    let l : length (e .set ++ entryBytes es) ≡ length (e .set) + length (entryBytes es) = length-append (e .set) (entryBytes es) in
+    omega arith
+
+-- ---- the bytes of a flow
+pub flow-decodes : (n : ℕ) (g : FlowFile) → n ≤ mostNodes → ValidFlow n g → readFlow n (flowFileBytes g ++ g .after) ≡ gives g
+flow-decodes n g h v =
+    let few : length (g .sets) + 0 ≤ n = entries-few 0 n (g .sets) zero-le (v .below) (v .rise) in
+    let long : length (entryBytes (g .sets)) ≤ length (g .sets) * (n + 2) = entry-bytes-length 0 n (g .sets) (v .below) (v .rise) in
+    let most : length (g .sets) * (n + 2) ≤ 128 * 130 = mul-le-mul {n₁ = length (g .sets)} {m₁ = n + 2} {n₂ = 128} {m₂ = 130} (omega arith) (omega arith) in
+    let layers : length (g .layers) ≡ n = v .count in
+    ap (readFlow n) (append-assoc (written kindLayers (g .layers)) (written kindSets (entryBytes (g .sets))) (g .after))
+    ∙ flow-of-parts n (written kindLayers (g .layers) ++ (written kindSets (entryBytes (g .sets)) ++ g .after)) g (record {
+      afterLayers = written kindSets (entryBytes (g .sets)) ++ g .after;
+      layers = checked-written kindLayers (layersNo n) (g .layers) (written kindSets (entryBytes (g .sets)) ++ g .after) (omega arith) (layers-in n (g .layers) (v .count));
+      sets = checked-written kindSets (setsNo n) (entryBytes (g .sets)) (g .after) (omega arith) (sets-in n (g .sets) (v .below) (v .rise));
+    })
+
+-- from bytes below 256 only these are read as the flow
+pub flow-encodes : (n : ℕ) (s : List ℕ) (g : FlowFile) → all (λ b. ltb b 256) s ≡ true → readFlow n s ≡ gives g → s ≡ flowFileBytes g ++ g .after
+flow-encodes n s g h e =
+    let j : FlowParts n s g = flow-parts n s g e in
+    let (q1, h1) = record-bytes kindLayers (layersNo n) s (record { payload = g .layers; rest = j .afterLayers }) h (j .layers) in
+    let (q2, h2) = record-bytes kindSets (setsNo n) (j .afterLayers) (record { payload = entryBytes (g .sets); rest = g .after }) h1 (j .sets) in
+    q1 ∙ ap (λ (t : List ℕ). written kindLayers (g .layers) ++ t) q2 ∙ sym (append-assoc (written kindLayers (g .layers)) (written kindSets (entryBytes (g .sets))) (g .after))
+
+-- bytes below 256 are read as a flow just where they are its bytes, and it is valid
+pub flow-exact : (n : ℕ) (s : List ℕ) (g : FlowFile) → n ≤ mostNodes → all (λ b. ltb b 256) s ≡ true → (readFlow n s ≡ gives g ↔ (s ≡ flowFileBytes g ++ g .after) × ValidFlow n g)
+flow-exact n s g k h = (λ e. (flow-encodes n s g h e, flow-asked n s g e), λ x. ap (readFlow n) (x .0) ∙ flow-decodes n g k (x .1))
+
+-- ---- what follows for the nodes
+pub entries-at : (f : SetEntry → Bool) (es : List SetEntry) (d : SetEntry) (i : ℕ) → allEntries f es ≡ true → i < length es → f (getD es i d) ≡ true
+unfolding allEntries
+entries-at f [] d i a h = absurd (not-suc-le-zero h)
+entries-at f (e ∷ es) d zero a h = and-out (f e) (allEntries f es) a .0
+entries-at f (e ∷ es) d (suc i) a h = entries-at f es d i (and-out (f e) (allEntries f es) a .1) (le-of-suc-le-suc h)
+
+-- a node with a member has an entry
+pub set-entry : (es : List SetEntry) (u k : ℕ) → T (setIn es u k) → T (entryIn es u)
+unfolding setIn entryIn
+set-entry [] u k t = t
+set-entry (e ∷ es) u k t = by (or-out (eqb (e .node) u && has (e .set) k) (setIn es u k) t) (set-entry es u k)
+  where
+    by : T (eqb (e .node) u && has (e .set) k) ⊎ T (setIn es u k) → (T (setIn es u k) → T (entryIn es u)) → T (eqb (e .node) u || entryIn es u)
+    by (inl t) ih = or-l (eqb (e .node) u) (entryIn es u) (and-l (eqb (e .node) u) (has (e .set) k) t)
+    by (inr t) ih = or-r (eqb (e .node) u) (entryIn es u) (ih t)
+
+-- an entry stands somewhere in the list
+pub entry-place : (es : List SetEntry) (d : SetEntry) (u : ℕ) → T (entryIn es u) → (i : ℕ) × (i < length es) × (getD es i d .node ≡ u)
+unfolding entryIn
+entry-place [] d u t = absurd t
+entry-place (e ∷ es) d u t = by (or-out (eqb (e .node) u) (entryIn es u) t) (entry-place es d u)
+  where
+    by : T (eqb (e .node) u) ⊎ T (entryIn es u) → (T (entryIn es u) → (i : ℕ) × (i < length es) × (getD es i d .node ≡ u)) → (i : ℕ) × (i < suc (length es)) × (getD (e ∷ es) i d .node ≡ u)
+    by (inl t) ih = (0, omega arith, eqb→eq (e .node) u t)
+    by (inr t) ih = let (i, l, q) = ih t in (suc i, omega arith, q)
+
+pub place-entry : (es : List SetEntry) (d : SetEntry) (i : ℕ) → i < length es → T (entryIn es (getD es i d .node))
+unfolding entryIn
+place-entry [] d i h = absurd (not-suc-le-zero h)
+place-entry (e ∷ es) d zero h = or-l (eqb (e .node) (e .node)) (entryIn es (e .node)) (eqb-refl (e .node))
+place-entry (e ∷ es) d (suc i) h = or-r (eqb (e .node) (getD es i d .node)) (entryIn es (getD es i d .node)) (place-entry es d i (le-of-suc-le-suc h))
+
+-- the nodes of the entries, from where they start to rise
+pub entries-above : (low : ℕ) (es : List SetEntry) (d : SetEntry) (i : ℕ) → entriesRise low es ≡ true → i < length es → low ≤ getD es i d .node
+unfolding entriesRise
+entries-above low [] d i a h = absurd (not-suc-le-zero h)
+entries-above low (e ∷ es) d zero a h = leb-true low (e .node) (and-out (leb low (e .node)) (rises 0 (e .set)) (and-out (leb low (e .node) && rises 0 (e .set)) (entriesRise (e .node + 1) es) a .0) .0)
+entries-above low (e ∷ es) d (suc i) a h =
+    let (p, q) = and-out (leb low (e .node) && rises 0 (e .set)) (entriesRise (e .node + 1) es) a in
+    let le : low ≤ e .node = leb-true low (e .node) (and-out (leb low (e .node)) (rises 0 (e .set)) p .0) in
+    let ih : e .node + 1 ≤ getD es i d .node = entries-above (e .node + 1) es d i q (le-of-suc-le-suc h) in
+    omega arith
+
+pub entries-ascend : (low : ℕ) (es : List SetEntry) (d : SetEntry) (i j : ℕ) → entriesRise low es ≡ true → i < j → j < length es → getD es i d .node < getD es j d .node
+unfolding entriesRise
+entries-ascend low [] d i j a h l = absurd (not-suc-le-zero l)
+entries-ascend low (e ∷ es) d i zero a h l = absurd (not-suc-le-zero h)
+entries-ascend low (e ∷ es) d zero (suc j) a h l = omega (arith, entries-above (e .node + 1) es d j (and-out (leb low (e .node) && rises 0 (e .set)) (entriesRise (e .node + 1) es) a .1) (le-of-suc-le-suc l))
+entries-ascend low (e ∷ es) d (suc i) (suc j) a h l = entries-ascend (e .node + 1) es d i j (and-out (leb low (e .node) && rises 0 (e .set)) (entriesRise (e .node + 1) es) a .1) (le-of-suc-le-suc h) (le-of-suc-le-suc l)
+
+pub entries-none : (low : ℕ) (es : List SetEntry) (u : ℕ) → entriesRise low es ≡ true → u < low → entryIn es u ≡ false
+entries-none low es u a h = is-false (entryIn es u) (λ t. by (entry-place es d u t))
+  where
+    d : SetEntry
+    d = record { node = 0; set = [] }
+
+    by : (i : ℕ) × (i < length es) × (getD es i d .node ≡ u) → ⊥
+    by (i, l, q) = bad (entries-above low es d i a l)
+      where
+        bad : low ≤ getD es i d .node → ⊥
+        bad le = omega arith
+
+pub no-entry-no-set : (es : List SetEntry) (u k : ℕ) → entryIn es u ≡ false → setIn es u k ≡ false
+no-entry-no-set es u k e = is-false (setIn es u k) (λ t. from-false (entryIn es u) e (set-entry es u k t))
+
+-- the members at an entry's node are that entry's: each node has one entry at most
+pub set-at : (low : ℕ) (es : List SetEntry) (d : SetEntry) (i k : ℕ) → entriesRise low es ≡ true → i < length es → setIn es (getD es i d .node) k ≡ has (getD es i d .set) k
+unfolding entriesRise setIn
+set-at low [] d i k a h = absurd (not-suc-le-zero h)
+set-at low (e ∷ es) d zero k a h =
+    let (p, q) = and-out (leb low (e .node) && rises 0 (e .set)) (entriesRise (e .node + 1) es) a in
+    rw (eqb-yes (e .node), no-entry-no-set es (e .node) k (entries-none (e .node + 1) es (e .node) q (omega arith))) (or-none (has (e .set) k))
+set-at low (e ∷ es) d (suc i) k a h =
+    let (p, q) = and-out (leb low (e .node) && rises 0 (e .set)) (entriesRise (e .node + 1) es) a in
+    let l : e .node + 1 ≤ getD es i d .node = entries-above (e .node + 1) es d i q (le-of-suc-le-suc h) in
+    rw (ne-eqb (e .node) (getD es i d .node) (omega arith)) (set-at (e .node + 1) es d i k q (le-of-suc-le-suc h))
+
+pub entry-once : (low : ℕ) (es : List SetEntry) (d : SetEntry) (i j : ℕ) → entriesRise low es ≡ true → i < length es → j < length es → getD es i d .node ≡ getD es j d .node → i ≡ j
+entry-once low es d i j a h l e = by (lt-or-ge i j) (lt-or-ge j i)
+  where
+    by : (i < j) ⊎ (j ≤ i) → (j < i) ⊎ (i ≤ j) → i ≡ j
+    by (inl x) y = absurd (apart (entries-ascend low es d i j a x l))
+      where
+        apart : getD es i d .node < getD es j d .node → ⊥
+        apart z = omega arith
+    by (inr x) (inl y) = absurd (apart (entries-ascend low es d j i a y h))
+      where
+        apart : getD es j d .node < getD es i d .node → ⊥
+        apart z = omega arith
+    by (inr x) (inr y) = omega arith
+
+pub nodes-below : (n : ℕ) (es : List SetEntry) (u : ℕ) → allEntries (entryBelow n) es ≡ true → T (entryIn es u) → u < n
+unfolding allEntries entryIn
+nodes-below n [] u a t = absurd t
+nodes-below n (e ∷ es) u a t =
+    let (p, q) = and-out (ltb (e .node) n && all (λ v. ltb v n) (e .set)) (allEntries (entryBelow n) es) a in
+    by (ltb-true (e .node) n (and-out (ltb (e .node) n) (all (λ v. ltb v n) (e .set)) p .0)) (or-out (eqb (e .node) u) (entryIn es u) t) (nodes-below n es u q)
+  where
+    by : e .node < n → T (eqb (e .node) u) ⊎ T (entryIn es u) → (T (entryIn es u) → u < n) → u < n
+    by l (inl t) ih = rw (← eqb→eq (e .node) u t) l
+    by l (inr t) ih = ih t
+
+pub members-below : (n : ℕ) (es : List SetEntry) (u k : ℕ) → allEntries (entryBelow n) es ≡ true → T (setIn es u k) → k < n
+unfolding allEntries setIn
+members-below n [] u k a t = absurd t
+members-below n (e ∷ es) u k a t =
+    let (p, q) = and-out (ltb (e .node) n && all (λ v. ltb v n) (e .set)) (allEntries (entryBelow n) es) a in
+    by (and-out (ltb (e .node) n) (all (λ v. ltb v n) (e .set)) p .1) (or-out (eqb (e .node) u && has (e .set) k) (setIn es u k) t) (members-below n es u k q)
+  where
+    by : all (λ v. ltb v n) (e .set) ≡ true → T (eqb (e .node) u && has (e .set) k) ⊎ T (setIn es u k) → (T (setIn es u k) → k < n) → k < n
+    by l (inl t) ih = has-below n (e .set) k l (and-r (eqb (e .node) u) (has (e .set) k) t)
+    by l (inr t) ih = ih t
+
+-- ---- the questions that follow
+-- nothing is left (8)
+pub nothing-left : (rest : List ℕ) (b : Bool) → nothingLeft rest ≡ gives b → rest ≡ []
+nothing-left [] b e = refl
+nothing-left (x ∷ l) b e = absurd (none (length l) (eqb-true (suc (length l)) 0 (asks-yes 8 (eqb (suc (length l)) 0) b e)))
+  where
+    none : (k : ℕ) → suc k ≡ 0 → ⊥
+    none k e = omega arith
+
+-- in mode 1 each entry has one member (9), in the others any number
+pub one-member-asked : (es : List SetEntry) (b : Bool) → oneMember modeCausal es ≡ gives b → allEntries (λ e. eqb (length (e .set)) 1) es ≡ true
+one-member-asked es b e = asks-yes 9 (allEntries (λ e. eqb (length (e .set)) 1) es) b e
+
+pub one-member-other : (mode : ℕ) (es : List SetEntry) → mode ≢ modeCausal → oneMember mode es ≡ gives true
+one-member-other mode es d = rw (ne-eqb mode modeCausal d)
+
+alone : (l : List ℕ) → length l ≡ 1 → (k : ℕ) × ((m : ℕ) → has l m ≡ eqb k m)
+unfolding has
+alone [] e = absurd (omega arith)
+alone (k ∷ []) e = (k, λ m. or-none (eqb k m))
+alone (k ∷ x ∷ l) e = absurd (omega arith)
+
+pub one-member : (low : ℕ) (es : List SetEntry) (u : ℕ) → entriesRise low es ≡ true → allEntries (λ e. eqb (length (e .set)) 1) es ≡ true → T (entryIn es u)
+    → (k : ℕ) × ((m : ℕ) → setIn es u m ≡ eqb k m)
+one-member low es u a b t = let (i, l, q) = entry-place es d u t in by (getD es i d) q (eqb-true (length (getD es i d .set)) 1 (entries-at (λ e. eqb (length (e .set)) 1) es d i b l)) (λ m. set-at low es d i m a l)
+  where
+    d : SetEntry
+    d = record { node = 0; set = [] }
+
+    by : (e : SetEntry) → e .node ≡ u → length (e .set) ≡ 1 → ((m : ℕ) → setIn es (e .node) m ≡ has (e .set) m) → (k : ℕ) × ((m : ℕ) → setIn es u m ≡ eqb k m)
+    by e q c h = let (k, f) = alone (e .set) c in (k, λ m. ap (λ (v : ℕ). setIn es v m) (sym q) ∙ h m ∙ f m)

@@ -1,0 +1,119 @@
+-- A loop over a payload: what is asked of the whole is what is asked of the rest.
+use mathlib.Core.Path.{_≡_, refl, sym, ap, _∙_}
+use mathlib.Core.Bool.{Bool, true, false, _&&_, _||_}
+use mathlib.Core.List.{List, [], _∷_}
+use Prim.Native.Nat.{ℕ, _+_, _*_, _-_, _<_, _≤_}
+use native.Mathlib.Numerals.{add-one}
+use native.Mathlib.Omega.{arith}
+use native.Mathlib.Decide.{ℕ-discrete}
+use borrow.Author.Tests.{le-leb, lt-leb, lt-ltb, le-ltb, eq-eqb, ne-eqb}
+use lib.Dec.{eqb, leb}
+use lib.ListN.{length, getD, drop, drop-of-length-le}
+use lib.Seq.{drop-cons}
+use Rattle.nodes.specs.NodeSet.{highest}
+use Rattle.records.specs.JobFile.{all, rises, pairsRise, has, allows, allAllowed}
+
+pub rest-none : (l : List ℕ) (i : ℕ) → length l ≤ i → drop i l ≡ []
+rest-none l i h = drop-of-length-le l h
+
+pub rest-cons : (l : List ℕ) (i : ℕ) → i < length l → drop i l ≡ getD l i 0 ∷ drop (i + 1) l
+rest-cons l i h = rw add-one (drop-cons l i 0 h)
+
+pub rest-two : (l : List ℕ) (i : ℕ) → i + 2 ≤ length l → drop i l ≡ getD l i 0 ∷ getD l (i + 1) 0 ∷ drop (i + 2) l
+rest-two l i h =
+    let e : i + 1 + 1 ≡ i + 2 = omega arith in
+    rest-cons l i (omega arith) ∙ ap (λ (t : List ℕ). getD l i 0 ∷ t) (rest-cons l (i + 1) (omega arith)) ∙ ap (λ (k : ℕ). getD l i 0 ∷ getD l (i + 1) 0 ∷ drop k l) e
+
+module _ (f : ℕ → Bool) (l : List ℕ) (i : ℕ) where
+  pub all-end : length l ≤ i → all f (drop i l) ≡ true
+  unfolding all
+  all-end h = ap (all f) (rest-none l i h)
+
+  pub all-no : i < length l → f (getD l i 0) ≡ false → all f (drop i l) ≡ false
+  unfolding all
+  all-no h e = ap (all f) (rest-cons l i h) ∙ rw e
+
+  pub all-yes : i < length l → f (getD l i 0) ≡ true → all f (drop i l) ≡ all f (drop (i + 1) l)
+  unfolding all
+  all-yes h e = ap (all f) (rest-cons l i h) ∙ rw e
+
+module _ (low : ℕ) (l : List ℕ) (i : ℕ) where
+  pub rises-end : length l ≤ i → rises low (drop i l) ≡ true
+  unfolding rises
+  rises-end h = ap (rises low) (rest-none l i h)
+
+  pub rises-no : i < length l → getD l i 0 < low → rises low (drop i l) ≡ false
+  unfolding rises
+  rises-no h e = ap (rises low) (rest-cons l i h) ∙ rw (lt-leb low (getD l i 0) e)
+
+  pub rises-yes : i < length l → low ≤ getD l i 0 → rises low (drop i l) ≡ rises (getD l i 0 + 1) (drop (i + 1) l)
+  unfolding rises
+  rises-yes h e = ap (rises low) (rest-cons l i h) ∙ rw (le-leb low (getD l i 0) e)
+
+-- two at a time
+module _ (low : ℕ) (l : List ℕ) (i : ℕ) where
+  pub pairs-end : length l - i < 2 → pairsRise low (drop i l) ≡ true
+  unfolding pairsRise
+  pairs-end h = by (ℕ-discrete (length l - i) 1)
+    where
+      by : Dec (length l - i ≡ 1) → pairsRise low (drop i l) ≡ true
+      by (yes e) = ap (pairsRise low) (rest-cons l i (omega arith) ∙ ap (λ (t : List ℕ). getD l i 0 ∷ t) (rest-none l (i + 1) (omega arith)))
+      by (no e) = ap (pairsRise low) (rest-none l i (omega arith))
+
+  module _ (h : i + 2 ≤ length l) where
+    pub pairs-no : getD l (i + 1) 0 ≤ getD l i 0 → pairsRise low (drop i l) ≡ false
+    unfolding pairsRise
+    pairs-no e = ap (pairsRise low) (rest-two l i h) ∙ rw (le-ltb (getD l i 0) (getD l (i + 1) 0) e)
+
+    module _ (e : getD l i 0 < getD l (i + 1) 0) where
+      pub pairs-low : 256 * getD l i 0 + getD l (i + 1) 0 < low → pairsRise low (drop i l) ≡ false
+      unfolding pairsRise
+      pairs-low g = ap (pairsRise low) (rest-two l i h) ∙ rw (lt-ltb (getD l i 0) (getD l (i + 1) 0) e, lt-leb low (256 * getD l i 0 + getD l (i + 1) 0) g)
+
+      pub pairs-yes : low ≤ 256 * getD l i 0 + getD l (i + 1) 0 → pairsRise low (drop i l) ≡ pairsRise (256 * getD l i 0 + getD l (i + 1) 0 + 1) (drop (i + 2) l)
+      unfolding pairsRise
+      pairs-yes g = ap (pairsRise low) (rest-two l i h) ∙ rw (lt-ltb (getD l i 0) (getD l (i + 1) 0) e, le-leb low (256 * getD l i 0 + getD l (i + 1) 0) g)
+
+module _ (mode : ℕ) (out : ℕ → Bool) (l : List ℕ) (i : ℕ) where
+  pub allowed-end : length l ≤ i → allAllowed mode out i (drop i l) ≡ true
+  unfolding allAllowed
+  allowed-end h = ap (allAllowed mode out i) (rest-none l i h)
+
+  pub allowed-no : i < length l → allows mode (out i) (getD l i 0) ≡ false → allAllowed mode out i (drop i l) ≡ false
+  unfolding allAllowed
+  allowed-no h e = ap (allAllowed mode out i) (rest-cons l i h) ∙ rw e
+
+  pub allowed-yes : i < length l → allows mode (out i) (getD l i 0) ≡ true → allAllowed mode out i (drop i l) ≡ allAllowed mode out (i + 1) (drop (i + 1) l)
+  unfolding allAllowed
+  allowed-yes h e = ap (allAllowed mode out i) (rest-cons l i h) ∙ rw e
+
+-- the members of a list, below a bound: of those put in so far, and of the rest
+abbrev pub lists : List ℕ → ℕ → Bool
+lists l u = has l u && leb u highest
+
+module _ (l : List ℕ) (i : ℕ) (u : ℕ) where
+  pub lists-end : length l ≤ i → (m : Bool) → m || lists (drop i l) u ≡ m
+  unfolding has
+  lists-end h m = ap (λ (t : List ℕ). m || lists t u) (rest-none l i h) ∙ or-false m
+    where
+      or-false : (m : Bool) → m || false ≡ m
+      or-false true = refl
+      or-false false = refl
+
+  pub lists-more : i < length l → (m : Bool) → m || lists (drop i l) u ≡ m || (eqb u (getD l i 0) && leb (getD l i 0) highest) || lists (drop (i + 1) l) u
+  unfolding has
+  lists-more h m = ap (λ (t : List ℕ). m || lists t u) (rest-cons l i h) ∙ by (ℕ-discrete u (getD l i 0))
+    where
+      same : (m b c : Bool) → m || b ≡ m || b || (c && b)
+      same true b c = refl
+      same false true c = refl
+      same false false true = refl
+      same false false false = refl
+
+      by : Dec (u ≡ getD l i 0) → m || ((eqb (getD l i 0) u || has (drop (i + 1) l) u) && leb u highest) ≡ m || (eqb u (getD l i 0) && leb (getD l i 0) highest) || lists (drop (i + 1) l) u
+      by (yes e) = rw (← e, eq-eqb u u refl) (same m (leb u highest) (has (drop (i + 1) l) u))
+      by (no n) = rw (ne-eqb u (getD l i 0) n, ne-eqb (getD l i 0) u (λ e. n (sym e))) (plain m)
+        where
+          plain : (m : Bool) → m || lists (drop (i + 1) l) u ≡ m || false || lists (drop (i + 1) l) u
+          plain true = refl
+          plain false = refl

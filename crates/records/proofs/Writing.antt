@@ -1,0 +1,219 @@
+-- What the finder writes: read back it is the flow that was found; its bytes, its length; and 0013 is no flow file.
+use Prim.Native.Nat.{ℕ, zero, suc, _+_, _*_, _≤_, _<_, zero-le}
+use mathlib.Core.Path.{_≡_, refl, sym, ap, ap₂, _∙_}
+use mathlib.Core.Bool.{Bool, true, false, cond, not, _&&_, _||_}
+use mathlib.Core.Logic.{_⊎_, inl, inr, _≢_}
+use mathlib.Core.Option.{some}
+use mathlib.Core.List.{List, [], _∷_, _++_, append-nil}
+use native.Mathlib.Omega.{arith}
+use native.Mathlib.Nat.{mul-le-mul, not-suc-le-zero, le-of-suc-le-suc}
+use borrow.Author.Tests.{ltb-true, le-leb, lt-ltb, ne-eqb}
+use lib.Dec.{T, eqb, ltb, leb, eqb→eq, eqb-refl}
+use lib.ListN.{length, getD, length-append}
+use Rattle.nodes.specs.Row.{membersFrom, members}
+use Rattle.nodes.proofs.Logic.{is-false, dec, and-none, and-all, or-none, lt-or-ge, eqb-yes}
+use Rattle.nodes.proofs.Row.{ltb-yes, ltb-no}
+use Rattle.nodes.proofs.Members.{members-snoc}
+use Rattle.solver.specs.WorkMatrix.{listOf}
+use Rattle.finder.specs.Job.{Job}
+use Rattle.finder.specs.Search.{Progress}
+use Rattle.records.specs.Answer.{gives}
+use Rattle.records.specs.Records.{part, checked, written, kindLayers, kindSets, kindNoFlow}
+use Rattle.records.specs.JobFile.{mostNodes, all, has, rises}
+use Rattle.records.specs.FlowFile.{SetEntry, allEntries, entryBelow, entriesRise, FlowFile, readFlow, setIn, entryIn, flowOf}
+use Rattle.records.specs.Encoding.{entryBytes, flowFileBytes, ValidFlow, entriesFor, foundFlow}
+use Rattle.records.specs.Writing.{setBytes, flowBytes}
+use Rattle.records.proofs.Records.{never, and-out, all-append, all-more, written-length, written-bytes}
+use Rattle.records.proofs.JobFile.{rises-length}
+use Rattle.records.proofs.FlowFile.{flow-decodes, entries-few, entry-bytes-length}
+
+-- ---- lists of values
+pub list-length : {A : Type 0} (n : ℕ) (f : ℕ → A) → length (listOf n f) ≡ n
+unfolding listOf
+list-length zero f = refl
+list-length (suc n) f = ap suc (list-length n (λ k. f (suc k)))
+
+pub list-at : {A : Type 0} (n : ℕ) (f : ℕ → A) (d : A) (k : ℕ) → k < n → getD (listOf n f) k d ≡ f k
+unfolding listOf
+list-at zero f d k h = absurd (not-suc-le-zero h)
+list-at (suc n) f d zero h = refl
+list-at (suc n) f d (suc k) h = list-at n (λ k. f (suc k)) d k (le-of-suc-le-suc h)
+
+pub list-all : (n : ℕ) (f : ℕ → ℕ) (p : ℕ → Bool) → ((k : ℕ) → k < n → p (f k) ≡ true) → all p (listOf n f) ≡ true
+unfolding listOf all
+list-all zero f p h = refl
+list-all (suc n) f p h = rw (h 0 (omega arith), list-all n (λ k. f (suc k)) p (λ k l. h (suc k) (omega arith)))
+
+-- ---- the members of a set as a list
+has-append : (l g : List ℕ) (k : ℕ) → has (l ++ g) k ≡ has l k || has g k
+unfolding has
+has-append [] g k = refl
+has-append (x ∷ l) g k = by (eqb x k) (has-append l g k)
+  where
+    by : (b : Bool) → has (l ++ g) k ≡ has l k || has g k → b || has (l ++ g) k ≡ b || has l k || has g k
+    by true e = refl
+    by false e = e
+
+-- one number more
+one-has : (c : Bool) (n k : ℕ) → has (cond c (n ∷ []) []) k ≡ c && eqb n k
+unfolding has
+one-has true n k = or-none (eqb n k)
+one-has false n k = refl
+
+one-more : (n : ℕ) (s : ℕ → Bool) (k : ℕ) → ltb k n && s k || s n && eqb n k ≡ ltb k (suc n) && s k
+one-more n s k = by (lt-or-ge k n) (dec (eqb n k))
+  where
+    by : (k < n) ⊎ (n ≤ k) → T (eqb n k) ⊎ (T (eqb n k) → ⊥) → ltb k n && s k || s n && eqb n k ≡ ltb k (suc n) && s k
+    by (inl h) d = rw (ltb-yes k n h, ltb-yes k (suc n) (omega arith), ne-eqb n k (omega arith), and-none (s n)) (or-none (s k))
+    by (inr h) (inl t) = rw (← eqb→eq n k t, ltb-no n n (omega arith), ltb-yes n (suc n) (omega arith), eqb-yes n) (and-all (s n))
+    by (inr h) (inr f) =
+        let d : n ≢ k = λ e. f (rw e (eqb-refl k)) in
+        rw (ltb-no k n h, ltb-no k (suc n) (omega arith), is-false (eqb n k) f) (and-none (s n))
+
+pub members-has : (n : ℕ) (s : ℕ → Bool) (k : ℕ) → has (members n s) k ≡ ltb k n && s k
+unfolding has membersFrom
+members-has zero s k = rw (ltb-no k 0 zero-le)
+members-has (suc n) s k =
+    ap (λ (l : List ℕ). has l k) (members-snoc n s) ∙ has-append (members n s) (cond (s n) (n ∷ []) []) k
+    ∙ ap₂ _||_ (members-has n s k) (one-has (s n) n k) ∙ one-more n s k
+
+from-below : (i n m : ℕ) (s : ℕ → Bool) → i + n ≤ m → all (λ v. ltb v m) (membersFrom i n s) ≡ true
+unfolding all membersFrom
+from-below i zero m s h = refl
+from-below i (suc n) m s h = by (s i) (from-below (i + 1) n m s (omega arith))
+  where
+    by : (c : Bool) → all (λ v. ltb v m) (membersFrom (i + 1) n s) ≡ true → all (λ v. ltb v m) (cond c (i ∷ membersFrom (i + 1) n s) (membersFrom (i + 1) n s)) ≡ true
+    by true e = rw (lt-ltb i m (omega arith), e)
+    by false e = e
+
+pub members-under : (n : ℕ) (s : ℕ → Bool) → all (λ v. ltb v n) (members n s) ≡ true
+members-under n s = from-below 0 n n s (omega arith)
+
+from-rise : (low i n : ℕ) (s : ℕ → Bool) → low ≤ i → rises low (membersFrom i n s) ≡ true
+unfolding rises membersFrom
+from-rise low i zero s h = refl
+from-rise low i (suc n) s h = by (s i) (from-rise (i + 1) (i + 1) n s (omega arith)) (from-rise low (i + 1) n s (omega arith))
+  where
+    by : (c : Bool) → rises (i + 1) (membersFrom (i + 1) n s) ≡ true → rises low (membersFrom (i + 1) n s) ≡ true
+        → rises low (cond c (i ∷ membersFrom (i + 1) n s) (membersFrom (i + 1) n s)) ≡ true
+    by true a b = rw (le-leb low i h) a
+    by false a b = b
+
+pub members-rise : (n : ℕ) (s : ℕ → Bool) → rises 0 (members n s) ≡ true
+members-rise n s = from-rise 0 0 n s zero-le
+
+-- ---- the entries of the nodes in a list
+sets-bytes : (n : ℕ) (set : ℕ → ℕ → Bool) (us : List ℕ) → setBytes n set us ≡ entryBytes (entriesFor n set us)
+unfolding setBytes entryBytes entriesFor
+sets-bytes n set [] = refl
+sets-bytes n set (u ∷ us) = rw (sets-bytes n set us)
+
+for-below : (n : ℕ) (set : ℕ → ℕ → Bool) (us : List ℕ) → all (λ v. ltb v n) us ≡ true → allEntries (entryBelow n) (entriesFor n set us) ≡ true
+unfolding all allEntries entriesFor
+for-below n set [] a = refl
+for-below n set (u ∷ us) a = let (p, q) = and-out (ltb u n) (all (λ v. ltb v n) us) a in rw (p, members-under n (set u), for-below n set us q)
+
+for-rise : (low n : ℕ) (set : ℕ → ℕ → Bool) (us : List ℕ) → rises low us ≡ true → entriesRise low (entriesFor n set us) ≡ true
+unfolding rises entriesRise entriesFor
+for-rise low n set [] a = refl
+for-rise low n set (u ∷ us) a = let (p, q) = and-out (leb low u) (rises (u + 1) us) a in rw (p, members-rise n (set u), for-rise (u + 1) n set us q)
+
+for-entry : (n : ℕ) (set : ℕ → ℕ → Bool) (us : List ℕ) (u : ℕ) → entryIn (entriesFor n set us) u ≡ has us u
+unfolding entryIn has entriesFor
+for-entry n set [] u = refl
+for-entry n set (a ∷ us) u = rw (for-entry n set us u)
+
+for-set : (n : ℕ) (set : ℕ → ℕ → Bool) (us : List ℕ) (u k : ℕ) → setIn (entriesFor n set us) u k ≡ has us u && has (members n (set u)) k
+unfolding setIn has entriesFor
+for-set n set [] u k = refl
+for-set n set (a ∷ us) u k = by (dec (eqb a u)) (for-set n set us u k)
+  where
+    absorb : (a b : Bool) → a || b && a ≡ a
+    absorb true b = refl
+    absorb false b = and-none b
+
+    by : T (eqb a u) ⊎ (T (eqb a u) → ⊥) → setIn (entriesFor n set us) u k ≡ has us u && has (members n (set u)) k
+        → eqb a u && has (members n (set a)) k || setIn (entriesFor n set us) u k ≡ (eqb a u || has us u) && has (members n (set u)) k
+    by (inl t) ih = rw (ih, eqb→eq a u t, eqb-yes u) (absorb (has (members n (set u)) k) (has us u))
+    by (inr f) ih = rw (is-false (eqb a u) f) ih
+
+-- ---- bytes and lengths
+entry-bytes : (low n : ℕ) (es : List SetEntry) → n < 256 → allEntries (entryBelow n) es ≡ true → entriesRise low es ≡ true → all (λ b. ltb b 256) (entryBytes es) ≡ true
+unfolding all allEntries entriesRise entryBytes
+entry-bytes low n [] h a b = refl
+entry-bytes low n (e ∷ es) h a b =
+    let (p, q) = and-out (ltb (e .node) n && all (λ v. ltb v n) (e .set)) (allEntries (entryBelow n) es) a in
+    let (p1, p2) = and-out (ltb (e .node) n) (all (λ v. ltb v n) (e .set)) p in
+    let (r, t) = and-out (leb low (e .node) && rises 0 (e .set)) (entriesRise (e .node + 1) es) b in
+    let m : length (e .set) + 0 ≤ n = rises-length 0 n (e .set) zero-le p2 (and-out (leb low (e .node)) (rises 0 (e .set)) r .1) in
+    let l : e .node < n = ltb-true (e .node) n p1 in
+    rw (lt-ltb (e .node) 256 (omega arith), lt-ltb (length (e .set)) 256 (omega arith))
+    (all-append (λ b. ltb b 256) (e .set) (entryBytes es) (all-more (λ v. ltb v n) (λ v. ltb v 256) (e .set) (λ v x. let y : v < n = ltb-true v n x in lt-ltb v 256 (omega arith)) p2) (entry-bytes (e .node + 1) n es h q t))
+
+-- the bytes of a valid flow whose layers are bytes
+pub flow-file-bytes : (n : ℕ) (g : FlowFile) → n < 256 → ValidFlow n g → all (λ b. ltb b 256) (g .layers) ≡ true → all (λ b. ltb b 256) (flowFileBytes g) ≡ true
+flow-file-bytes n g h v a =
+    all-append (λ b. ltb b 256) (written kindLayers (g .layers)) (written kindSets (entryBytes (g .sets)))
+    (written-bytes kindLayers (g .layers) (omega arith) a)
+    (written-bytes kindSets (entryBytes (g .sets)) (omega arith) (entry-bytes 0 n (g .sets) h (v .below) (v .rise)))
+
+pub flow-file-length : (n : ℕ) (g : FlowFile) → ValidFlow n g → length (flowFileBytes g) ≤ 12 + n + n * (n + 2)
+flow-file-length n g v =
+    let few : length (g .sets) + 0 ≤ n = entries-few 0 n (g .sets) zero-le (v .below) (v .rise) in
+    let long : length (entryBytes (g .sets)) ≤ length (g .sets) * (n + 2) = entry-bytes-length 0 n (g .sets) (v .below) (v .rise) in
+    let most : length (g .sets) * (n + 2) ≤ n * (n + 2) = mul-le-mul {n₁ = length (g .sets)} {m₁ = n + 2} {n₂ = n} {m₂ = n + 2} (omega arith) (omega arith) in
+    omega (arith, v .count, length-append (written kindLayers (g .layers)) (written kindSets (entryBytes (g .sets))), written-length kindLayers (g .layers), written-length kindSets (entryBytes (g .sets)))
+
+-- ---- the finder's file
+module _ (j : Job) (s : Progress) where
+  pub found-file : flowBytes j (some s) ≡ flowFileBytes (foundFlow j s)
+  found-file = ap (λ (t : List ℕ). written kindLayers (listOf (j .nodes) (s .layer)) ++ written kindSets t) (sets-bytes (j .nodes) (s .set) (members (j .nodes) (λ u. not (j .output u))))
+
+  pub found-valid : ValidFlow (j .nodes) (foundFlow j s)
+  found-valid = record {
+    count = list-length (j .nodes) (s .layer);
+    below = for-below (j .nodes) (s .set) (members (j .nodes) (λ u. not (j .output u))) (members-under (j .nodes) (λ u. not (j .output u)));
+    rise = for-rise 0 (j .nodes) (s .set) (members (j .nodes) (λ u. not (j .output u))) (members-rise (j .nodes) (λ u. not (j .output u)));
+  }
+
+  -- it is read back
+  pub found-reads : j .nodes ≤ mostNodes → readFlow (j .nodes) (flowBytes j (some s)) ≡ gives (foundFlow j s)
+  found-reads h = ap (readFlow (j .nodes)) (found-file ∙ sym (append-nil (flowFileBytes (foundFlow j s)))) ∙ flow-decodes (j .nodes) (foundFlow j s) h found-valid
+
+  -- as the flow that was found
+  pub found-layer : (u : ℕ) → u < j .nodes → flowOf (foundFlow j s) .layer u ≡ s .layer u
+  found-layer u h = list-at (j .nodes) (s .layer) 0 u h
+
+  pub found-entry : (u : ℕ) → u < j .nodes → flowOf (foundFlow j s) .entry u ≡ not (j .output u)
+  found-entry u h =
+      for-entry (j .nodes) (s .set) (members (j .nodes) (λ u. not (j .output u))) u
+      ∙ members-has (j .nodes) (λ u. not (j .output u)) u ∙ ap (λ (b : Bool). b && not (j .output u)) (ltb-yes u (j .nodes) h)
+
+  pub found-set : (u k : ℕ) → u < j .nodes → k < j .nodes → flowOf (foundFlow j s) .set u k ≡ not (j .output u) && s .set u k
+  found-set u k h l =
+      for-set (j .nodes) (s .set) (members (j .nodes) (λ u. not (j .output u))) u k
+      ∙ ap₂ _&&_ (members-has (j .nodes) (λ u. not (j .output u)) u ∙ ap (λ (b : Bool). b && not (j .output u)) (ltb-yes u (j .nodes) h))
+      (members-has (j .nodes) (s .set u) k ∙ ap (λ (b : Bool). b && s .set u k) (ltb-yes k (j .nodes) l))
+
+  pub found-bytes : j .nodes ≤ mostNodes → ((u : ℕ) → u < j .nodes → s .layer u < 256) → all (λ b. ltb b 256) (flowBytes j (some s)) ≡ true
+  found-bytes h a =
+      ap (all (λ b. ltb b 256)) found-file
+      ∙ flow-file-bytes (j .nodes) (foundFlow j s) (omega arith) found-valid (list-all (j .nodes) (s .layer) (λ b. ltb b 256) (λ k l. lt-ltb (s .layer k) 256 (a k l)))
+
+  pub found-length : length (flowBytes j (some s)) ≤ 12 + j .nodes + j .nodes * (j .nodes + 2)
+  found-length = rw found-file (flow-file-length (j .nodes) (foundFlow j s) found-valid)
+
+  pub found-most : j .nodes ≤ mostNodes → length (flowBytes j (some s)) ≤ 16780
+  found-most h =
+      let a : j .nodes * (j .nodes + 2) ≤ 128 * 130 = mul-le-mul {n₁ = j .nodes} {m₁ = j .nodes + 2} {n₂ = 128} {m₂ = 130} (omega arith) (omega arith) in
+      omega (arith, found-length)
+
+  -- ---- 0013
+  -- the kind's first byte differs
+  pub found-is-flow : flowBytes j (some s) ≢ written kindNoFlow []
+  unfolding written
+  found-is-flow e = let x : _≡_ {A = ℕ} 17 19 = ap (λ (l : List ℕ). getD l 4 0) e in omega arith
+
+pub no-flow-unread : (n : ℕ) (g : FlowFile) → readFlow n (written kindNoFlow []) ≢ gives g
+unfolding readFlow checked part written
+no-flow-unread n g e = never e

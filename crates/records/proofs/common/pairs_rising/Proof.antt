@@ -1,0 +1,98 @@
+use mathlib.Core.Path.{_≡_, refl, sym, _∙_}
+use Prim.Native.Nat.{_-_, _≤_}
+use native.Mathlib.Omega.{arith}
+use lib.ListN.{length, drop}
+use Rattle.records.specs.JobFile.{pairsRise}
+use Rattle.records.proofs.ReadingLoops.{pairs-end, pairs-no, pairs-low, pairs-yes}
+use borrow.Author.Needs.{needs}
+use Rattle.records.proofs.common.pairs_rising.Statement.{statement}
+use Rattle.records.proofs.common.pairs_rising.Tie as tie
+
+abbrev Inv-loop : tie.InvT-loop
+Inv-loop p low₀ i₀ low i = (i ≤ length p) × (pairsRise 0 p ≡ pairsRise low (drop i p))
+
+abbrev μ-loop : tie.MeasureT-loop
+μ-loop p low₀ i₀ low i = length p - i
+
+loop-holds : tie.Need-loop-holds Inv-loop μ-loop
+loop-holds c = (search needs, refl)
+
+sub-loop : tie.Need-sub-loop Inv-loop μ-loop
+sub-loop c = search needs
+
+shared-slice-read-wide : tie.Need-shared-slice-read-wide Inv-loop μ-loop
+shared-slice-read-wide c = search needs
+
+wide-requires : tie.Need-wide-requires Inv-loop μ-loop
+wide-requires c κs = search needs
+
+add-wide : tie.Need-add-wide Inv-loop μ-loop
+add-wide c = search needs
+
+shared-slice-read-wide-2 : tie.Need-shared-slice-read-wide-2 Inv-loop μ-loop
+shared-slice-read-wide-2 c = search needs
+
+wide-requires-2 : tie.Need-wide-requires-2 Inv-loop μ-loop
+wide-requires-2 c κs = search needs
+
+returns : tie.Need-returns Inv-loop μ-loop
+returns c =
+    let l = c .before .before .before .before .before .before .loop in
+    let a = c .before .before .before .before .before .before .before .before .args in
+    sym (l .inv .1 ∙ pairs-no (l .low) (a .edges .now) (l .i) (omega arith) (omega arith))
+
+mul-key : tie.Need-mul-key Inv-loop μ-loop
+mul-key c = search needs
+
+add-key : tie.Need-add-key Inv-loop μ-loop
+add-key c = search needs
+
+returns-2 : tie.Need-returns-2 Inv-loop μ-loop
+returns-2 c =
+    let l = c .before .before .before .before .before .before .before .loop in
+    let a = c .before .before .before .before .before .before .before .before .before .args in
+    sym (l .inv .1 ∙ pairs-low (l .low) (a .edges .now) (l .i) (omega arith) (omega arith) (omega arith))
+
+add-low : tie.Need-add-low Inv-loop μ-loop
+add-low c = search needs
+
+add-i : tie.Need-add-i Inv-loop μ-loop
+add-i c = search needs
+
+loop-less : tie.Need-loop-less Inv-loop μ-loop
+loop-less c = search needs
+
+loop-again : tie.Need-loop-again Inv-loop μ-loop
+loop-again c =
+    let l = c .before .before .before .before .before .before .before .loop in
+    let a = c .before .before .before .before .before .before .before .before .before .args in
+    (search needs, rw (c .before .before .wide2 .ensures .0, c .before .before .before .before .wide .ensures .0) (l .inv .1 ∙ pairs-yes (l .low) (a .edges .now) (l .i) (omega arith) (omega arith) (omega arith)))
+
+returns-3 : tie.Need-returns-3 Inv-loop μ-loop
+returns-3 c =
+    let l = c .before .loop in
+    let a = c .before .before .before .args in
+    sym (l .inv .1 ∙ pairs-end (l .low) (a .edges .now) (l .i) (omega arith))
+
+pub pairs-rising-spec : {M : Type 1} → statement M
+pairs-rising-spec =
+    tie.close
+    (tie.spec
+    Inv-loop
+    μ-loop
+    loop-holds
+    sub-loop
+    shared-slice-read-wide
+    wide-requires
+    add-wide
+    shared-slice-read-wide-2
+    wide-requires-2
+    returns
+    mul-key
+    add-key
+    returns-2
+    add-low
+    add-i
+    loop-less
+    loop-again
+    returns-3)

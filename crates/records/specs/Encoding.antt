@@ -1,0 +1,68 @@
+-- The bytes of a job and of a flow, as they are written, and what reading asks of them.
+use Prim.Native.Nat.{ℕ, _%_, _≤_}
+use mathlib.Core.Path.{_≡_}
+use mathlib.Core.Bool.{Bool, true, not}
+use mathlib.Core.List.{List, [], _∷_, _++_}
+use lib.Dec.{ltb}
+use lib.ListN.{length}
+use Rattle.nodes.specs.Row.{members}
+use Rattle.solver.specs.WorkMatrix.{listOf}
+use Rattle.finder.specs.Job.{Job}
+use Rattle.finder.specs.Search.{Progress}
+use Rattle.records.specs.Records.{written, kindOpen, kindEdges, kindInputs, kindOutputs, kindMeasurements, kindLayers, kindSets}
+use Rattle.records.specs.JobFile.{JobFile, mostNodes, modeCausal, modePauli, all, has, rises, pairsRise, allAllowed}
+use Rattle.records.specs.FlowFile.{SetEntry, FlowFile, allEntries, entryBelow, entriesRise}
+
+-- ---- jobs
+-- the five records in order
+abbrev pub jobBytes : JobFile → List ℕ
+jobBytes f =
+    written kindOpen (f .n ∷ f .mode ∷ [])
+    ++ written kindEdges (f .edges)
+    ++ written kindInputs (f .inputs)
+    ++ written kindOutputs (f .outputs)
+    ++ written kindMeasurements (f .measurements)
+
+-- what reading asks
+pub record ValidJob (f : JobFile) : Type 0 where
+  pub few : f .n ≤ mostNodes
+  pub modeFrom : modeCausal ≤ f .mode
+  pub modeTo : f .mode ≤ modePauli
+  pub pairs : length (f .edges) % 2 ≡ 0
+  pub edgesBelow : all (λ v. ltb v (f .n)) (f .edges) ≡ true
+  pub edgesRise : pairsRise 0 (f .edges) ≡ true
+  pub inputsBelow : all (λ v. ltb v (f .n)) (f .inputs) ≡ true
+  pub inputsRise : rises 0 (f .inputs) ≡ true
+  pub outputsBelow : all (λ v. ltb v (f .n)) (f .outputs) ≡ true
+  pub outputsRise : rises 0 (f .outputs) ≡ true
+  pub count : length (f .measurements) ≡ f .n
+  pub allowed : allAllowed (f .mode) (has (f .outputs)) 0 (f .measurements) ≡ true
+
+-- ---- flows
+-- node, count and members of each entry
+unfoldable pub entryBytes : List SetEntry → List ℕ
+entryBytes [] = []
+entryBytes (e ∷ es) = e .node ∷ length (e .set) ∷ e .set ++ entryBytes es
+
+-- the two records in order
+abbrev pub flowFileBytes : FlowFile → List ℕ
+flowFileBytes g = written kindLayers (g .layers) ++ written kindSets (entryBytes (g .sets))
+
+-- what reading asks, for n nodes
+pub record ValidFlow (n : ℕ) (g : FlowFile) : Type 0 where
+  pub count : length (g .layers) ≡ n
+  pub below : allEntries (entryBelow n) (g .sets) ≡ true
+  pub rise : entriesRise 0 (g .sets) ≡ true
+
+-- the entries of the nodes in the list, in its order
+unfoldable pub entriesFor : ℕ → (ℕ → ℕ → Bool) → List ℕ → List SetEntry
+entriesFor n set [] = []
+entriesFor n set (u ∷ us) = record { node = u; set = members n (set u) } ∷ entriesFor n set us
+
+-- the flow file that the finder writes for a finished search
+abbrev pub foundFlow : Job → Progress → FlowFile
+foundFlow j s = record {
+  layers = listOf (j .nodes) (s .layer);
+  sets = entriesFor (j .nodes) (s .set) (members (j .nodes) (λ u. not (j .output u)));
+  after = [];
+}

@@ -1,0 +1,100 @@
+-- Reading a flow file: the records of layers and of sets, and the questions 8 and 9 that follow.
+use Prim.Native.Nat.{ℕ, zero, suc, _+_}
+use mathlib.Core.Bool.{Bool, true, false, cond, not, _&&_, _||_}
+use mathlib.Core.Option.{Option, none, some}
+use mathlib.Core.List.{List, [], _∷_}
+use lib.Dec.{eqb, ltb, leb}
+use lib.ListN.{length, getD, take, drop}
+use Rattle.records.specs.Answer.{Answer, gives, refuses, _>>=_, _>>_, asks, no}
+use Rattle.records.specs.Records.{Part, checked, kindLayers, kindSets}
+use Rattle.records.specs.JobFile.{all, has, rises, modeCausal}
+
+-- an entry of a sets record: node, count, members
+pub record SetEntry : Type 0 where
+  pub node : ℕ
+  pub set : List ℕ
+
+abbrev pub addEntry : SetEntry → Option (List SetEntry) → Option (List SetEntry)
+addEntry e none = none
+addEntry e (some l) = some (e ∷ l)
+
+-- the entries: none where the last one does not end with the record. An entry takes two bytes and more, so there are
+-- fewer of them than bytes, and the bound k is never met.
+unfoldable pub entriesIn : ℕ → List ℕ → Option (List SetEntry)
+entriesIn zero s = none
+entriesIn (suc k) [] = some []
+entriesIn (suc k) (u ∷ []) = none
+entriesIn (suc k) (u ∷ c ∷ s) =
+    let more = addEntry (record { node = u; set = take c s }) (entriesIn k (drop c s)) in
+    cond (leb c (length s)) more none
+
+abbrev pub entriesOf : List ℕ → Option (List SetEntry)
+entriesOf s = entriesIn (suc (length s)) s
+
+abbrev pub framed : Option (List SetEntry) → Bool
+framed none = false
+framed (some es) = true
+
+abbrev pub listed : Option (List SetEntry) → List SetEntry
+listed none = []
+listed (some es) = es
+
+unfoldable pub allEntries : (SetEntry → Bool) → List SetEntry → Bool
+allEntries p [] = true
+allEntries p (e ∷ es) = p e && allEntries p es
+
+-- the nodes and the members below n
+abbrev pub entryBelow : ℕ → SetEntry → Bool
+entryBelow n e = ltb (e .node) n && all (λ v. ltb v n) (e .set)
+
+-- nodes strictly ascending from `low` on, and the members of each entry
+unfoldable pub entriesRise : ℕ → List SetEntry → Bool
+entriesRise low [] = true
+entriesRise low (e ∷ es) = leb low (e .node) && rises 0 (e .set) && entriesRise (e .node + 1) es
+
+unfoldable pub layersNo : ℕ → List ℕ → ℕ
+layersNo n p = no 3 (eqb (length p) n) 0
+
+unfoldable pub setsNo : ℕ → List ℕ → ℕ
+setsNo n p = no 3 (framed (entriesOf p)) (no 5 (allEntries (entryBelow n) (listed (entriesOf p))) (no 6 (entriesRise 0 (listed (entriesOf p))) 0))
+
+pub record FlowFile : Type 0 where
+  pub layers : List ℕ
+  pub sets : List SetEntry
+  pub after : List ℕ
+
+unfoldable pub readSets : (n : ℕ) (layers : List ℕ) → List ℕ → Answer FlowFile
+readSets n layers s = do
+  p ← checked kindSets (setsNo n) s
+  gives (record { layers = layers; sets = listed (entriesOf (p .payload)); after = p .rest })
+
+unfoldable pub readFlow : ℕ → List ℕ → Answer FlowFile
+readFlow n s = do
+  p ← checked kindLayers (layersNo n) s
+  readSets n (p .payload) (p .rest)
+
+-- is nothing left (8)?
+abbrev pub nothingLeft : List ℕ → Answer Bool
+nothingLeft rest = asks 8 (eqb (length rest) 0)
+
+-- has each causal entry one member (9)?
+abbrev pub oneMember : ℕ → List SetEntry → Answer Bool
+oneMember mode es = asks 9 (not (eqb mode modeCausal) || allEntries (λ e. eqb (length (e .set)) 1) es)
+
+-- ---- what the file means
+unfoldable pub setIn : List SetEntry → ℕ → ℕ → Bool
+setIn [] u k = false
+setIn (e ∷ es) u k = eqb (e .node) u && has (e .set) k || setIn es u k
+
+unfoldable pub entryIn : List SetEntry → ℕ → Bool
+entryIn [] u = false
+entryIn (e ∷ es) u = eqb (e .node) u || entryIn es u
+
+-- each node's layer, the nodes that have an entry, and the members of the entries
+pub record Flow : Type 0 where
+  pub layer : ℕ → ℕ
+  pub entry : ℕ → Bool
+  pub set : ℕ → ℕ → Bool
+
+abbrev pub flowOf : FlowFile → Flow
+flowOf f = record { layer = λ u. getD (f .layers) u 0; entry = entryIn (f .sets); set = setIn (f .sets) }

@@ -1,0 +1,8 @@
+pub mod Answer
+pub mod Encoding
+pub mod FlowFile
+pub mod JobFile
+pub mod Records
+pub mod Refusals
+pub mod Views
+pub mod Writing

@@ -1,0 +1,69 @@
+-- Records: payload length (4 bytes), kind (2 bytes), payload; little-endian. Bytes are numbers.
+use Prim.Native.Nat.{ℕ, _+_, _*_, _/_, _%_}
+use mathlib.Core.Bool.{Bool, _&&_}
+use mathlib.Core.List.{List, [], _∷_}
+use lib.Dec.{eqb, leb}
+use lib.ListN.{length, getD, take, drop}
+use Rattle.records.specs.Answer.{Answer, gives, refuses, _>>=_, _>>_, asks, passed}
+
+abbrev pub kindOpen : ℕ
+kindOpen = 0x0001
+
+abbrev pub kindEdges : ℕ
+kindEdges = 0x0002
+
+abbrev pub kindInputs : ℕ
+kindInputs = 0x0003
+
+abbrev pub kindOutputs : ℕ
+kindOutputs = 0x0004
+
+abbrev pub kindMeasurements : ℕ
+kindMeasurements = 0x0005
+
+abbrev pub kindLayers : ℕ
+kindLayers = 0x0011
+
+abbrev pub kindSets : ℕ
+kindSets = 0x0012
+
+abbrev pub kindNoFlow : ℕ
+kindNoFlow = 0x0013
+
+abbrev pub kindAccepted : ℕ
+kindAccepted = 0x0014
+
+abbrev pub kindRefusal : ℕ
+kindRefusal = 0x001F
+
+-- the bytes of length and kind
+abbrev pub headBytes : ℕ
+headBytes = 6
+
+-- the number that the first four bytes hold
+unfoldable pub lengthField : List ℕ → ℕ
+lengthField s = getD s 0 0 + 256 * getD s 1 0 + 65536 * getD s 2 0 + 16777216 * getD s 3 0
+
+abbrev pub kindField : List ℕ → ℕ
+kindField s = getD s 4 0 + 256 * getD s 5 0
+
+-- a record at the front of a file: its payload and what follows
+pub record Part : Type 0 where
+  pub payload : List ℕ
+  pub rest : List ℕ
+
+-- Are six bytes left with the expected kind (1)? Is the whole payload there (2)?
+unfoldable pub part : ℕ → List ℕ → Answer Part
+part kind s = do
+  asks 1 (leb headBytes (length s) && eqb (kindField s) kind)
+  asks 2 (leb (headBytes + lengthField s) (length s))
+  gives (record { payload = take (lengthField s) (drop headBytes s); rest = drop (headBytes + lengthField s) s })
+
+-- a record whose payload passes its own questions, given by the number of the first that is answered no
+unfoldable pub checked : ℕ → (List ℕ → ℕ) → List ℕ → Answer Part
+checked kind test s = part kind s >>= λ p. passed (test (p .payload)) p
+
+-- a record as it is written
+unfoldable pub written : ℕ → List ℕ → List ℕ
+written kind p =
+    length p % 256 ∷ length p / 256 % 256 ∷ length p / 256 / 256 % 256 ∷ length p / 256 / 256 / 256 % 256 ∷ kind % 256 ∷ kind / 256 ∷ p

@@ -1,0 +1,23 @@
+-- What the finder writes for what its search found.
+use Prim.Native.Nat.{ℕ}
+use mathlib.Core.Bool.{Bool, not}
+use mathlib.Core.Option.{Option, none, some}
+use mathlib.Core.List.{List, [], _∷_, _++_}
+use lib.ListN.{length}
+use Rattle.nodes.specs.Row.{members}
+use Rattle.solver.specs.WorkMatrix.{listOf}
+use Rattle.finder.specs.Job.{Job}
+use Rattle.finder.specs.Search.{Progress}
+use Rattle.records.specs.Records.{written, kindLayers, kindSets, kindNoFlow}
+
+-- entries of the nodes in the list: node, count, members
+unfoldable pub setBytes : ℕ → (ℕ → ℕ → Bool) → List ℕ → List ℕ
+setBytes n set [] = []
+setBytes n set (u ∷ us) = u ∷ length (members n (set u)) ∷ members n (set u) ++ setBytes n set us
+
+-- a flow file with an entry for each node that is no output, or 0013
+abbrev pub flowBytes : Job → Option Progress → List ℕ
+flowBytes j none = written kindNoFlow []
+flowBytes j (some s) =
+    written kindLayers (listOf (j .nodes) (s .layer))
+    ++ written kindSets (setBytes (j .nodes) (s .set) (members (j .nodes) (λ u. not (j .output u))))

@@ -1,0 +1,200 @@
+-- What the verifier accepts: no question is answered no exactly where the conditions hold.
+use Prim.Native.Nat.{ℕ, zero, suc, _+_, _≤_, _<_, zero-le}
+use mathlib.Core.Path.{_≡_, refl, sym, ap, _∙_}
+use mathlib.Core.Bool.{Bool, true, false, cond, not, _&&_, _||_, Bool·beq}
+use mathlib.Core.Option.{Option, none, some}
+use mathlib.Core.Logic.{_⊎_, inl, inr, _↔_, _≢_}
+use native.Mathlib.Omega.{arith}
+use lib.Dec.{T, eqb, ltb, eqb→eq, eqb-refl, ltb→lt, lt→ltb}
+use Rattle.nodes.specs.Bit.{_⊕_}
+use Rattle.nodes.specs.Row.{anyBelow}
+use Rattle.nodes.proofs.Logic.{is-true, is-false, from-true, from-false, dec, and-l, and-r, and-in, or-l, or-r, or-out, not-in, not-out, eqb-no}
+use Rattle.finder.specs.Job.{Job, odd, own, isXorY, isYorZ, pauliY}
+use Rattle.finder.proofs.Conditions.{Ok}
+use Rattle.finder.proofs.Flows.{earlierThan}
+use Rattle.records.specs.Answer.{Refusal}
+use Rattle.records.specs.JobFile.{modeCausal, modePlanes, modePauli}
+use Rattle.records.specs.FlowFile.{Flow}
+use Rattle.verdicts.specs.Verdict as Q
+use Rattle.verdicts.specs.Verdict.{ask, _next_, each}
+use Rattle.verdicts.specs.Published.{Measured, OutputsAtZero, OthersAboveZero}
+use Rattle.verdicts.proofs.Questions.{ask-in, ask-out, next-in, next-l, next-r, each-in, each-out, unless-in, unless-out, input-in, input-out, late-in, late-out, both-in, both-out, beq-in, beq-out}
+
+module _ (j : Job) (f : Flow) where
+  -- ---- the questions before the node by node part
+  pub record Preliminary (mode : ℕ) : Type 0 where
+    pub inputs : (u k : ℕ) → u < j .nodes → k < j .nodes → T (f .set u k) → T (j .input k) → k ≡ u
+    pub domain : (u : ℕ) → u < j .nodes → (T (anyBelow (j .nodes) (f .set u)) ↔ (T (j .output u) → ⊥))
+    pub outputs : OutputsAtZero j (f .layer)
+    pub others : mode ≢ modePauli → OthersAboveZero j (f .layer)
+    pub entries : (u : ℕ) → u < j .nodes → T (f .entry u) → j .measured u ≢ 0
+
+  -- what node i is asked in its mode
+  abbrev pub nodeQuestions : ℕ → ℕ → Option Refusal
+  nodeQuestions mode i = cond (eqb mode modeCausal) (Q.causalNodeAsk j f i) (Q.nodeAsk j f mode i)
+
+  abbrev pub inputsAsk : Option Refusal
+  inputsAsk = each (j .nodes) (λ u. each (j .nodes) (Q.inputAsk j f u))
+
+  abbrev pub domainsAsk : Option Refusal
+  domainsAsk = each (j .nodes) (Q.domainAsk j f)
+
+  abbrev pub layersAsk : ℕ → Option Refusal
+  layersAsk mode = each (j .nodes) (Q.layerAsk j f mode)
+
+  abbrev pub entriesAsk : Option Refusal
+  entriesAsk = each (j .nodes) (Q.measuredAsk j f)
+
+  abbrev pub definitionsAsk : ℕ → Option Refusal
+  definitionsAsk mode = each (j .nodes) (Q.definitionAsk j f mode)
+
+  layer-in : (mode u : ℕ) → u < j .nodes → OutputsAtZero j (f .layer) → (mode ≢ modePauli → OthersAboveZero j (f .layer)) → Q.layerAsk j f mode u ≡ none
+  layer-in mode u l o p = go (j .output u) refl
+    where
+      go : (c : Bool) → j .output u ≡ c → cond c (Q.outputLayerAsk j f u) (Q.otherLayerAsk j f mode u) ≡ none
+      go true e = ask-in (eqb (f .layer u) 0) 15 u (f .layer u) (rw (o u l (from-true (j .output u) e)) tt)
+      go false e = ask-in (eqb mode modePauli || ltb 0 (f .layer u)) 16 u 0 (by (dec (eqb mode modePauli)))
+        where
+          by : T (eqb mode modePauli) ⊎ (T (eqb mode modePauli) → ⊥) → T (eqb mode modePauli || ltb 0 (f .layer u))
+          by (inl t) = or-l (eqb mode modePauli) (ltb 0 (f .layer u)) t
+          by (inr d) = or-r (eqb mode modePauli) (ltb 0 (f .layer u)) (lt→ltb 0 (f .layer u) (p (λ q. d (rw q tt)) u (l, from-false (j .output u) e)))
+
+  output-out : (mode u : ℕ) → Q.layerAsk j f mode u ≡ none → T (j .output u) → f .layer u ≡ 0
+  output-out mode u q t = eqb→eq (f .layer u) 0 (ask-out (eqb (f .layer u) 0) 15 u (f .layer u) (rw (is-true (j .output u) t) at q))
+
+  other-out : (mode u : ℕ) → Q.layerAsk j f mode u ≡ none → mode ≢ modePauli → (T (j .output u) → ⊥) → 0 < f .layer u
+  other-out mode u q m o =
+      ltb→lt 0 (f .layer u) (rw (eqb-no mode modePauli m) at (ask-out (eqb mode modePauli || ltb 0 (f .layer u)) 16 u 0 (rw (is-false (j .output u) o) at q)))
+
+  -- ---- the whole
+  pub verify-in : (mode : ℕ) → Preliminary mode → ((i : ℕ) → Measured j i → nodeQuestions mode i ≡ none) → Q.verify j f mode ≡ none
+  unfolding Q.verify
+  verify-in mode p h =
+      next-in (inputsAsk next domainsAsk) (layersAsk mode next (entriesAsk next definitionsAsk mode))
+      (next-in inputsAsk domainsAsk
+      (each-in (j .nodes) (λ u. each (j .nodes) (Q.inputAsk j f u)) (λ u l. each-in (j .nodes) (Q.inputAsk j f u)
+      (λ k m. ask-in (not (f .set u k) || not (j .input k) || eqb k u) 13 u 0 (input-in (f .set u k) (j .input k) (eqb k u) (λ a b. rw (p .inputs u k l m a b) (eqb-refl u))))))
+      (each-in (j .nodes) (Q.domainAsk j f) (λ u l. ask-in (Bool·beq (anyBelow (j .nodes) (f .set u)) (not (j .output u))) 14 u 0
+      (beq-in (anyBelow (j .nodes) (f .set u)) (j .output u) (λ a b. p .domain u l .0 a b) (p .domain u l .1)))))
+      (next-in (layersAsk mode) (entriesAsk next definitionsAsk mode)
+      (each-in (j .nodes) (Q.layerAsk j f mode) (λ u l. layer-in mode u l (p .outputs) (p .others)))
+      (next-in entriesAsk (definitionsAsk mode)
+      (each-in (j .nodes) (Q.measuredAsk j f) (λ u l. ask-in (not (f .entry u) || not (eqb (j .measured u) 0)) 17 u 0 (entry′ u l (dec (f .entry u)))))
+      (each-in (j .nodes) (Q.definitionAsk j f mode) (λ i l. unless-in (j .output i) (nodeQuestions mode i) (λ o. h i (l, o))))))
+    where
+      entry′ : (u : ℕ) → u < j .nodes → T (f .entry u) ⊎ (T (f .entry u) → ⊥) → T (not (f .entry u) || not (eqb (j .measured u) 0))
+      entry′ u l (inl t) = or-r (not (f .entry u)) (not (eqb (j .measured u) 0)) (not-in (eqb (j .measured u) 0) (λ q. p .entries u l t (eqb→eq (j .measured u) 0 q)))
+      entry′ u l (inr d) = or-l (not (f .entry u)) (not (eqb (j .measured u) 0)) (not-in (f .entry u) d)
+
+  module _ (mode : ℕ) (e : Q.verify j f mode ≡ none) where
+    all-asked : ((inputsAsk next domainsAsk) next (layersAsk mode next (entriesAsk next definitionsAsk mode))) ≡ none
+    unfolding Q.verify
+    all-asked = e
+
+    pub domain-asked : (inputsAsk next domainsAsk) ≡ none
+    domain-asked = next-l (inputsAsk next domainsAsk) (layersAsk mode next (entriesAsk next definitionsAsk mode)) all-asked
+
+    after-domain : (layersAsk mode next (entriesAsk next definitionsAsk mode)) ≡ none
+    after-domain = next-r (inputsAsk next domainsAsk) (layersAsk mode next (entriesAsk next definitionsAsk mode)) all-asked
+
+    pub initial-asked : layersAsk mode ≡ none
+    initial-asked = next-l (layersAsk mode) (entriesAsk next definitionsAsk mode) after-domain
+
+    pub definition-asked : (entriesAsk next definitionsAsk mode) ≡ none
+    definition-asked = next-r (layersAsk mode) (entriesAsk next definitionsAsk mode) after-domain
+
+    layer-asked : (u : ℕ) → u < j .nodes → Q.layerAsk j f mode u ≡ none
+    layer-asked = each-out (j .nodes) (Q.layerAsk j f mode) initial-asked
+
+    pub verify-preliminary : Preliminary mode
+    verify-preliminary = record {
+      inputs = λ u k l m a b.
+          eqb→eq k u
+          (input-out (f .set u k) (j .input k) (eqb k u)
+          (ask-out (not (f .set u k) || not (j .input k) || eqb k u) 13 u 0
+          (each-out (j .nodes) (Q.inputAsk j f u)
+          (each-out (j .nodes) (λ u. each (j .nodes) (Q.inputAsk j f u)) (next-l inputsAsk domainsAsk domain-asked) u l) k m)) a b);
+      domain = λ u l.
+          beq-out (anyBelow (j .nodes) (f .set u)) (j .output u)
+          (ask-out (Bool·beq (anyBelow (j .nodes) (f .set u)) (not (j .output u))) 14 u 0
+          (each-out (j .nodes) (Q.domainAsk j f) (next-r inputsAsk domainsAsk domain-asked) u l));
+      outputs = λ u l t. output-out mode u (layer-asked u l) t;
+      others = λ m u s. other-out mode u (layer-asked u (s .0)) m (s .1);
+      entries = λ u l t q.
+          not-out (eqb (j .measured u) 0)
+          (entry-out (f .entry u) (not (eqb (j .measured u) 0))
+          (ask-out (not (f .entry u) || not (eqb (j .measured u) 0)) 17 u 0
+          (each-out (j .nodes) (Q.measuredAsk j f) (next-l entriesAsk (definitionsAsk mode) definition-asked) u l)) t)
+          (rw q tt);
+    }
+      where
+        entry-out : (a b : Bool) → T (not a || b) → T a → T b
+        entry-out true b t p = t
+        entry-out false b t p = absurd p
+
+    pub verify-nodes : (i : ℕ) → Measured j i → nodeQuestions mode i ≡ none
+    verify-nodes i s =
+        unless-out (j .output i) (nodeQuestions mode i)
+        (each-out (j .nodes) (Q.definitionAsk j f mode) (next-r entriesAsk (definitionsAsk mode) definition-asked) i (s .0)) (s .1)
+
+  -- ---- node i in modes 2 and 3
+  module _ (mode i : ℕ) where
+    abbrev pauli : Bool
+    pauli = eqb mode modePauli
+
+    abbrev membersAsk : Option Refusal
+    membersAsk = each (j .nodes) (Q.memberAsk j f mode i)
+
+    abbrev oddsAsk : Option Refusal
+    oddsAsk = each (j .nodes) (Q.oddAsk j f mode i)
+
+    abbrev ysAsk : Option Refusal
+    ysAsk = each (j .nodes) (Q.yAsk j f mode i)
+
+    -- later, or excused
+    same-node : {A : Type 0} (k : ℕ) → T (eqb k i) ⊎ A → (k ≡ i) ⊎ A
+    same-node k (inl t) = inl (eqb→eq k i t)
+    same-node k (inr a) = inr a
+
+    node-same : {A : Type 0} (k : ℕ) → (k ≡ i) ⊎ A → T (eqb k i) ⊎ A
+    node-same k (inl e) = inl (rw e (eqb-refl i))
+    node-same k (inr a) = inr a
+
+    pub node-in : Ok j pauli (earlierThan (f .layer) i) (f .set i) i → Q.nodeAsk j f mode i ≡ none
+    unfolding Q.nodeAsk
+    node-in ok =
+        next-in membersAsk (oddsAsk next ysAsk next Q.ownAsk j f i)
+        (each-in (j .nodes) (Q.memberAsk j f mode i)
+        (λ k l. ask-in (not (f .set i k) || eqb k i || Q.later j f i k || (pauli && isXorY (j .measured k))) 18 i k
+        (late-in (f .set i k) (eqb k i) (Q.later j f i k) (pauli && isXorY (j .measured k)) (λ a. node-same k (ok .members k l a)))))
+        (next-in oddsAsk (ysAsk next Q.ownAsk j f i)
+        (each-in (j .nodes) (Q.oddAsk j f mode i)
+        (λ k l. ask-in (not (odd j (f .set i) k) || eqb k i || Q.later j f i k || (pauli && isYorZ (j .measured k))) 18 i k
+        (late-in (odd j (f .set i) k) (eqb k i) (Q.later j f i k) (pauli && isYorZ (j .measured k)) (λ a. node-same k (ok .odds k l a)))))
+        (next-in ysAsk (Q.ownAsk j f i)
+        (each-in (j .nodes) (Q.yAsk j f mode i)
+        (λ k l. ask-in (not (pauli && eqb (j .measured k) pauliY && (f .set i k ⊕ odd j (f .set i) k)) || eqb k i || Q.later j f i k) 19 i 0
+        (both-in (pauli && eqb (j .measured k) pauliY) (f .set i k) (odd j (f .set i) k) (eqb k i) (Q.later j f i k) (λ a. node-same k (ok .ys k l a)))))
+        (ask-in (own (j .measured i) (f .set i i) (odd j (f .set i) i)) 19 i 0 (ok .owns))))
+
+    pub node-out : ((k : ℕ) → k < j .nodes → T (f .set i k) → T (j .input k) → k ≡ i) → Q.nodeAsk j f mode i ≡ none → Ok j pauli (earlierThan (f .layer) i) (f .set i) i
+    unfolding Q.nodeAsk
+    node-out inputs e = record {
+      inputs = inputs;
+      members = λ k l a.
+          same-node k
+          (late-out (f .set i k) (eqb k i) (Q.later j f i k) (pauli && isXorY (j .measured k))
+          (ask-out (not (f .set i k) || eqb k i || Q.later j f i k || (pauli && isXorY (j .measured k))) 18 i k
+          (each-out (j .nodes) (Q.memberAsk j f mode i) (next-l membersAsk (oddsAsk next ysAsk next Q.ownAsk j f i) e) k l)) a);
+      odds = λ k l a.
+          same-node k
+          (late-out (odd j (f .set i) k) (eqb k i) (Q.later j f i k) (pauli && isYorZ (j .measured k))
+          (ask-out (not (odd j (f .set i) k) || eqb k i || Q.later j f i k || (pauli && isYorZ (j .measured k))) 18 i k
+          (each-out (j .nodes) (Q.oddAsk j f mode i) (next-l oddsAsk (ysAsk next Q.ownAsk j f i) (next-r membersAsk (oddsAsk next ysAsk next Q.ownAsk j f i) e)) k l)) a);
+      ys = λ k l a.
+          same-node k
+          (both-out (pauli && eqb (j .measured k) pauliY) (f .set i k) (odd j (f .set i) k) (eqb k i) (Q.later j f i k)
+          (ask-out (not (pauli && eqb (j .measured k) pauliY && (f .set i k ⊕ odd j (f .set i) k)) || eqb k i || Q.later j f i k) 19 i 0
+          (each-out (j .nodes) (Q.yAsk j f mode i) (next-l ysAsk (Q.ownAsk j f i) (next-r oddsAsk (ysAsk next Q.ownAsk j f i) (next-r membersAsk (oddsAsk next ysAsk next Q.ownAsk j f i) e))) k l)) a);
+      owns = ask-out (own (j .measured i) (f .set i i) (odd j (f .set i) i)) 19 i 0 (next-r ysAsk (Q.ownAsk j f i) (next-r oddsAsk (ysAsk next Q.ownAsk j f i) (next-r membersAsk (oddsAsk next ysAsk next Q.ownAsk j f i) e)));
+    }
