@@ -3,3 +3,8 @@ pub mod Demand
 pub mod Judging
 pub mod Solutions
 pub mod Programs
+pub mod Asking
+pub mod AskingNodes
+pub mod AskingDefinition
+pub mod LoadingTables
+pub mod LoadingFiles

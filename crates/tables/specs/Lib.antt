@@ -3,3 +3,4 @@ pub mod Cases
 pub mod Demand
 pub mod Programs
 pub mod Solutions
+pub mod Loaded

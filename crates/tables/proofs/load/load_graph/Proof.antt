@@ -1,0 +1,101 @@
+use mathlib.Core.Path.{_≡_, sym, ap, _∙_}
+use mathlib.Core.Bool.{Bool, _&&_, _||_}
+use Prim.Native.Nat.{ℕ, _+_, _-_, _≤_}
+use native.Mathlib.Omega.{arith}
+use lib.Dec.{eqb, leb}
+use lib.ListN.{length, getD, drop, length-replicate}
+use borrow.Author.Tests.{leb-true}
+use Rattle.nodes.specs.NodeSet.{highest}
+use Rattle.nodes.specs.SetTable.{setAt}
+use Rattle.nodes.proofs.Logic.{or-none}
+use Rattle.finder.specs.Finder.{tableWords}
+use Rattle.records.specs.JobFile.{joined}
+use Rattle.tables.proofs.LoadingTables.{cleared, all-at, joined-end, joined-more}
+use borrow.Author.Needs.{needs}
+use Rattle.tables.proofs.load.load_graph.Statement.{statement}
+use Rattle.tables.proofs.load.load_graph.Tie as tie
+
+abbrev Inv-loop : tie.InvT-loop
+Inv-loop edges graph₀ i₀ graph i = (i ≤ length edges) × (length graph ≡ tableWords) × ((u v : ℕ) → joined edges u v ≡ setAt graph u v || joined (drop i edges) u v)
+
+abbrev μ-loop : tie.MeasureT-loop
+μ-loop edges graph₀ i₀ graph i = length edges - i
+
+clear-table-requires : tie.Need-clear-table-requires Inv-loop μ-loop
+clear-table-requires c κs = search needs
+
+loop-holds : tie.Need-loop-holds Inv-loop μ-loop
+loop-holds c = let t = c .before .before in
+    let s = t .before .before .before .before in
+    (search needs, ap length (t .clear-table .ensures) ∙ length-replicate _ 0 ∙ s .pre .0, λ u v. ap (λ (b : Bool). b || joined (s .args .edges .now) u v) (sym (cleared _ (length (s .args .graph .now)) (t .clear-table .ensures) u v)))
+
+sub-loop : tie.Need-sub-loop Inv-loop μ-loop
+sub-loop c = search needs
+
+shared-slice-read-a : tie.Need-shared-slice-read-a Inv-loop μ-loop
+shared-slice-read-a c = search needs
+
+add-b : tie.Need-add-b Inv-loop μ-loop
+add-b c = search needs
+
+shared-slice-read-b : tie.Need-shared-slice-read-b Inv-loop μ-loop
+shared-slice-read-b c = search needs
+
+join-requires : tie.Need-join-requires Inv-loop μ-loop
+join-requires c κs = let l = c .before .before .before .before .loop in
+    let s = c .before .before .before .before .before .before .before .before .before .before .before in
+    let h : getD (s .args .edges .now) (l .i) 0 ≤ highest = leb-true (getD (s .args .edges .now) (l .i) 0) highest (all-at (λ v. leb v highest) (s .args .edges .now) (l .i) (s .pre .1) (omega arith)) in
+    let g : getD (s .args .edges .now) (l .i + 1) 0 ≤ highest = leb-true (getD (s .args .edges .now) (l .i + 1) 0) highest (all-at (λ v. leb v highest) (s .args .edges .now) (l .i + 1) (s .pre .1) (omega arith)) in
+    (search needs, omega arith, omega arith)
+
+join-requires-2 : tie.Need-join-requires-2 Inv-loop μ-loop
+join-requires-2 c κs = let l = c .before .before .before .before .before .before .before .before .loop in
+    let s = c .before .before .before .before .before .before .before .before .before .before .before .before .before .before .before in
+    let h : getD (s .args .edges .now) (l .i) 0 ≤ highest = leb-true (getD (s .args .edges .now) (l .i) 0) highest (all-at (λ v. leb v highest) (s .args .edges .now) (l .i) (s .pre .1) (omega arith)) in
+    let g : getD (s .args .edges .now) (l .i + 1) 0 ≤ highest = leb-true (getD (s .args .edges .now) (l .i + 1) 0) highest (all-at (λ v. leb v highest) (s .args .edges .now) (l .i + 1) (s .pre .1) (omega arith)) in
+    (search needs, omega arith, omega arith)
+
+add-i : tie.Need-add-i Inv-loop μ-loop
+add-i c = search needs
+
+loop-less : tie.Need-loop-less Inv-loop μ-loop
+loop-less c = search needs
+
+loop-again : tie.Need-loop-again Inv-loop μ-loop
+loop-again c = let j = c .before .before .before .before .before .before in
+    let l = c .before .before .before .before .before .before .before .before .before .before .before .loop in
+    let p = c .before .before .before .before .before .before .before .before .before .before .before .before .before .before .before .before .before .before .args .edges .now in (
+      search needs,
+      search needs,
+      λ u v. l .inv .2 u v ∙ joined-more p (l .i) u v (omega arith) (setAt (l .graph) u v)
+          ∙ ap (λ (t : Bool). t || joined (drop (l .i + 2) p) u v)
+          (sym (c .before .before .join2 .ensures u v ∙ ap (λ (t : Bool). t || (eqb u (getD p (l .i + 1) 0) && eqb v (getD p (l .i) 0))) (j .join .ensures u v))),
+    )
+
+same-length : tie.Need-same-length Inv-loop μ-loop
+same-length c = search needs
+
+returns : tie.Need-returns Inv-loop μ-loop
+returns c u v = let l = c .before .loop in
+    let p = c .before .before .before .before .before .before .before .before .args .edges .now in
+    sym (l .inv .2 u v ∙ ap (λ (t : Bool). setAt (l .graph) u v || t) (joined-end p (l .i) u v (omega arith)) ∙ or-none (setAt (l .graph) u v))
+
+pub load-graph-spec : {M : Type 1} → statement M
+load-graph-spec =
+    tie.close
+    (tie.spec
+    Inv-loop
+    μ-loop
+    clear-table-requires
+    loop-holds
+    sub-loop
+    shared-slice-read-a
+    add-b
+    shared-slice-read-b
+    join-requires
+    join-requires-2
+    add-i
+    loop-less
+    loop-again
+    same-length
+    returns)

@@ -1,0 +1,104 @@
+// A file's edges and sets as tables of sets, a set for each node.
+ghost use mathlib.Core.Path.{_≡_};
+ghost use mathlib.Core.Bool.{true, _&&_, _||_};
+ghost use Prim.Native.Nat.{ℕ, _≤_};
+ghost use lib.Dec.{eqb, leb};
+ghost use lib.ListN.{length};
+ghost use Rattle.nodes.specs.NodeSet.{member, highest, capacity};
+ghost use Rattle.nodes.specs.SetTable.{setAt};
+ghost use Rattle.finder.specs.Finder.{tableWords};
+ghost use Rattle.records.specs.JobFile.{all, joined};
+ghost use Rattle.records.specs.FlowFile.{entriesOf, framed, listed, allEntries, entryBelow, setIn, entryIn};
+use nodes::utils::NodeSet;
+use nodes::utils::clear_table;
+use nodes::utils::put_set;
+use nodes::utils::set_at;
+use records::common::set_of;
+
+// The nodes of more join set u.
+fn add_set(table: &mut [u64], u: u8, more: NodeSet)
+    requires { ⌜ (length (now table) ≡ tableWords) × (u ≤ highest) ⌝ }
+    ensures { λ _. ⌜ ((v w : ℕ) → setAt (now (table .exit)) v w ≡ setAt (now (table .entry)) v w || (eqb v u && member more w)) ⌝ }
+{
+    let old = set_at(table, u);
+    put_set(table, u, old.union(more));
+}
+
+// Node b becomes a neighbor of a.
+fn join(graph: &mut [u64], a: u8, b: u8)
+    requires { ⌜ (length (now graph) ≡ tableWords) × (a ≤ highest) × (b ≤ highest) ⌝ }
+    ensures { λ _. ⌜ ((u v : ℕ) → setAt (now (graph .exit)) u v ≡ setAt (now (graph .entry)) u v || (eqb u a && eqb v b)) ⌝ }
+{
+    let one = NodeSet::empty().with(b);
+    add_set(graph, a, one);
+}
+
+// Each edge joins both ways.
+pub(crate) fn load_graph(edges: &[u8], graph: &mut [u64])
+    requires { ⌜ (length (now graph) ≡ tableWords) × (all (λ v. leb v highest) (now edges) ≡ true) ⌝ }
+    ensures { λ _. ⌜ ((u v : ℕ) → setAt (now (graph .exit)) u v ≡ joined (now (edges .entry)) u v) ⌝ }
+{
+    clear_table(graph);
+    let mut i = 0;
+    while edges.len() - i >= 2 {
+        let a = edges[i];
+        let b = edges[i + 1];
+        join(graph, a, b);
+        join(graph, b, a);
+        i += 2;
+    }
+}
+
+// Do the entries end exactly with the payload?
+fn entries_end(sets: &[u8]) -> bool
+    ensures { λ r. ⌜ r ≡ framed (entriesOf (now (sets .entry))) ⌝ }
+{
+    let mut i = 0;
+    while i < sets.len() {
+        let left = sets.len() - i;
+        if left < 2 {
+            return false;
+        }
+        let count = sets[i + 1] as usize;
+        if count > left - 2 {
+            return false;
+        }
+        i += 2 + count;
+    }
+    true
+}
+
+// The members of each entry go into its node's set; the answer is the nodes that have an entry.
+fn load_entries(sets: &[u8], table: &mut [u64]) -> NodeSet
+    requires { ⌜ length (now table) ≡ tableWords ⌝ }
+    requires { ⌜ (framed (entriesOf (now sets)) ≡ true) × (allEntries (entryBelow capacity) (listed (entriesOf (now sets))) ≡ true) ⌝ }
+    ensures { λ r. ⌜ ((u v : ℕ) → setAt (now (table .exit)) u v ≡ setIn (listed (entriesOf (now (sets .entry)))) u v) ⌝ }
+    ensures { λ r. ⌜ ((u : ℕ) → member r u ≡ entryIn (listed (entriesOf (now (sets .entry)))) u) ⌝ }
+{
+    clear_table(table);
+    let mut entries = NodeSet::empty();
+    let mut i = 0;
+    while i < sets.len() {
+        let u = sets[i];
+        let start = i + 2;
+        let end = start + sets[i + 1] as usize;
+        let members = set_of(&sets[start..end]);
+        add_set(table, u, members);
+        entries = entries.with(u);
+        i = end;
+    }
+    entries
+}
+
+// Bytes that are no entries have no set.
+pub(crate) fn load_sets(sets: &[u8], table: &mut [u64]) -> NodeSet
+    requires { ⌜ (length (now table) ≡ tableWords) × (allEntries (entryBelow capacity) (listed (entriesOf (now sets))) ≡ true) ⌝ }
+    ensures { λ r. ⌜ ((u v : ℕ) → setAt (now (table .exit)) u v ≡ setIn (listed (entriesOf (now (sets .entry)))) u v) ⌝ }
+    ensures { λ r. ⌜ ((u : ℕ) → member r u ≡ entryIn (listed (entriesOf (now (sets .entry)))) u) ⌝ }
+{
+    if !entries_end(sets) {
+        clear_table(table);
+        return NodeSet::empty();
+    }
+    load_entries(sets, table)
+}
