@@ -11,11 +11,11 @@ use Rattle.nodes.specs.Row.{allBelow}
 use Rattle.nodes.proofs.Logic.{and-l, and-r}
 use Rattle.nodes.proofs.Row.{all-out}
 use Rattle.solver.specs.System.{firstOf}
-use Rattle.finder.specs.Job.{Job, planeXY, planeYZ, planeXZ}
-use Rattle.finder.specs.Branch.{Context, branchTable, branches, tryBranch, firstSolvable}
+use Rattle.flows.specs.Job.{Job, planeXY, planeYZ, planeXZ}
+use Rattle.flows.specs.Branch.{Context, branchTable, branches, tryBranch, firstSolvable}
 use Rattle.finder.specs.Views.{graphJob}
 use Rattle.finder.specs.Finding.{tryListed, tryIn}
-use Rattle.finder.proofs.Table.{keep}
+use Rattle.flows.proofs.Table.{keep}
 
 abbrev pub table : List (List ℕ)
 table =

@@ -27,7 +27,7 @@ use Rattle.nodes.proofs.NodeSet.{member-past}
 use Rattle.nodes.proofs.Bit.{bit-or, bit-pow, bit-zero}
 use Rattle.solver.specs.WorkMatrix.{entryOf}
 use Rattle.solver.specs.Solver.{rowBytes, mostColumns}
-use Rattle.finder.specs.Branch.{inSet, inOdd, withNode}
+use Rattle.flows.specs.Branch.{inSet, inOdd, withNode}
 use Rattle.finder.specs.Views.{Added, stacked, byRank, columnBit, sideBit, sideIn, columnsOf, triedOf}
 use Rattle.finder.specs.declared.Sets.{Sets}
 use Rattle.finder.specs.declared.Tried.{Tried}

@@ -27,9 +27,9 @@ use Rattle.solver.proofs.Bytes.{is-listOf}
 use Rattle.solver.proofs.WorkMatrix.{digits-is}
 use Rattle.finder.specs.declared.gflow.Search.{Search}
 use Rattle.finder.specs.declared.gflow.Search.the-variants.{Flow, NoFlow}
-use Rattle.finder.specs.Search.{Progress, start}
+use Rattle.flows.specs.Search.{Progress, start}
 use Rattle.finder.specs.Finder.{jobIn, workBytes, tableWords, sizesFit, layerBytes, setTable, progressAt}
-use Rattle.finder.specs.Branch.{Context}
+use Rattle.flows.specs.Branch.{Context}
 use Rattle.finder.specs.Views.{contextOf, Within, RowsApart}
 use Rattle.finder.specs.declared.Sets.{Sets}
 use Rattle.finder.specs.Finding.{forNode, Sized, Outcome, planesGiven, searched, refused, searchCall, progressIn, cutTo, placed, answerOf}

@@ -30,12 +30,12 @@ use Rattle.solver.specs.declared.gf2_linalg.Solved.the-variants.{Solvable, Unso
 use Rattle.solver.proofs.Packed.{spread-answer}
 use Rattle.solver.proofs.Reduced.{plain, read-off}
 use Rattle.solver.proofs.WorkMatrix.{byte-at, bit-digits}
-use Rattle.finder.specs.Branch.{Context, inSet, inOdd, systemAt, sideAt, withNode, tryBranch}
+use Rattle.flows.specs.Branch.{Context, inSet, inOdd, systemAt, sideAt, withNode, tryBranch}
 use Rattle.finder.specs.Finder.{jobIn, workBytes}
 use Rattle.finder.specs.Views.{contextOf, graphJob, rowsOf, columnsOf, Within, RowsApart, SidesApart, byRank, block, columnBit, sideBit, Added, coefficients, sideIn, sidesIn, gathered, rowsIn, answerIn, Opened}
 use Rattle.finder.specs.declared.Sets.{Sets}
-use Rattle.finder.proofs.Tries.{SameContext, branch-ext}
-use Rattle.finder.proofs.Sizes.{count-disjoint, rows-count}
+use Rattle.flows.proofs.Tries.{SameContext, branch-ext}
+use Rattle.flows.proofs.Sizes.{count-disjoint, rows-count}
 use Rattle.finder.proofs.Filling.{zeros-entry}
 
 -- ---- for the callers: a try asks only for the nodes and the graph of a job, and for the sets below n

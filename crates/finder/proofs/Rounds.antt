@@ -15,19 +15,19 @@ use Rattle.nodes.specs.declared.utils.NodeSet.{NodeSet}
 use Rattle.nodes.proofs.Logic.{is-true, is-false, from-true, and-l, and-r, and-comm, or-l, or-out, not-out}
 use Rattle.nodes.proofs.Row.{all-out, any-ext, any-past, ltb-yes}
 use Rattle.solver.specs.System.{firstOf}
-use Rattle.finder.specs.Job.{Job, pauliY, isXorY, isYorZ}
-use Rattle.finder.specs.Branch.{Context, branches, tryBranch, firstSolvable}
-use Rattle.finder.specs.Search.{Progress, noNode, start, round}
-use Rattle.finder.specs.Planes as Planes
-use Rattle.finder.specs.Paulis as Paulis
+use Rattle.flows.specs.Job.{Job, pauliY, isXorY, isYorZ}
+use Rattle.flows.specs.Branch.{Context, branches, tryBranch, firstSolvable}
+use Rattle.flows.specs.Search.{Progress, noNode, start, round}
+use Rattle.flows.specs.Planes as Planes
+use Rattle.flows.specs.Paulis as Paulis
 use Rattle.finder.specs.Finder.{jobIn, tableWords}
 use Rattle.finder.specs.Views.{Within, RowsApart, SidesApart, graphJob, contextOf}
 use Rattle.finder.specs.Finding.{isPlane, planesGiven, KindsOf, forNode, tryFor, progressIn, cutTo, visited}
 use Rattle.finder.specs.declared.Sets.{Sets}
 use Rattle.finder.specs.declared.pflow.Kinds.{Kinds}
-use Rattle.finder.proofs.Search.{never}
-use Rattle.finder.proofs.Tries.{SameContext, branch-ext, node-ext}
-use Rattle.finder.proofs.Progress.{round-agree, planes-stops-ext, planes-try-ext, paulis-try-ext}
+use Rattle.flows.proofs.Search.{never}
+use Rattle.flows.proofs.Tries.{SameContext, branch-ext, node-ext}
+use Rattle.flows.proofs.Progress.{round-agree, planes-stops-ext, planes-try-ext, paulis-try-ext}
 use Rattle.finder.proofs.Visiting.{cut-ext, cut-same, visited-round, Going, going-start, going-new, going-on}
 use Rattle.finder.proofs.Finding.{in-range, all-solved}
 use Rattle.finder.proofs.BranchTable.{alone}

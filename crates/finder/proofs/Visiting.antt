@@ -16,10 +16,10 @@ use Rattle.nodes.proofs.Row.{any-in, any-out, any-none, all-in, all-out, ltb-ye
 use Rattle.nodes.proofs.Count.{count-le, count-ext, count-pos}
 use Rattle.nodes.proofs.Remove.{removed}
 use Rattle.solver.specs.System.{isSome}
-use Rattle.finder.specs.Search.{Progress, orNone, solvedNow, round, rounds}
+use Rattle.flows.specs.Search.{Progress, orNone, solvedNow, round, rounds}
 use Rattle.finder.specs.Finding.{cutTo, placed, visited}
-use Rattle.finder.proofs.Search.{fresh-open, fewer}
-use Rattle.finder.proofs.Progress.{SameProgress, progress-sym, progress-trans, rounds-agree}
+use Rattle.flows.proofs.Search.{fresh-open, fewer}
+use Rattle.flows.proofs.Progress.{SameProgress, progress-sym, progress-trans, rounds-agree}
 
 pub progress-eq : (p q : Progress) → ((u : ℕ) → p .solved u ≡ q .solved u) → ((u : ℕ) → p .layer u ≡ q .layer u) → ((u : ℕ) → p .set u ≡ q .set u) → p ≡ q
 progress-eq p q a b c =

@@ -9,10 +9,10 @@ use Rattle.nodes.specs.SetTable.{setWords, setAt}
 use Rattle.nodes.specs.declared.utils.NodeSet.{NodeSet}
 use Rattle.solver.specs.Solver.{rowBytes, mostRows}
 use Rattle.solver.specs.WorkMatrix.{digits, listOf}
-use Rattle.finder.specs.Job.{Job}
-use Rattle.finder.specs.Search.{Progress}
-use Rattle.finder.specs.Planes as Planes
-use Rattle.finder.specs.Paulis as Paulis
+use Rattle.flows.specs.Job.{Job}
+use Rattle.flows.specs.Search.{Progress}
+use Rattle.flows.specs.Planes as Planes
+use Rattle.flows.specs.Paulis as Paulis
 
 -- the job that the arguments hold: the graph as a table of the nodes' neighbours
 abbrev pub jobIn : (n : ℕ) (graph : List ℕ) (inputs outputs : NodeSet) (measured : List ℕ) → Job

@@ -11,9 +11,9 @@ use Rattle.nodes.specs.NodeSet.{member, capacity}
 use Rattle.nodes.specs.SetTable.{setAt, zeros}
 use Rattle.nodes.specs.declared.utils.NodeSet.{NodeSet}
 use Rattle.solver.specs.System.{isSome}
-use Rattle.finder.specs.Job.{Job, planeXY, planeYZ, planeXZ, pauliY, isXorY, isYorZ}
-use Rattle.finder.specs.Branch.{Context, branches, tryBranch, firstSolvable}
-use Rattle.finder.specs.Search.{Progress, orNone}
+use Rattle.flows.specs.Job.{Job, planeXY, planeYZ, planeXZ, pauliY, isXorY, isYorZ}
+use Rattle.flows.specs.Branch.{Context, branches, tryBranch, firstSolvable}
+use Rattle.flows.specs.Search.{Progress, orNone}
 use Rattle.finder.specs.Finder.{jobIn, workBytes, tableWords, sizesFit, layerBytes, setTable, progressAt}
 use Rattle.finder.specs.Views.{graphJob}
 use Rattle.finder.specs.declared.gflow.Search.{Search}

@@ -1,9 +1,3 @@
-pub mod Job
-pub mod Branch
-pub mod Search
-pub mod Planes
-pub mod Paulis
-pub mod Premise
 pub mod Finder
-pub mod Views
 pub mod Finding
+pub mod Views

@@ -14,8 +14,8 @@ use Rattle.nodes.specs.SetTable.{setAt}
 use Rattle.solver.specs.Reduced.{readOff}
 use Rattle.solver.specs.WorkMatrix.{entryOf, sideOf}
 use Rattle.solver.specs.Solver.{rowBytes, mostColumns}
-use Rattle.finder.specs.Job.{Job}
-use Rattle.finder.specs.Branch.{Context, inSet, inOdd, withNode, tryBranch}
+use Rattle.flows.specs.Job.{Job}
+use Rattle.flows.specs.Branch.{Context, inSet, inOdd, withNode, tryBranch}
 use Rattle.finder.specs.declared.Sets.{Sets}
 use Rattle.finder.specs.declared.Tried.{Tried}
 use Rattle.finder.specs.declared.Tried.the-variants.{Set, Nothing}

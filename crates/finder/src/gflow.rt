@@ -7,7 +7,7 @@ ghost use lib.Dec.{T, leb, ltb};
 ghost use Rattle.nodes.specs.Row.{anyBelow, allBelow};
 ghost use Rattle.nodes.specs.NodeSet.{member, capacity, highest};
 ghost use Rattle.finder.specs.Finder.{jobIn, progressAt, workBytes, tableWords};
-ghost use Rattle.finder.specs.Branch.{tryBranch};
+ghost use Rattle.flows.specs.Branch.{tryBranch};
 ghost use Rattle.finder.specs.Views.{graphJob, contextOf, Within, RowsApart, SidesApart, nodeIn};
 ghost use Rattle.finder.specs.Finding.{Sized, isPlane, planesGiven, progressIn, cutTo, visited, searchCall};
 use crate::PLANE_XY;

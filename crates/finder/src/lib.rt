@@ -9,7 +9,7 @@ ghost use Rattle.nodes.specs.NodeSet.{member, capacity};
 ghost use Rattle.nodes.specs.SetTable.{zeros};
 ghost use Rattle.solver.specs.WorkMatrix.{entryOf};
 ghost use Rattle.solver.specs.Solver.{rowBytes, mostRows, mostColumns, Eliminated};
-ghost use Rattle.finder.specs.Branch.{inSet, inOdd, withNode, tryBranch};
+ghost use Rattle.flows.specs.Branch.{inSet, inOdd, withNode, tryBranch};
 ghost use Rattle.finder.specs.Finder.{workBytes};
 ghost use Rattle.finder.specs.Views.{triedOf, contextOf, graphJob, rowsOf, columnsOf, Within, RowsApart, SidesApart, byRank, block, columnBit, sideBit, Added, coefficients, sideIn, sidesIn, rowsIn, answerIn, nodeIn, Opened};
 use nodes::utils::NodeSet;
@@ -338,7 +338,7 @@ fn read_node(work: &[u8], s: Sets, u: u8, b: u8) -> Tried
 // ---- both searches
 ghost use mathlib.Core.Bool.{cond};
 ghost use Rattle.nodes.specs.Row.{anyBelow, allBelow};
-ghost use Rattle.finder.specs.Search.{start};
+ghost use Rattle.flows.specs.Search.{start};
 ghost use Rattle.finder.specs.Finder.{sizesFit, tableWords};
 ghost use Rattle.finder.specs.Finding.{Sized, answerOf, progressIn, cutTo, placed};
 use nodes::utils::clear_table;

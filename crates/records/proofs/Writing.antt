@@ -15,8 +15,8 @@ use Rattle.nodes.proofs.Logic.{is-false, dec, and-none, and-all, or-none, lt-or
 use Rattle.nodes.proofs.Row.{ltb-yes, ltb-no}
 use Rattle.nodes.proofs.Members.{members-snoc}
 use Rattle.solver.specs.WorkMatrix.{listOf}
-use Rattle.finder.specs.Job.{Job}
-use Rattle.finder.specs.Search.{Progress}
+use Rattle.flows.specs.Job.{Job}
+use Rattle.flows.specs.Search.{Progress}
 use Rattle.records.specs.Answer.{gives}
 use Rattle.records.specs.Records.{part, checked, written, kindLayers, kindSets, kindNoFlow}
 use Rattle.records.specs.JobFile.{mostNodes, all, has, rises}

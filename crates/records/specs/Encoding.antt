@@ -7,8 +7,8 @@ use lib.Dec.{ltb}
 use lib.ListN.{length}
 use Rattle.nodes.specs.Row.{members}
 use Rattle.solver.specs.WorkMatrix.{listOf}
-use Rattle.finder.specs.Job.{Job}
-use Rattle.finder.specs.Search.{Progress}
+use Rattle.flows.specs.Job.{Job}
+use Rattle.flows.specs.Search.{Progress}
 use Rattle.records.specs.Records.{written, kindOpen, kindEdges, kindInputs, kindOutputs, kindMeasurements, kindLayers, kindSets}
 use Rattle.records.specs.JobFile.{JobFile, mostNodes, modeCausal, modePauli, all, has, rises, pairsRise, allAllowed}
 use Rattle.records.specs.FlowFile.{SetEntry, FlowFile, allEntries, entryBelow, entriesRise}

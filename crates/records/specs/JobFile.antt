@@ -4,7 +4,7 @@ use mathlib.Core.Bool.{Bool, true, false, cond, not, _&&_, _||_}
 use mathlib.Core.List.{List, [], _∷_}
 use lib.Dec.{eqb, ltb, leb}
 use lib.ListN.{length, getD}
-use Rattle.finder.specs.Job.{Job, planeXY, planeXZ, pauliZ}
+use Rattle.flows.specs.Job.{Job, planeXY, planeXZ, pauliZ}
 use Rattle.records.specs.Answer.{Answer, gives, refuses, _>>=_, no}
 use Rattle.records.specs.Records.{Part, checked, kindOpen, kindEdges, kindInputs, kindOutputs, kindMeasurements}
 

@@ -6,8 +6,8 @@ use mathlib.Core.List.{List, [], _∷_, _++_}
 use lib.ListN.{length}
 use Rattle.nodes.specs.Row.{members}
 use Rattle.solver.specs.WorkMatrix.{listOf}
-use Rattle.finder.specs.Job.{Job}
-use Rattle.finder.specs.Search.{Progress}
+use Rattle.flows.specs.Job.{Job}
+use Rattle.flows.specs.Search.{Progress}
 use Rattle.records.specs.Records.{written, kindLayers, kindSets, kindNoFlow}
 
 -- entries of the nodes in the list: node, count, members

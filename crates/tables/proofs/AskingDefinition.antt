@@ -14,7 +14,7 @@ use Rattle.nodes.proofs.Logic.{is-true, is-false, from-true, and-all, lt-or-ge,
 use Rattle.nodes.proofs.Row.{any-in}
 use Rattle.nodes.proofs.Members.{lowest-none, lowest-member}
 use Rattle.nodes.proofs.Remove.{removed, removed-other, removed-same}
-use Rattle.finder.specs.Job.{Job, odd}
+use Rattle.flows.specs.Job.{Job, odd}
 use Rattle.records.specs.Answer.{Refusal}
 use Rattle.records.specs.JobFile.{modeCausal, modePlanes, modePauli}
 use Rattle.records.specs.FlowFile.{Flow}

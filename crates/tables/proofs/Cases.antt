@@ -10,9 +10,9 @@ use Rattle.nodes.specs.Row.{parity, anyBelow, allBelow, count, lowestFrom, memb
 use Rattle.solver.specs.System.{solve}
 use Rattle.solver.specs.WorkMatrix.{entryOf, digits, listOf}
 use Rattle.solver.specs.Solver.{fits, bothFit, wellShaped, solveCall}
-use Rattle.finder.specs.Job.{own}
-use Rattle.finder.specs.Branch.{branches, firstSolvable}
-use Rattle.finder.specs.Search.{rounds}
+use Rattle.flows.specs.Job.{own}
+use Rattle.flows.specs.Branch.{branches, firstSolvable}
+use Rattle.flows.specs.Search.{rounds}
 use Rattle.records.specs.Answer.{gives}
 use Rattle.records.specs.Records.{lengthField, part, checked, written}
 use Rattle.records.specs.JobFile.{JobFile, all, has, rises, pairsRise, allows, allAllowed, openNo, edgesNo, nodesNo, measurementsNo, readJob, readEdges, readInputs, readOutputs, readMeasurements, joined, jobOf}

@@ -13,14 +13,14 @@ use lib.Seq.{take-append-seam}
 use Rattle.nodes.specs.Row.{parity, anyBelow}
 use Rattle.nodes.proofs.Logic.{is-true, is-false, from-true, from-false, dec, and-l, and-r, or-out, not-in, not-out}
 use Rattle.nodes.proofs.Row.{parity-ext, any-in, any-out, any-ext}
-use Rattle.finder.specs.Job.{Job, odd, own}
-use Rattle.finder.specs.Search.{Progress}
-use Rattle.finder.specs.Planes as Planes
-use Rattle.finder.specs.Paulis as Paulis
-use Rattle.finder.proofs.Conditions.{Ok}
-use Rattle.finder.proofs.Premise.{premiseAt}
-use Rattle.finder.proofs.Table.{needs-one}
-use Rattle.finder.proofs.Flows.{findAt, earlierThan, Found, found-flow, found-ok, found-earliest, firstRound}
+use Rattle.flows.specs.Job.{Job, odd, own}
+use Rattle.flows.specs.Search.{Progress}
+use Rattle.flows.specs.Planes as Planes
+use Rattle.flows.specs.Paulis as Paulis
+use Rattle.flows.proofs.Conditions.{Ok}
+use Rattle.flows.proofs.Premise.{premiseAt}
+use Rattle.flows.proofs.Table.{needs-one}
+use Rattle.flows.proofs.Flows.{findAt, earlierThan, Found, found-flow, found-ok, found-earliest, firstRound}
 use Rattle.records.specs.Answer.{Refusal, Answer, gives, refuses, refusal, asks, _>>=_, _>>_}
 use Rattle.records.specs.Records.{written, kindNoFlow}
 use Rattle.records.specs.JobFile.{JobFile, readJob, jobOf, measuredOf, modeCausal, modePlanes, modePauli}

@@ -9,7 +9,7 @@ use native.Mathlib.Omega.{arith}
 use lib.Dec.{T, eqb, ltb, eqb-refl}
 use lib.ListN.{length}
 use Rattle.nodes.proofs.Logic.{is-true, is-false, eqb-comm}
-use Rattle.finder.specs.Job.{Job, planeXZ}
+use Rattle.flows.specs.Job.{Job, planeXZ}
 use Rattle.records.specs.Answer.{Refusal, Answer, gives, refuses, _>>=_, _>>_}
 use Rattle.records.specs.JobFile.{JobFile, readJob, jobOf, modeCausal, modePlanes, modePauli}
 use Rattle.records.specs.FlowFile.{FlowFile, readFlow, flowOf, nothingLeft, oneMember, entryIn, setIn}

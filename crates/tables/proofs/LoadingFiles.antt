@@ -9,7 +9,7 @@ use borrow.Author.Tests.{ltb-true, lt-ltb, le-leb, eq-eqb, ne-eqb}
 use lib.Dec.{eqb, leb, ltb}
 use lib.ListN.{length, getD}
 use Rattle.nodes.specs.NodeSet.{highest, capacity}
-use Rattle.finder.specs.Job.{Job}
+use Rattle.flows.specs.Job.{Job}
 use Rattle.records.specs.Answer.{Refusal, refusal, gives, refuses}
 use Rattle.records.specs.Records.{written, kindAccepted}
 use Rattle.records.specs.JobFile.{JobFile, mostNodes, modeCausal, measuredOf, all, has, joined, readJob, jobOf}

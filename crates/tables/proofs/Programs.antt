@@ -9,7 +9,7 @@ use lib.Dec.{T, leb, le→leb}
 use lib.ListN.{length, take, drop}
 use lib.Seq.{take-append-seam}
 use Rattle.nodes.proofs.Logic.{is-true}
-use Rattle.finder.specs.Search.{Progress}
+use Rattle.flows.specs.Search.{Progress}
 use Rattle.records.specs.Answer.{Refusal, Answer, gives, refuses, refusal, _>>=_, _>>_, asks}
 use Rattle.records.specs.Records.{written, kindNoFlow, kindAccepted}
 use Rattle.records.specs.JobFile.{JobFile, mostNodes, readJob, jobOf, measuredOf}

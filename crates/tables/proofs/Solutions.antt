@@ -11,13 +11,13 @@ use lib.ListN.{take, length}
 use Rattle.nodes.proofs.Logic.{is-true, is-false, from-false, dec, or-out, not-out, eqb-yes, and-all, lt-or-ge}
 use Rattle.solver.specs.System.{System, Solves, Answer, solve, isSome}
 use Rattle.solver.proofs.System.{solvable-some, answer-unique}
-use Rattle.finder.specs.Job.{Job}
-use Rattle.finder.specs.Branch.{Context, branches, systemAt, sideAt, inSet, withNode, tryBranch}
-use Rattle.finder.specs.Search.{Progress}
-use Rattle.finder.proofs.Branch.{put-out}
-use Rattle.finder.proofs.Table.{listed}
-use Rattle.finder.proofs.Tries.{contextAt, tryAt, planes-context, FirstOf, try-first, branch-answer, no-column-u}
-use Rattle.finder.proofs.Flows.{findAt, earlierThan, Found, found-flow, try-ext}
+use Rattle.flows.specs.Job.{Job}
+use Rattle.flows.specs.Branch.{Context, branches, systemAt, sideAt, inSet, withNode, tryBranch}
+use Rattle.flows.specs.Search.{Progress}
+use Rattle.flows.proofs.Branch.{put-out}
+use Rattle.flows.proofs.Table.{listed}
+use Rattle.flows.proofs.Tries.{contextAt, tryAt, planes-context, FirstOf, try-first, branch-answer, no-column-u}
+use Rattle.flows.proofs.Flows.{findAt, earlierThan, Found, found-flow, try-ext}
 use Rattle.records.specs.Answer.{Answer as Reply, gives, refuses}
 use Rattle.records.specs.Records.{written, kindNoFlow}
 use Rattle.records.specs.JobFile.{JobFile, readJob, jobOf, modePlanes, modePauli, has}

@@ -7,10 +7,10 @@ use lib.Dec.{eqb, leb}
 use lib.ListN.{length, drop}
 use Rattle.solver.specs.WorkMatrix.{listOf}
 use Rattle.solver.specs.Solver.{rowBytes, mostRows}
-use Rattle.finder.specs.Job.{Job}
-use Rattle.finder.specs.Search.{Progress}
-use Rattle.finder.specs.Planes as Planes
-use Rattle.finder.specs.Paulis as Paulis
+use Rattle.flows.specs.Job.{Job}
+use Rattle.flows.specs.Search.{Progress}
+use Rattle.flows.specs.Planes as Planes
+use Rattle.flows.specs.Paulis as Paulis
 use Rattle.records.specs.Answer.{Refusal, Answer, gives, refuses, _>>=_, _>>_, refusal, asks}
 use Rattle.records.specs.Records.{written, kindAccepted}
 use Rattle.records.specs.Writing.{flowBytes}

@@ -6,7 +6,7 @@ use mathlib.Core.List.{List, [], _∷_, _++_}
 use mathlib.Core.Logic.{_↔_, _⊎_}
 use lib.Dec.{T, eqb}
 use lib.ListN.{getD, take}
-use Rattle.finder.specs.Premise.{planesPremise, paulisPremise}
+use Rattle.flows.specs.Premise.{planesPremise, paulisPremise}
 use Rattle.records.specs.Answer.{Answer, gives}
 use Rattle.records.specs.Records.{written, kindNoFlow}
 use Rattle.records.specs.JobFile.{JobFile, readJob, jobOf, measuredOf, modePlanes}

@@ -10,7 +10,7 @@ use Rattle.nodes.specs.Row.{anyBelow, lowest}
 use Rattle.nodes.specs.NodeSet.{member, highest, capacity}
 use Rattle.nodes.specs.SetTable.{setAt}
 use Rattle.nodes.specs.declared.utils.NodeSet.{NodeSet}
-use Rattle.finder.specs.Job.{pauliY, isXorY, isYorZ}
+use Rattle.flows.specs.Job.{pauliY, isXorY, isYorZ}
 use Rattle.records.specs.Answer.{Refusal, Answer, gives, refuses, _>>_}
 use Rattle.records.specs.JobFile.{JobFile, Measured, measuredOf, jobOf}
 use Rattle.records.specs.FlowFile.{FlowFile, Flow, nothingLeft, oneMember, flowOf}

@@ -6,10 +6,10 @@ use mathlib.Core.List.{List, [], _∷_, _++_}
 use lib.Dec.{T, eqb, ltb}
 use lib.ListN.{take}
 use Rattle.solver.specs.System.{System, Solves, Answer}
-use Rattle.finder.specs.Job.{Job}
-use Rattle.finder.specs.Branch.{Context, branches, systemAt, sideAt, inSet}
-use Rattle.finder.specs.Planes as Planes
-use Rattle.finder.specs.Paulis as Paulis
+use Rattle.flows.specs.Job.{Job}
+use Rattle.flows.specs.Branch.{Context, branches, systemAt, sideAt, inSet}
+use Rattle.flows.specs.Planes as Planes
+use Rattle.flows.specs.Paulis as Paulis
 use Rattle.records.specs.Answer.{Answer as Reply, gives}
 use Rattle.records.specs.JobFile.{JobFile, readJob, jobOf, measuredOf, modePlanes, has}
 use Rattle.records.specs.FlowFile.{FlowFile, flowOf}

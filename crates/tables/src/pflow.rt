@@ -1,7 +1,7 @@
 // Checking a Pauli flow, mode 3 of document 01.
 ghost use mathlib.Core.Path.{_≡_};
 ghost use Rattle.nodes.specs.NodeSet.{member};
-ghost use Rattle.finder.specs.Job.{own};
+ghost use Rattle.flows.specs.Job.{own};
 ghost use Rattle.finder.specs.Finder.{jobIn};
 ghost use Rattle.records.specs.JobFile.{modePauli};
 ghost use Rattle.verdicts.specs.Verdict.{ask, _next_, each, definitionAsk, checkDefinition};

@@ -7,7 +7,7 @@ ghost use lib.ListN.{getD};
 ghost use Rattle.nodes.specs.Row.{parity};
 ghost use Rattle.nodes.specs.NodeSet.{member, highest};
 ghost use Rattle.nodes.specs.SetTable.{setAt};
-ghost use Rattle.finder.specs.Job.{own};
+ghost use Rattle.flows.specs.Job.{own};
 ghost use Rattle.finder.specs.Finder.{jobIn};
 ghost use Rattle.verdicts.specs.Verdict.{ask, each, measuredAsk, inputAsk, domainAsk, checkDomain, checkInitial};
 ghost use Rattle.records.specs.JobFile.{modePauli};

@@ -11,10 +11,10 @@ use Rattle.nodes.specs.Row.{anyBelow, lowest, parity}
 use Rattle.nodes.proofs.Logic.{is-true, is-false, from-true, from-false, dec, and-l, and-r, and-in, or-l, or-r, or-out, not-in, not-out, eqb-no, eqb-yes, and-none}
 use Rattle.nodes.proofs.Row.{any-in, any-out, parity-none}
 use Rattle.nodes.proofs.Members.{lowest-unique}
-use Rattle.finder.specs.Job.{Job, odd, own, isXorY, isYorZ, planeXY, planeYZ, planeXZ, pauliX, pauliY, pauliZ}
-use Rattle.finder.proofs.Conditions.{Ok}
-use Rattle.finder.proofs.Flows.{earlierThan}
-use Rattle.finder.proofs.Table.{needs-one}
+use Rattle.flows.specs.Job.{Job, odd, own, isXorY, isYorZ, planeXY, planeYZ, planeXZ, pauliX, pauliY, pauliZ}
+use Rattle.flows.proofs.Conditions.{Ok}
+use Rattle.flows.proofs.Flows.{earlierThan}
+use Rattle.flows.proofs.Table.{needs-one}
 use Rattle.records.specs.Answer.{Refusal}
 use Rattle.records.specs.JobFile.{modeCausal, modePlanes, modePauli}
 use Rattle.records.specs.FlowFile.{Flow}

@@ -9,9 +9,9 @@ use lib.Dec.{T, eqb, ltb, eqb→eq, eqb-refl, ltb→lt, lt→ltb}
 use Rattle.nodes.specs.Bit.{_⊕_}
 use Rattle.nodes.specs.Row.{anyBelow}
 use Rattle.nodes.proofs.Logic.{is-true, is-false, from-true, from-false, dec, and-l, and-r, and-in, or-l, or-r, or-out, not-in, not-out, eqb-no}
-use Rattle.finder.specs.Job.{Job, odd, own, isXorY, isYorZ, pauliY}
-use Rattle.finder.proofs.Conditions.{Ok}
-use Rattle.finder.proofs.Flows.{earlierThan}
+use Rattle.flows.specs.Job.{Job, odd, own, isXorY, isYorZ, pauliY}
+use Rattle.flows.proofs.Conditions.{Ok}
+use Rattle.flows.proofs.Flows.{earlierThan}
 use Rattle.records.specs.Answer.{Refusal}
 use Rattle.records.specs.JobFile.{modeCausal, modePlanes, modePauli}
 use Rattle.records.specs.FlowFile.{Flow}

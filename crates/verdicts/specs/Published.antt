@@ -5,7 +5,7 @@ use mathlib.Core.Path.{_≡_}
 use mathlib.Core.Bool.{Bool, true, false, _||_}
 use mathlib.Core.Logic.{_≢_, _⊎_, _↔_}
 use lib.Dec.{T, eqb}
-use Rattle.finder.specs.Job.{Job, odd, planeXY, planeYZ, planeXZ, pauliX, pauliY, pauliZ, isXorY, isYorZ}
+use Rattle.flows.specs.Job.{Job, odd, planeXY, planeYZ, planeXZ, pauliX, pauliY, pauliZ, isXorY, isYorZ}
 use Rattle.records.specs.FlowFile.{Flow}
 
 pub record StrictOrder (before : ℕ → ℕ → Type 0) : Type 0 where

@@ -5,7 +5,7 @@ use mathlib.Core.Option.{Option, none, some}
 use lib.Dec.{eqb, ltb}
 use Rattle.nodes.specs.Bit.{_⊕_}
 use Rattle.nodes.specs.Row.{anyBelow}
-use Rattle.finder.specs.Job.{Job, odd, own, pauliY, isXorY, isYorZ}
+use Rattle.flows.specs.Job.{Job, odd, own, pauliY, isXorY, isYorZ}
 use Rattle.records.specs.Answer.{Refusal}
 use Rattle.records.specs.JobFile.{modeCausal, modePauli}
 use Rattle.records.specs.FlowFile.{Flow}

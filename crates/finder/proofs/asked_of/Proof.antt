@@ -2,7 +2,7 @@ use mathlib.Core.Path.{_≡_, sym, ap, ap₂, _∙_}
 use mathlib.Core.Bool.{Bool, true, false, not, _&&_}
 use Rattle.nodes.specs.NodeSet.{member}
 use Rattle.finder.proofs.Filling.{one-node, asked-none, asked-one}
-use Rattle.finder.specs.Branch.{inOdd}
+use Rattle.flows.specs.Branch.{inOdd}
 use borrow.Author.Needs.{needs}
 use Rattle.finder.proofs.asked_of.Statement.{statement}
 use Rattle.finder.proofs.asked_of.Tie as tie

@@ -4,7 +4,7 @@ use Rattle.nodes.specs.NodeSet.{member, capacity}
 use Rattle.finder.proofs.Packing.{member-lt, rows-room, sides-room}
 use Rattle.nodes.proofs.Count.{rank-lt}
 use Rattle.finder.specs.Views.{answerIn}
-use Rattle.finder.specs.Branch.{inSet, withNode}
+use Rattle.flows.specs.Branch.{inSet, withNode}
 use Rattle.finder.proofs.read_node.Statement.{statement}
 use Rattle.finder.proofs.read_node.Tie as tie
 

@@ -2,7 +2,7 @@ use mathlib.Core.Path.{_≡_, sym, _∙_}
 use mathlib.Core.Bool.{true, false}
 use Rattle.nodes.specs.NodeSet.{member}
 use Rattle.finder.proofs.Filling.{side-in, side-out}
-use Rattle.finder.specs.Branch.{inSet}
+use Rattle.flows.specs.Branch.{inSet}
 use borrow.Author.Needs.{needs}
 use Rattle.finder.proofs.side_of.Statement.{statement}
 use Rattle.finder.proofs.side_of.Tie as tie

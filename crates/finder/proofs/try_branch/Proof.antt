@@ -3,7 +3,7 @@ use native.Mathlib.Omega.{arith}
 use lib.ListN.{length}
 use Rattle.nodes.specs.Row.{count}
 use Rattle.finder.proofs.Packing.{rows-room, side-room, laid-length, reads-one}
-use Rattle.finder.specs.Branch.{inSet, withNode}
+use Rattle.flows.specs.Branch.{inSet, withNode}
 use borrow.Author.Needs.{needs}
 use Rattle.finder.proofs.try_branch.Statement.{statement}
 use Rattle.finder.proofs.try_branch.Tie as tie

@@ -1,5 +1,5 @@
 use mathlib.Core.Path.{_≡_, sym, ap, _∙_}
-use Rattle.finder.specs.Job.{Job}
+use Rattle.flows.specs.Job.{Job}
 use Rattle.finder.specs.Finder.{jobIn}
 use Rattle.records.specs.FlowFile.{Flow}
 use Rattle.verdicts.specs.Verdict.{nodeAsk, causalAsk, checkDefinition, verify}

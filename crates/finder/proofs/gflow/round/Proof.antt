@@ -6,7 +6,7 @@ use lib.Dec.{T}
 use lib.ListN.{length}
 use Rattle.nodes.specs.NodeSet.{member, capacity}
 use lib.ListN.{getD}
-use Rattle.finder.specs.Branch.{tryBranch}
+use Rattle.flows.specs.Branch.{tryBranch}
 use Rattle.finder.specs.Views.{graphJob, contextOf, nodeIn}
 use Rattle.finder.specs.Finding.{progressIn}
 use Rattle.finder.proofs.Visiting.{visited-ext}

@@ -9,9 +9,9 @@ use mathlib.Core.List.{List}
 use Rattle.nodes.specs.Row.{count}
 use Rattle.nodes.specs.declared.utils.NodeSet.{NodeSet}
 use Rattle.nodes.proofs.Logic.{from-true, from-false}
-use Rattle.finder.specs.Job.{Job}
-use Rattle.finder.specs.Search.{Progress, start, round}
-use Rattle.finder.specs.Planes as Planes
+use Rattle.flows.specs.Job.{Job}
+use Rattle.flows.specs.Search.{Progress, start, round}
+use Rattle.flows.specs.Planes as Planes
 use Rattle.finder.specs.Finder.{jobIn}
 use Rattle.finder.specs.Views.{Within, RowsApart, SidesApart}
 use Rattle.finder.specs.Finding.{Sized, planesGiven, progressIn, cutTo}

@@ -9,13 +9,13 @@ use mathlib.Core.List.{List}
 use Rattle.nodes.specs.Row.{count}
 use Rattle.nodes.specs.declared.utils.NodeSet.{NodeSet}
 use Rattle.nodes.proofs.Logic.{from-false}
-use Rattle.finder.specs.Job.{Job}
-use Rattle.finder.specs.Paulis as Paulis
-use Rattle.finder.specs.Search.{start}
+use Rattle.flows.specs.Job.{Job}
+use Rattle.flows.specs.Paulis as Paulis
+use Rattle.flows.specs.Search.{start}
 use Rattle.finder.specs.Finder.{jobIn}
 use Rattle.finder.specs.Finding.{Sized, KindsOf, progressIn}
-use Rattle.finder.proofs.Search.{never}
-use Rattle.finder.proofs.Progress.{paulis-try-ext}
+use Rattle.flows.proofs.Search.{never}
+use Rattle.flows.proofs.Progress.{paulis-try-ext}
 use Rattle.finder.proofs.Visiting.{cut-again, Going, going-idle, going-new, going-fewer, going-on}
 use Rattle.finder.proofs.Rounds.{cut-inside, paulis-start}
 use borrow.Author.Needs.{needs}

@@ -5,7 +5,7 @@ use mathlib.Core.Option.{Option, none}
 use native.Mathlib.Omega.{arith}
 use Rattle.nodes.specs.NodeSet.{member, capacity}
 use Rattle.nodes.specs.Row.{anyBelow}
-use Rattle.finder.specs.Branch.{Context}
+use Rattle.flows.specs.Branch.{Context}
 use Rattle.finder.specs.Views.{contextOf}
 use Rattle.finder.specs.Finding.{forNode, tryIn}
 use Rattle.finder.proofs.Finding.{for-context, for-within, for-rows, for-column}

@@ -3,7 +3,7 @@ use mathlib.Core.Path.{_≡_, refl, sym, ap, _∙_}
 use mathlib.Core.Bool.{Bool, true, false, cond, not, _||_, _&&_}
 use mathlib.Core.Option.{Option, none}
 use Prim.Native.Nat.{ℕ}
-use Rattle.finder.specs.Branch.{tryBranch}
+use Rattle.flows.specs.Branch.{tryBranch}
 use Rattle.finder.specs.Views.{graphJob, contextOf}
 use borrow.Author.Needs.{needs}
 use Rattle.finder.proofs.pflow.try_listed.Statement.{statement}

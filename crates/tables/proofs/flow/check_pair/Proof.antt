@@ -6,7 +6,7 @@ use native.Mathlib.Omega.{arith}
 use borrow.Author.Tests.{not-true, not-false, lt-ltb, le-ltb}
 use Rattle.nodes.specs.NodeSet.{member}
 use Rattle.nodes.proofs.SetTable.{set-past}
-use Rattle.finder.specs.Job.{Job}
+use Rattle.flows.specs.Job.{Job}
 use Rattle.finder.specs.Finder.{jobIn}
 use Rattle.records.specs.FlowFile.{Flow}
 use Rattle.verdicts.specs.Verdict.{each, later, neighbourAsk}

@@ -6,7 +6,7 @@ use Rattle.nodes.specs.Row.{parity}
 use Rattle.nodes.specs.NodeSet.{member}
 use Rattle.nodes.specs.SetTable.{setAt}
 use Rattle.nodes.proofs.SetTable.{set-past}
-use Rattle.finder.specs.Job.{Job, odd, own}
+use Rattle.flows.specs.Job.{Job, odd, own}
 use Rattle.finder.specs.Finder.{jobIn}
 use Rattle.records.specs.JobFile.{modePlanes}
 use Rattle.records.specs.FlowFile.{Flow}

@@ -3,7 +3,7 @@ use borrow.Author.Tests.{not-true, not-false}
 use Rattle.nodes.specs.Row.{anyBelow}
 use Rattle.nodes.specs.NodeSet.{member, capacity}
 use Rattle.nodes.proofs.Logic.{is-true, is-false, unless-in, unless-out}
-use Rattle.finder.specs.Job.{odd, own}
+use Rattle.flows.specs.Job.{odd, own}
 use Rattle.tables.specs.Loaded.{firstIn}
 use Rattle.tables.proofs.Asking.{first-none, first-some, ask-yes, ask-no, next-stops, next-goes}
 use borrow.Author.Needs.{needs}

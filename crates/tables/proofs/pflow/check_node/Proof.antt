@@ -7,7 +7,7 @@ use Rattle.nodes.specs.Row.{parity}
 use Rattle.nodes.specs.NodeSet.{member}
 use Rattle.nodes.specs.SetTable.{setAt}
 use Rattle.nodes.proofs.SetTable.{set-past}
-use Rattle.finder.specs.Job.{Job, odd, own, isXorY, isYorZ, pauliY}
+use Rattle.flows.specs.Job.{Job, odd, own, isXorY, isYorZ, pauliY}
 use Rattle.finder.specs.Finder.{jobIn}
 use Rattle.records.specs.Answer.{Refusal}
 use Rattle.records.specs.JobFile.{modePauli}

@@ -1,6 +1,6 @@
 use mathlib.Core.Path.{refl}
 use borrow.Author.Tests.{ne-eqb}
-use Rattle.finder.specs.Job.{own}
+use Rattle.flows.specs.Job.{own}
 use Rattle.tables.proofs.AskingNodes.{unequal}
 use Rattle.tables.proofs.validate.own_holds.Statement.{statement}
 use Rattle.tables.proofs.validate.own_holds.Tie as tie

@@ -5,7 +5,7 @@ use mathlib.Core.Bool.{Bool, true, false, _&&_}
 use mathlib.Core.Logic.{_⊎_, inl, inr}
 use lib.Dec.{T, eqb}
 use Rattle.nodes.proofs.Count.{Within}
-use Rattle.finder.specs.Job.{Job, odd, own, isXorY, isYorZ, pauliY}
+use Rattle.flows.specs.Job.{Job, odd, own, isXorY, isYorZ, pauliY}
 
 -- members are no inputs, u itself excepted; members and Odd are later or, with Paulis, excused; with Paulis a Y node that is
 -- not later is in both of set and Odd or in neither; u's own measurement holds

@@ -9,11 +9,11 @@ use Rattle.nodes.specs.Row.{anyBelow, allBelow, count}
 use Rattle.nodes.proofs.Logic.{is-true, is-false, dec, and-l, and-r, and-in, or-l, or-r, or-out, not-in, not-out}
 use Rattle.nodes.proofs.Row.{any-in, any-out, all-out}
 use Rattle.nodes.proofs.Count.{rank-sur}
-use Rattle.finder.specs.Job.{Job, odd, isXorY, isYorZ, planeYZ}
-use Rattle.finder.specs.Premise.{planesPremise, paulisPremise}
-use Rattle.finder.proofs.Table.{needs-odd}
-use Rattle.finder.proofs.Conditions.{Ok}
-use Rattle.finder.proofs.Tries.{contextAt, needs-column}
+use Rattle.flows.specs.Job.{Job, odd, isXorY, isYorZ, planeYZ}
+use Rattle.flows.specs.Premise.{planesPremise, paulisPremise}
+use Rattle.flows.proofs.Table.{needs-odd}
+use Rattle.flows.proofs.Conditions.{Ok}
+use Rattle.flows.proofs.Tries.{contextAt, needs-column}
 
 abbrev pub premiseAt : Job → Bool → Bool
 premiseAt j true = paulisPremise j

@@ -12,14 +12,14 @@ use Rattle.nodes.proofs.Logic.{is-true, is-false, from-true, dec, and-l, and-r,
 use Rattle.nodes.proofs.Row.{parity-none, any-in, any-out, any-ext}
 use Rattle.solver.specs.System.{Answer, solve, isSome, firstOf}
 use Rattle.solver.proofs.System.{solve-answer, Agree, solve-ext}
-use Rattle.finder.specs.Job.{Job, odd, own, isXorY, isYorZ, planeXY, planeYZ, planeXZ, pauliX, pauliY, pauliZ}
-use Rattle.finder.specs.Branch.{Context, inSet, inOdd, branches, systemAt, sideAt, withNode, tryBranch, firstSolvable, tryNode}
-use Rattle.finder.specs.Search.{noNode}
-use Rattle.finder.specs.Planes as Planes
-use Rattle.finder.specs.Paulis as Paulis
-use Rattle.finder.proofs.Branch.{Fits, fits-some, some-fits}
-use Rattle.finder.proofs.Table.{listed, branch-own, branchOf, own-branch}
-use Rattle.finder.proofs.Conditions.{Ok}
+use Rattle.flows.specs.Job.{Job, odd, own, isXorY, isYorZ, planeXY, planeYZ, planeXZ, pauliX, pauliY, pauliZ}
+use Rattle.flows.specs.Branch.{Context, inSet, inOdd, branches, systemAt, sideAt, withNode, tryBranch, firstSolvable, tryNode}
+use Rattle.flows.specs.Search.{noNode}
+use Rattle.flows.specs.Planes as Planes
+use Rattle.flows.specs.Paulis as Paulis
+use Rattle.flows.proofs.Branch.{Fits, fits-some, some-fits}
+use Rattle.flows.proofs.Table.{listed, branch-own, branchOf, own-branch}
+use Rattle.flows.proofs.Conditions.{Ok}
 
 -- ---- one context: with Paulis the excused nodes are columns from the start and leave the rows
 abbrev pub contextAt : Job → Bool → (ℕ → Bool) → ℕ → Context

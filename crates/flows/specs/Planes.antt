@@ -3,9 +3,9 @@ use Prim.Native.Nat.{ℕ}
 use mathlib.Core.Bool.{Bool, true, false, not, _&&_, _||_}
 use mathlib.Core.Option.{Option}
 use Rattle.nodes.specs.Row.{anyBelow, allBelow}
-use Rattle.finder.specs.Job.{Job}
-use Rattle.finder.specs.Branch.{Context, tryNode}
-use Rattle.finder.specs.Search.{Progress, start, rounds, found, noNode}
+use Rattle.flows.specs.Job.{Job}
+use Rattle.flows.specs.Branch.{Context, tryNode}
+use Rattle.flows.specs.Search.{Progress, start, rounds, found, noNode}
 
 -- Columns: the outputs and solved nodes that are no inputs. Rows: the unsolved nodes.
 abbrev pub context : Job → (ℕ → Bool) → Context

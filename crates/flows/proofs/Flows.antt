@@ -14,15 +14,15 @@ use Rattle.nodes.proofs.Logic.{is-true, is-false, from-true, from-false, dec, a
 use Rattle.nodes.proofs.Row.{any-none, any-ext, all-in, all-out, ltb-no}
 use Rattle.nodes.proofs.Count.{count-le}
 use Rattle.solver.specs.System.{isSome}
-use Rattle.finder.specs.Job.{Job}
-use Rattle.finder.specs.Branch.{Context, branches, tryNode}
-use Rattle.finder.specs.Search.{Progress, noNode, start, solvedNow, round, rounds, found}
-use Rattle.finder.specs.Planes as Planes
-use Rattle.finder.specs.Paulis as Paulis
-use Rattle.finder.proofs.Conditions.{Ok, more-later}
-use Rattle.finder.proofs.Tries.{contextAt, noColumnAt, tryAt, planes-context, SameContext, node-ext, FirstOf, try-first, try-sound, try-complete}
-use Rattle.finder.proofs.Search.{never, Ended, rounds-end, rounds-pass, fresh-open, Tried, Searched, step, searched-start, searched, Early, Earliest, step-early, earliest}
-use Rattle.finder.proofs.Premise.{premiseAt, Gone, all-gone, column-left}
+use Rattle.flows.specs.Job.{Job}
+use Rattle.flows.specs.Branch.{Context, branches, tryNode}
+use Rattle.flows.specs.Search.{Progress, noNode, start, solvedNow, round, rounds, found}
+use Rattle.flows.specs.Planes as Planes
+use Rattle.flows.specs.Paulis as Paulis
+use Rattle.flows.proofs.Conditions.{Ok, more-later}
+use Rattle.flows.proofs.Tries.{contextAt, noColumnAt, tryAt, planes-context, SameContext, node-ext, FirstOf, try-first, try-sound, try-complete}
+use Rattle.flows.proofs.Search.{never, Ended, rounds-end, rounds-pass, fresh-open, Tried, Searched, step, searched-start, searched, Early, Earliest, step-early, earliest}
+use Rattle.flows.proofs.Premise.{premiseAt, Gone, all-gone, column-left}
 
 abbrev pub findAt : Job → Bool → Option Progress
 findAt j true = Paulis.find j

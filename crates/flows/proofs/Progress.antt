@@ -7,12 +7,12 @@ use lib.Dec.{T}
 use Rattle.nodes.specs.Row.{anyBelow, allBelow}
 use Rattle.nodes.proofs.Row.{any-ext, all-ext}
 use Rattle.solver.specs.System.{isSome}
-use Rattle.finder.specs.Job.{Job}
-use Rattle.finder.specs.Search.{Progress, orNone, solvedNow, round, rounds}
-use Rattle.finder.specs.Planes as Planes
-use Rattle.finder.specs.Paulis as Paulis
-use Rattle.finder.proofs.Tries.{SameContext, node-ext}
-use Rattle.finder.proofs.Flows.{try-ext}
+use Rattle.flows.specs.Job.{Job}
+use Rattle.flows.specs.Search.{Progress, orNone, solvedNow, round, rounds}
+use Rattle.flows.specs.Planes as Planes
+use Rattle.flows.specs.Paulis as Paulis
+use Rattle.flows.proofs.Tries.{SameContext, node-ext}
+use Rattle.flows.proofs.Flows.{try-ext}
 
 pub record SameProgress (n : ℕ) (s t : Progress) : Type 0 where
   pub solved : (u : ℕ) → u < n → s .solved u ≡ t .solved u

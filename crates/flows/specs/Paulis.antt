@@ -4,9 +4,9 @@ use mathlib.Core.Bool.{Bool, true, false, cond, not, _&&_, _||_}
 use mathlib.Core.Option.{Option, none}
 use lib.Dec.{eqb}
 use Rattle.nodes.specs.Row.{anyBelow}
-use Rattle.finder.specs.Job.{Job, isXorY, isYorZ, pauliY}
-use Rattle.finder.specs.Branch.{Context, tryNode}
-use Rattle.finder.specs.Search.{Progress, start, round, rounds, found, noNode}
+use Rattle.flows.specs.Job.{Job, isXorY, isYorZ, pauliY}
+use Rattle.flows.specs.Branch.{Context, tryNode}
+use Rattle.flows.specs.Search.{Progress, start, round, rounds, found, noNode}
 
 -- `gone` are the nodes that have left the rows and, inputs aside, joined the columns: none in round 0, then the outputs
 -- and the solved nodes. For u, u joins the upper rows and leaves the lower rows and the columns.

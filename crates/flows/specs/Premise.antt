@@ -3,7 +3,7 @@ use Prim.Native.Nat.{ℕ}
 use mathlib.Core.Bool.{Bool, not, _&&_, _||_}
 use lib.Dec.{eqb, leb}
 use Rattle.nodes.specs.Row.{anyBelow, allBelow, count}
-use Rattle.finder.specs.Job.{Job, planeYZ, isXorY, isYorZ}
+use Rattle.flows.specs.Job.{Job, planeYZ, isXorY, isYorZ}
 
 -- planes: some output is no input, or no node is measured in YZ
 abbrev pub planesPremise : Job → Bool

@@ -11,10 +11,10 @@ use Rattle.nodes.specs.Row.{count}
 use Rattle.nodes.proofs.Logic.{is-true, is-false, dec, and-l, and-r, or-l, or-r, or-out, not-out}
 use Rattle.nodes.proofs.Row.{ltb-yes, ltb-no}
 use Rattle.nodes.proofs.Count.{count-ext, count-at, count-not, count-split, count-pos}
-use Rattle.finder.specs.Job.{Job, isXorY, isYorZ, pauliY}
-use Rattle.finder.specs.Branch.{Context, systemAt}
-use Rattle.finder.specs.Planes as Planes
-use Rattle.finder.proofs.Tries.{contextAt, no-column-u}
+use Rattle.flows.specs.Job.{Job, isXorY, isYorZ, pauliY}
+use Rattle.flows.specs.Branch.{Context, systemAt}
+use Rattle.flows.specs.Planes as Planes
+use Rattle.flows.proofs.Tries.{contextAt, no-column-u}
 
 -- two sets without a common member
 pub count-disjoint : (n : ℕ) (a b : ℕ → Bool) → ((k : ℕ) → k < n → T (a k) → T (b k) → ⊥) → count n a + count n b ≤ n

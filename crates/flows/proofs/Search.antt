@@ -13,7 +13,7 @@ use Rattle.nodes.proofs.Logic.{is-true, is-false, from-true, from-false, dec, a
 use Rattle.nodes.proofs.Row.{any-in, any-out, any-none, ltb-yes, ltb-no}
 use Rattle.nodes.proofs.Count.{Within, count-le, count-pos, grows}
 use Rattle.solver.specs.System.{isSome}
-use Rattle.finder.specs.Search.{Progress, noNode, orNone, start, solvedNow, round, rounds}
+use Rattle.flows.specs.Search.{Progress, noNode, orNone, start, solvedNow, round, rounds}
 
 abbrev pub never : Progress → Bool
 never s = false

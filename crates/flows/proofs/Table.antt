@@ -11,8 +11,8 @@ use Rattle.nodes.specs.Bit.{_⊕_}
 use Rattle.nodes.specs.Row.{allBelow}
 use Rattle.nodes.proofs.Logic.{and-l, and-r, or-l, or-r, or-out, not-out, dec, is-true, is-false}
 use Rattle.nodes.proofs.Row.{all-out}
-use Rattle.finder.specs.Job.{own, isYorZ, planeXY, planeYZ, planeXZ}
-use Rattle.finder.specs.Branch.{branchTable, branches, inSet, inOdd}
+use Rattle.flows.specs.Job.{own, isYorZ, planeXY, planeYZ, planeXZ}
+use Rattle.flows.specs.Branch.{branchTable, branches, inSet, inOdd}
 
 -- the elements that pass
 unfoldable pub keep : (ℕ → Bool) → List ℕ → List ℕ

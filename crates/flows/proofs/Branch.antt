@@ -13,8 +13,8 @@ use Rattle.nodes.proofs.Logic.{is-true, is-false, from-true, dec, and-l, and-r,
 use Rattle.nodes.proofs.Row.{parity-ext, parity-⊕, parity-one, ltb-yes, ltb-no}
 use Rattle.solver.specs.System.{System, Solves, Answer, solve, isSome}
 use Rattle.solver.proofs.System.{Right, solve-right, solvable-some, solve-answer}
-use Rattle.finder.specs.Job.{Job, odd}
-use Rattle.finder.specs.Branch.{Context, inSet, inOdd, entryAt, systemAt, sideAt, withNode, tryBranch}
+use Rattle.flows.specs.Job.{Job, odd}
+use Rattle.flows.specs.Branch.{Context, inSet, inOdd, entryAt, systemAt, sideAt, withNode, tryBranch}
 
 -- a bit with and without c
 split-bit : (e a c : Bool) → e && a ≡ e && (a && not c) ⊕ (e && a && c)

@@ -7,7 +7,7 @@ use lib.Dec.{eqb, ltb}
 use lib.ListN.{getD}
 use Rattle.nodes.specs.Bit.{_⊕_}
 use Rattle.solver.specs.System.{System, solve, firstOf}
-use Rattle.finder.specs.Job.{Job, planeXY, planeYZ, planeXZ}
+use Rattle.flows.specs.Job.{Job, planeXY, planeYZ, planeXZ}
 
 -- The branches that each measurement tries, in the order XY, YZ, XZ: a row for each of XY, YZ, XZ, X, Y, Z.
 abbrev pub branchTable : List (List ℕ)

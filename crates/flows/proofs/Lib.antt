@@ -1,0 +1,9 @@
+pub mod Branch
+pub mod Conditions
+pub mod Flows
+pub mod Premise
+pub mod Progress
+pub mod Search
+pub mod Sizes
+pub mod Table
+pub mod Tries

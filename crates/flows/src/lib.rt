@@ -1,0 +1,1 @@
+// Jobs, the two searches and their laws: definitions and theorems, no code.
