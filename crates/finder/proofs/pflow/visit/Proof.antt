@@ -1,9 +1,8 @@
-use mathlib.Core.Path.{_≡_, refl, sym, ap, _∙_, fun-ext}
-use mathlib.Core.Bool.{Bool, true, false, cond, not, _||_, _&&_}
-use Prim.Native.Nat.{ℕ, _+_, _<_}
-use native.Mathlib.Omega.{arith}
+use mathlib.Core.Path.{_≡_, sym, _∙_}
+use mathlib.Core.Bool.{not, _&&_}
+use Prim.Native.Nat.{ℕ}
 use lib.Dec.{T}
-use lib.ListN.{getD, length}
+use lib.ListN.{getD}
 use Rattle.nodes.specs.NodeSet.{member, capacity}
 use Rattle.nodes.specs.Row.{count}
 use Rattle.finder.specs.Views.{contextOf, triedOf}
@@ -14,13 +13,6 @@ use native.Mathlib.Nat.{lt-of-lt-of-le}
 use borrow.Author.Needs.{needs}
 use Rattle.finder.proofs.pflow.visit.Statement.{statement}
 use Rattle.finder.proofs.pflow.visit.Tie as tie
-use Rattle.finder.proofs.pflow.visit.Reads as reads
-use Rattle.finder.proofs.pflow.visit.Lts as lts
-use Rattle.finder.proofs.pflow.try_for.Reads as try-for-reads
-use Rattle.finder.proofs.place.Reads as place-reads
-use Rattle.nodes.proofs.utils.NodeSet.is_empty.Reads as is-empty-reads
-use Rattle.nodes.proofs.utils.NodeSet.lowest.Reads as lowest-reads
-use Rattle.nodes.proofs.utils.NodeSet.without_lowest.Reads as without-lowest-reads
 
 abbrev Inv-loop : tie.InvT-loop
 Inv-loop graph n base measured r work₀ layers₀ sets₀ left₀ q₀ work layers sets left q = Sized n measured work layers sets × ((v : ℕ) → T (member left v) → T (member left₀ v))
@@ -29,55 +21,45 @@ Inv-loop graph n base measured r work₀ layers₀ sets₀ left₀ q₀ work lay
 abbrev μ-loop : tie.MeasureT-loop
 μ-loop graph n base measured r work₀ layers₀ sets₀ left₀ q₀ work layers sets left q = count capacity (member left)
 
--- src/pflow.rt:159:5
 loop-holds : tie.Need-loop-holds Inv-loop μ-loop
 loop-holds c = let s = c .before .before .before .before .before in
     let a = s .args in
     (s .pre .0, λ v t. t, visited-start (λ u. tryFor (a .n) (a .graph .now) (contextOf (a .base)) u (getD (a .measured .now) u 0)) (a .r) (progressIn (a .solved) (a .layers .now) (a .sets .now)) (member (a .unsolved)))
 
--- src/pflow.rt:159:12
 is-empty-requires : tie.Need-is-empty-requires Inv-loop μ-loop
 is-empty-requires c κs = search needs
 
--- src/pflow.rt:160:13
 lowest-requires : tie.Need-lowest-requires Inv-loop μ-loop
 lowest-requires c κs = search needs
 
--- src/pflow.rt:161:26
 cast-m : tie.Need-cast-m Inv-loop μ-loop
 cast-m c = search needs
 
--- src/pflow.rt:161:17
 shared-slice-read-m : tie.Need-shared-slice-read-m Inv-loop μ-loop
 shared-slice-read-m c = let p = c .before .before .before .before .before .before .before .before .before .before .pre in
     let e = c .before .before .before in
     let l = e .before .loop in
     lt-of-lt-of-le (p .3 _ (l .inv .1 _ (lowest-left (l .left) (e .is-empty .result) (e .is-empty .ensures) (c .before .before .if1 .taken) _ (c .before .lowest .ensures)))) (p .0 .given)
 
--- src/pflow.rt:162:28
 try-for-requires : tie.Need-try-for-requires Inv-loop μ-loop
 try-for-requires c κs = let p = c .before .before .before .before .before .before .before .before .before .before .before .pre in
     let e = c .before .before .before .before in
     let l = e .before .loop in
     (l .inv .0 .rows, p .1, p .2, p .3 _ (l .inv .1 _ (lowest-left (l .left) (e .is-empty .result) (e .is-empty .ensures) (c .before .before .before .if1 .taken) _ (c .before .before .lowest .ensures))))
 
--- src/pflow.rt:162:9
 place-requires : tie.Need-place-requires Inv-loop μ-loop
 place-requires c κs = let e = c .before .before .before .before .before .before .before .before .before in
     let l = e .before .loop in
     (lowest-small (l .left) (e .is-empty .result) (e .is-empty .ensures) (c .before .before .before .before .before .before .before .before .if1 .taken) _ (c .before .before .before .before .before .before .before .lowest .ensures), l .inv .0 .bytes, l .inv .0 .words)
 
--- src/pflow.rt:163:9
 without-lowest-requires : tie.Need-without-lowest-requires Inv-loop μ-loop
 without-lowest-requires c κs = search needs
 
--- src/pflow.rt:159:5
 loop-less : tie.Need-loop-less Inv-loop μ-loop
 loop-less c = let e = c .before .before .before .before .before .before .before .before .before .before .before .before .before .before .before in
     let l = e .before .loop in
     fewer-left (l .left) (e .is-empty .result) (e .is-empty .ensures) (c .before .before .before .before .before .before .before .before .before .before .before .before .before .before .if1 .taken) _ (c .before .before .before .before .before .before .before .before .before .before .before .before .before .lowest .ensures) (member (c .without-lowest .result)) (c .without-lowest .ensures)
 
--- src/pflow.rt:159:5
 loop-again : tie.Need-loop-again Inv-loop μ-loop
 loop-again c = let e = c .before .before .before .before .before .before .before .before .before .before .before .before .before .before .before in
     let l = e .before .loop in
@@ -87,24 +69,22 @@ loop-again c = let e = c .before .before .before .before .before .before .before
     let u = c .before .before .before .before .before .before .before .before .before .before .before .before .before .lowest .result in
     let mine = lowest-left (l .left) (e .is-empty .result) (e .is-empty .ensures) (c .before .before .before .before .before .before .before .before .before .before .before .before .before .before .if1 .taken) _ (c .before .before .before .before .before .before .before .before .before .before .before .before .before .lowest .ensures) in
     let next = next-left (l .left) (e .is-empty .result) (e .is-empty .ensures) (c .before .before .before .before .before .before .before .before .before .before .before .before .before .before .if1 .taken) _ (c .before .before .before .before .before .before .before .before .before .before .before .before .before .lowest .ensures) (member (c .without-lowest .result)) (c .without-lowest .ensures) in
-    let still = still-left (l .left) (e .is-empty .result) (e .is-empty .ensures) (c .before .before .before .before .before .before .before .before .before .before .before .before .before .before .if1 .taken) _ (c .before .before .before .before .before .before .before .before .before .before .before .before .before .lowest .ensures) (member (c .without-lowest .result)) (c .without-lowest .ensures) in
-    (record { nodes = l .inv .0 .nodes; given = l .inv .0 .given; rows = t .ensures .1; bytes = p .ensures .1 .0; words = p .ensures .1 .1 }, λ v t. l .inv .1 v (still v t),
-    visited-more (λ u. tryFor (a .n) (a .graph .now) (contextOf (a .base)) u (getD (a .measured .now) u 0)) (a .r) (progressIn (a .solved) (a .layers .now) (a .sets .now)) (member (a .unsolved)) (member (l .left)) (member (c .without-lowest .result)) u (triedOf (t .result))
-    (progressIn (l .q) (l .layers) (l .sets)) _ (l .inv .2) (p .ensures .0) (t .ensures .0) (l .inv .1 _ mine) mine next)
+    let still = still-left (l .left) (e .is-empty .result) (e .is-empty .ensures) (c .before .before .before .before .before .before .before .before .before .before .before .before .before .before .if1 .taken) _ (c .before .before .before .before .before .before .before .before .before .before .before .before .before .lowest .ensures) (member (c .without-lowest .result)) (c .without-lowest .ensures) in (
+      record { nodes = l .inv .0 .nodes; given = l .inv .0 .given; rows = t .ensures .1; bytes = p .ensures .1 .0; words = p .ensures .1 .1 },
+      λ v t. l .inv .1 v (still v t),
+      visited-more (λ u. tryFor (a .n) (a .graph .now) (contextOf (a .base)) u (getD (a .measured .now) u 0)) (a .r) (progressIn (a .solved) (a .layers .now) (a .sets .now)) (member (a .unsolved)) (member (l .left)) (member (c .without-lowest .result)) u (triedOf (t .result))
+          (progressIn (l .q) (l .layers) (l .sets)) _ (l .inv .2) (p .ensures .0) (t .ensures .0) (l .inv .1 _ mine) mine next,
+    )
 
--- src/pflow.rt:152:1
 same-length : tie.Need-same-length Inv-loop μ-loop
 same-length c = c .before .before .loop .inv .0 .rows ∙ sym (c .before .before .before .before .before .before .before .before .pre .0 .rows)
 
--- src/pflow.rt:152:1
 same-length-2 : tie.Need-same-length-2 Inv-loop μ-loop
 same-length-2 c = c .before .before .loop .inv .0 .bytes ∙ sym (c .before .before .before .before .before .before .before .before .pre .0 .bytes)
 
--- src/pflow.rt:152:1
 same-length-3 : tie.Need-same-length-3 Inv-loop μ-loop
 same-length-3 c = c .before .before .loop .inv .0 .words ∙ sym (c .before .before .before .before .before .before .before .before .pre .0 .words)
 
--- src/pflow.rt:152:1
 returns : tie.Need-returns Inv-loop μ-loop
 returns c = let e = c .before in
     let l = e .before .loop in
