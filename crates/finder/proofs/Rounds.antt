@@ -49,6 +49,10 @@ one-branch j c u m t = by (or-out (eqb m planeXY) (eqb m planeYZ || eqb m planeX
 pub cut-inside : (n : ℕ) (solved : NodeSet) (layers sets : List ℕ) → progressIn solved layers sets ≡ cutTo n (progressIn solved layers sets) → (u : ℕ) → T (member solved u) → u < n
 cut-inside n solved layers sets e u t = ltb→lt u n (and-l (ltb u n) (member solved u) (rw (ap (λ (q : Progress). q .solved u) e) at t))
 
+-- the nodes below n that are not solved
+pub unsolved-inside : (n : ℕ) (s left : ℕ → Bool) → left ≡ (λ u. (ltb u n && leb u highest) && not (s u)) → (u : ℕ) → T (left u) → u < n
+unsolved-inside n s left e u t = ltb→lt u n (and-l (ltb u n) (leb u highest) (and-l (ltb u n && leb u highest) (not (s u)) (rw e at t)))
+
 -- outputs stay solved
 pub outputs-stay : (n : ℕ) (s t : Progress) (output : ℕ → Bool) (try : ℕ → Option (ℕ → Bool)) (r : ℕ) → t ≡ cutTo n (round try r s)
     → ((u : ℕ) → u < n → T (output u) → T (s .solved u)) → (u : ℕ) → u < n → T (output u) → T (t .solved u)
@@ -74,16 +78,13 @@ module _ (n : ℕ) (graph : List ℕ) (inputs outputs : NodeSet) (measured : Lis
     upper-unsolved : (u : ℕ) → T (member (s .upper) u) → T (member solved u) → ⊥
     upper-unsolved u t = not-out (member solved u) (and-r (ltb u n && leb u highest) (not (member solved u)) (rw p at t))
 
-    upper-inside : (u : ℕ) → T (member (s .upper) u) → u < n
-    upper-inside u t = ltb→lt u n (and-l (ltb u n) (leb u highest) (and-l (ltb u n && leb u highest) (not (member solved u)) (rw p at t)))
-
     no-lower : (u : ℕ) → T (member (s .lower) u) → ⊥
     no-lower u t = rw l at t
 
     -- what a round asks of its sets
     pub planes-ready : Within n s × RowsApart s × SidesApart s
     planes-ready = (
-      record { nodes = h; columns = λ k t. cut-inside n solved layers sets cut k (column-solved k t); upper = upper-inside; lower = λ k t. absurd (no-lower k t) },
+      record { nodes = h; columns = λ k t. cut-inside n solved layers sets cut k (column-solved k t); upper = unsolved-inside n (member solved) (member (s .upper)) p; lower = λ k t. absurd (no-lower k t) },
       λ v a b. no-lower v b,
       λ v a b. upper-unsolved v b (column-solved v a),
     )
@@ -210,17 +211,12 @@ module _ (n : ℕ) (graph : List ℕ) (inputs : NodeSet) (measured : List ℕ) (
         ap₂ (λ (b : Bool) (o : Option (ℕ → Bool)). cond b none o) no-column
         (first-job n graph inputs outputs measured (forNode (contextOf s) u) u (branches (getD measured u 0)) ∙ node-ext task (forNode (contextOf s) u) (Paulis.context task (member gone) u) same-for u)
 
-  module _ (solved unsolved : NodeSet) (layers sets : List ℕ) (cut : progressIn solved layers sets ≡ cutTo n (progressIn solved layers sets))
-      (e : member unsolved ≡ (λ u. (ltb u n && leb u highest) && not (member solved u))) where
-    pub unsolved-inside : (u : ℕ) → T (member unsolved u) → u < n
-    unsolved-inside u t = ltb→lt u n (and-l (ltb u n) (leb u highest) (and-l (ltb u n && leb u highest) (not (member solved u)) (rw e at t)))
-
-    pub paulis-round : (outputs : NodeSet) (r : ℕ)
-        → visited (member unsolved) (λ u. tryFor n graph (contextOf s) u (getD measured u 0)) r (progressIn solved layers sets)
-        ≡ cutTo n (round (Paulis.try (jobIn n graph inputs outputs measured) (member gone)) r (progressIn solved layers sets))
-    paulis-round outputs r =
-        visited-round (λ u. tryFor n graph (contextOf s) u (getD measured u 0)) r (progressIn solved layers sets) n (member unsolved) (Paulis.try (jobIn n graph inputs outputs measured) (member gone)) h cut e
-        (λ u m f. paulis-tried outputs u)
+  pub paulis-round : (solved : NodeSet) (layers sets : List ℕ) → progressIn solved layers sets ≡ cutTo n (progressIn solved layers sets) → (outputs : NodeSet) (r : ℕ)
+      → visited (λ u. (ltb u n && leb u highest) && not (member solved u)) (λ u. tryFor n graph (contextOf s) u (getD measured u 0)) r (progressIn solved layers sets)
+      ≡ cutTo n (round (Paulis.try (jobIn n graph inputs outputs measured) (member gone)) r (progressIn solved layers sets))
+  paulis-round solved layers sets cut outputs r =
+      visited-round (λ u. tryFor n graph (contextOf s) u (getD measured u 0)) r (progressIn solved layers sets) n (λ u. (ltb u n && leb u highest) && not (member solved u))
+      (Paulis.try (jobIn n graph inputs outputs measured) (member gone)) h cut refl (λ u m f. paulis-tried outputs u)
 
 -- after round 0
 pub paulis-start : (n : ℕ) (graph : List ℕ) (inputs outputs : NodeSet) (measured : List ℕ) → let j = jobIn n graph inputs outputs measured in
