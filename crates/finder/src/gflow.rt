@@ -14,7 +14,6 @@ use crate::PLANE_XY;
 use crate::PLANE_XZ;
 use crate::PLANE_YZ;
 use crate::Sets;
-use crate::Tried;
 use crate::begin;
 use crate::conclude;
 use crate::open_round;
