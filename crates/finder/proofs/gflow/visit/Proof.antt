@@ -21,6 +21,10 @@ Inv-loop work s measured r layers₀ sets₀ left₀ q₀ layers sets left q = (
 abbrev μ-loop : tie.MeasureT-loop
 μ-loop work s measured r layers₀ sets₀ left₀ q₀ layers sets left q = count capacity (member left)
 
+-- the function's entry, from a place in its loop
+abbrev entry : tie.At-loop Inv-loop μ-loop → tie.Start Inv-loop μ-loop
+entry c = c .before .before .before .before .before .before
+
 loop-holds : tie.Need-loop-holds Inv-loop μ-loop
 loop-holds c = let a = c .before .before .before .before .before .args in
     (search needs, search needs, λ v t. t, visited-start (λ u. nodeIn (a .s) (a .work .now) u (getD (a .measured .now) u 0)) (a .r) (progressIn (a .solved) (a .layers .now) (a .sets .now)) (member (a .s .upper)))
@@ -35,13 +39,13 @@ cast-b : tie.Need-cast-b Inv-loop μ-loop
 cast-b c = search needs
 
 shared-slice-read-b : tie.Need-shared-slice-read-b Inv-loop μ-loop
-shared-slice-read-b c = let a = c .before .before .before .before .before .before .before .before .before .before .pre in
+shared-slice-read-b c = let a = entry (c .before .before .before .before) .pre in
     let e = c .before .before .before in
     let l = e .before .loop in
     a .3 _ (l .inv .2 _ (lowest-left (l .left) (e .is-empty .result) (e .is-empty .ensures) (c .before .before .if1 .taken) _ (c .before .lowest .ensures)))
 
 read-node-requires : tie.Need-read-node-requires Inv-loop μ-loop
-read-node-requires c κs = let a = c .before .before .before .before .before .before .before .before .before .before .pre in
+read-node-requires c κs = let a = entry (c .before .before .before .before) .pre in
     let e = c .before .before .before in
     let l = e .before .loop in
     (a .0, a .1, a .2, l .inv .2 _ (lowest-left (l .left) (e .is-empty .result) (e .is-empty .ensures) (c .before .before .if1 .taken) _ (c .before .lowest .ensures)))
@@ -65,7 +69,7 @@ loop-again c = let e = c .before .before .before .before .before .before .before
     let l = e .before .loop in
     let w = c .before .before .before .before .before .before .before .before .before .before in
     let p = c .before .before .before .before .before in
-    let a = e .before .before .before .before .before .before .before .args in
+    let a = entry (e .before) .args in
     let mine = lowest-left (l .left) (e .is-empty .result) (e .is-empty .ensures) (w .before .if1 .taken) _ (w .lowest .ensures) in
     let next = next-left (l .left) (e .is-empty .result) (e .is-empty .ensures) (w .before .if1 .taken) _ (w .lowest .ensures) (member (c .without-lowest .result)) (c .without-lowest .ensures) in
     let still = still-left (l .left) (e .is-empty .result) (e .is-empty .ensures) (w .before .if1 .taken) _ (w .lowest .ensures) (member (c .without-lowest .result)) (c .without-lowest .ensures) in (
@@ -87,7 +91,7 @@ same-length-2 c = search needs
 returns : tie.Need-returns Inv-loop μ-loop
 returns c = let e = c .before in
     let l = e .before .loop in
-    let a = e .before .before .before .before .before .before .before .args in (
+    let a = entry (e .before) .args in (
       l .inv .3 ∙ visited-end (λ u. nodeIn (a .s) (a .work .now) u (getD (a .measured .now) u 0)) (a .r) (progressIn (a .solved) (a .layers .now) (a .sets .now)) (member (a .s .upper)) (member (l .left)) (none-left (l .left) (e .is-empty .result) (e .is-empty .ensures) (c .if1 .left)),
       (l .inv .0, l .inv .1),
     )

@@ -29,6 +29,10 @@ Inv-loop graph n inputs measured work₀ layers₀ sets₀ kinds solved₀ r₀ 
 abbrev μ-loop : tie.MeasureT-loop
 μ-loop graph n inputs measured work₀ layers₀ sets₀ kinds solved₀ r₀ work layers sets solved r = count n (λ u. not (member solved u))
 
+-- the function's entry, from a place in its loop
+abbrev entry : tie.At-loop Inv-loop μ-loop → tie.Start Inv-loop μ-loop
+entry c = c .before .before .before .before .before .before .before .before .before .before .before .before .before .before .before .before .before .before .before .before .before .before .before .before .before .before
+
 -- in round 0 no node is gone
 none-gone : (c : tie.After-empty Inv-loop μ-loop) (v : ℕ) → T (member (c .empty .result) v) → v < c .before .before .before .before .before .before .before .args .n
 none-gone c v t = absurd (from-false (member (c .empty .result) v) (ap (λ (f : ℕ → Bool). f v) (c .empty .ensures)) t)
@@ -56,26 +60,26 @@ begun c =
     ∙ paulis-round (a .n) (a .graph .now) (a .inputs) (a .measured .now) (d .before .empty .result) (k .result) (d .sets-of .result) (s .pre .nodes) (k .ensures) (none-gone (d .before)) (e .0) (e .1) (e .2)
     (g .result) (g .last .1 .1 .0) (g .last .1 .1 .1 .0) (cut-again (a .n) (progressIn (g .result) (g .last .1 .1 .0) (g .last .1 .1 .1 .0)) (start (member (a .outputs))) (g .ensures .0)) (a .outputs) 0)
 
-on-way : (c : tie.At-loop Inv-loop μ-loop) → let a = c .before .before .before .before .before .before .before .before .before .before .before .before .before .before .before .before .before .before .before .before .before .before .before .before .before .before .args in
+on-way : (c : tie.At-loop Inv-loop μ-loop) → let a = entry c .args in
     Going never (Paulis.try (jobIn (a .n) (a .graph .now) (a .inputs) (a .outputs) (a .measured .now))) (a .n) (Paulis.progress (jobIn (a .n) (a .graph .now) (a .inputs) (a .outputs) (a .measured .now))) (c .loop .r) (progressIn (c .loop .solved) (c .loop .layers) (c .loop .sets))
-on-way c = c .loop .inv .1 (c .before .before .before .before .before .before .before .before .before .before .before .before .before .before .before .before .before .before .before .before .before .before .before .before .before .before .args .outputs) (begun (c .before))
+on-way c = c .loop .inv .1 (entry c .args .outputs) (begun (c .before))
 
 -- the sets of a later round
-ready : (c : tie.After-sets-of2 Inv-loop μ-loop) → Within (c .before .before .before .before .before .before .before .before .before .before .before .before .before .before .before .before .before .before .before .before .before .before .before .before .before .before .before .args .n) (c .sets-of2 .result) × RowsApart (c .sets-of2 .result)
+ready : (c : tie.After-sets-of2 Inv-loop μ-loop) → Within (entry (c .before) .args .n) (c .sets-of2 .result) × RowsApart (c .sets-of2 .result)
 ready c =
     let l = c .before .loop in
-    let a = c .before .before .before .before .before .before .before .before .before .before .before .before .before .before .before .before .before .before .before .before .before .before .before .before .before .before .before .args in
+    let a = entry (c .before) .args in
     let e = c .sets-of2 .ensures in
     let k = c .before .before .before .before .before .before .before .before .before .before .before .before .before .before .before .before .before .before .before .before .before .kinds-of in
     paulis-ready (a .n) (a .graph .now) (a .inputs) (a .measured .now) (l .solved) (k .result) (c .sets-of2 .result) (l .inv .0 .nodes) (k .ensures) (cut-inside (a .n) (l .solved) (l .layers) (l .sets) (on-way (c .before) .cut)) (e .0) (e .1) (e .2)
 
 -- what it has made, whatever outputs the search is on its way from
-made : (c : tie.After-visit2 Inv-loop μ-loop) (o : NodeSet) → let a = c .before .before .before .before .before .before .before .before .before .before .before .before .before .before .before .before .before .before .before .before .before .before .before .before .before .before .before .before .before .before .before .args in let l = c .before .before .before .before .before .loop in
+made : (c : tie.After-visit2 Inv-loop μ-loop) (o : NodeSet) → let a = entry (c .before .before .before .before .before) .args in let l = c .before .before .before .before .before .loop in
     progressIn (c .visit2 .result) (c .visit2 .last .1 .1 .1 .1 .1 .1 .1 .0) (c .visit2 .last .1 .1 .1 .1 .1 .1 .1 .1 .0)
     ≡ cutTo (a .n) (round (Paulis.try (jobIn (a .n) (a .graph .now) (a .inputs) o (a .measured .now)) (member (l .solved))) (l .r) (progressIn (l .solved) (l .layers) (l .sets)))
 made c o =
     let l = c .before .before .before .before .before .loop in
-    let a = c .before .before .before .before .before .before .before .before .before .before .before .before .before .before .before .before .before .before .before .before .before .before .before .before .before .before .before .before .before .before .before .args in
+    let a = entry (c .before .before .before .before .before) .args in
     let d = c .before .before .before .before in
     let e = d .sets-of2 .ensures in
     let k = c .before .before .before .before .before .before .before .before .before .before .before .before .before .before .before .before .before .before .before .before .before .before .before .before .before .kinds-of in
@@ -117,17 +121,17 @@ same-requires : tie.Need-same-requires Inv-loop μ-loop
 same-requires c κs = search needs
 
 same-length : tie.Need-same-length Inv-loop μ-loop
-same-length c = c .before .before .before .before .before .before .before .before .visit2 .ensures .1 .rows ∙ sym (c .before .before .before .before .before .before .before .before .before .before .before .before .before .before .before .before .before .before .before .before .before .before .before .before .before .before .before .before .before .before .before .before .before .before .before .before .before .before .before .pre .rows)
+same-length c = c .before .before .before .before .before .before .before .before .visit2 .ensures .1 .rows ∙ sym (entry (c .before .before .before .before .before .before .before .before .before .before .before .before .before) .pre .rows)
 
 same-length-2 : tie.Need-same-length-2 Inv-loop μ-loop
-same-length-2 c = c .before .before .before .before .before .before .before .before .visit2 .ensures .1 .bytes ∙ sym (c .before .before .before .before .before .before .before .before .before .before .before .before .before .before .before .before .before .before .before .before .before .before .before .before .before .before .before .before .before .before .before .before .before .before .before .before .before .before .before .pre .bytes)
+same-length-2 c = c .before .before .before .before .before .before .before .before .visit2 .ensures .1 .bytes ∙ sym (entry (c .before .before .before .before .before .before .before .before .before .before .before .before .before) .pre .bytes)
 
 same-length-3 : tie.Need-same-length-3 Inv-loop μ-loop
-same-length-3 c = c .before .before .before .before .before .before .before .before .visit2 .ensures .1 .words ∙ sym (c .before .before .before .before .before .before .before .before .before .before .before .before .before .before .before .before .before .before .before .before .before .before .before .before .before .before .before .before .before .before .before .before .before .before .before .before .before .before .before .pre .words)
+same-length-3 c = c .before .before .before .before .before .before .before .before .visit2 .ensures .1 .words ∙ sym (entry (c .before .before .before .before .before .before .before .before .before .before .before .before .before) .pre .words)
 
 returns : tie.Need-returns Inv-loop μ-loop
 returns c = let at = c .before .before .before .before .before .before .before .before .before .before .before .before .before in
-    let a = c .before .before .before .before .before .before .before .before .before .before .before .before .before .before .before .before .before .before .before .before .before .before .before .before .before .before .before .before .before .before .before .before .before .before .before .before .before .before .before .args in
+    let a = entry (c .before .before .before .before .before .before .before .before .before .before .before .before .before) .args in
     let l = at .loop in
     let m = c .before .before .before .before .before .before .before .before in
     let j : Job = jobIn (a .n) (a .graph .now) (a .inputs) (a .outputs) (a .measured .now) in
@@ -141,7 +145,7 @@ add-r c = let at = c .before .before .before .before .before .before .before .be
 
 loop-less : tie.Need-loop-less Inv-loop μ-loop
 loop-less c = let at = c .before .before .before .before .before .before .before .before .before .before .before .before .before in
-    let a = c .before .before .before .before .before .before .before .before .before .before .before .before .before .before .before .before .before .before .before .before .before .before .before .before .before .before .before .before .before .before .before .before .before .before .before .before .before .before .before .args in
+    let a = entry (c .before .before .before .before .before .before .before .before .before .before .before .before .before) .args in
     let l = at .loop in
     let e = made (c .before .before .before .before .before .before .before .before) (a .outputs) in
     let j : Job = jobIn (a .n) (a .graph .now) (a .inputs) (a .outputs) (a .measured .now) in
@@ -150,7 +154,7 @@ loop-less c = let at = c .before .before .before .before .before .before .before
 
 loop-again : tie.Need-loop-again Inv-loop μ-loop
 loop-again c = let at = c .before .before .before .before .before .before .before .before .before .before .before .before .before in
-    let a = c .before .before .before .before .before .before .before .before .before .before .before .before .before .before .before .before .before .before .before .before .before .before .before .before .before .before .before .before .before .before .before .before .before .before .before .before .before .before .before .args in
+    let a = entry (c .before .before .before .before .before .before .before .before .before .before .before .before .before) .args in
     let l = at .loop in
     let m = c .before .before .before .before .before .before .before .before in (
       m .visit2 .ensures .1,

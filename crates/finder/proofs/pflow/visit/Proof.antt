@@ -22,12 +22,16 @@ Inv-loop graph n base measured r work₀ layers₀ sets₀ left₀ q₀ work lay
 abbrev μ-loop : tie.MeasureT-loop
 μ-loop graph n base measured r work₀ layers₀ sets₀ left₀ q₀ work layers sets left q = count capacity (member left)
 
+-- the function's entry, from a place in its loop
+abbrev entry : tie.At-loop Inv-loop μ-loop → tie.Start Inv-loop μ-loop
+entry c = c .before .before .before .before .before .before .before .before
+
 -- the nodes to visit are the unsolved ones
 unsolved : (c : tie.After-difference Inv-loop μ-loop) → let a = c .before .before .before .before .before .before .before .args in member (c .difference .result) ≡ (λ u. (ltb u (a .n) && leb u highest) && not (member (a .solved) u))
 unsolved c = c .difference .ensures ∙ ap {B = ℕ → Bool} (λ (f : ℕ → Bool) (u : ℕ). f u && not (member (c .before .before .before .before .before .before .before .args .solved) u)) (c .before .below .ensures)
 
-inside : (c : tie.At-loop Inv-loop μ-loop) (u : ℕ) → T (member (c .loop .left) u) → u < c .before .before .before .before .before .before .before .before .args .n
-inside c u t = let a = c .before .before .before .before .before .before .before .before .args in unsolved-inside (a .n) (member (a .solved)) (member (c .before .difference .result)) (unsolved (c .before)) u (c .loop .inv .1 u t)
+inside : (c : tie.At-loop Inv-loop μ-loop) (u : ℕ) → T (member (c .loop .left) u) → u < entry c .args .n
+inside c u t = let a = entry c .args in unsolved-inside (a .n) (member (a .solved)) (member (c .before .difference .result)) (unsolved (c .before)) u (c .loop .inv .1 u t)
 
 below-requires : tie.Need-below-requires Inv-loop μ-loop
 below-requires c κs = search needs
@@ -50,13 +54,13 @@ cast-m : tie.Need-cast-m Inv-loop μ-loop
 cast-m c = search needs
 
 shared-slice-read-m : tie.Need-shared-slice-read-m Inv-loop μ-loop
-shared-slice-read-m c = let p = c .before .before .before .before .before .before .before .before .before .before .before .before .pre in
+shared-slice-read-m c = let p = entry (c .before .before .before .before) .pre in
     let e = c .before .before .before in
     let l = e .before .loop in
     lt-of-lt-of-le (inside (e .before) _ (lowest-left (l .left) (e .is-empty .result) (e .is-empty .ensures) (c .before .before .if1 .taken) _ (c .before .lowest .ensures))) (p .0 .given)
 
 try-for-requires : tie.Need-try-for-requires Inv-loop μ-loop
-try-for-requires c κs = let p = c .before .before .before .before .before .before .before .before .before .before .before .before .before .pre in
+try-for-requires c κs = let p = entry (c .before .before .before .before .before) .pre in
     let e = c .before .before .before .before in
     let l = e .before .loop in
     (l .inv .0 .rows, p .1, p .2, inside (e .before) _ (lowest-left (l .left) (e .is-empty .result) (e .is-empty .ensures) (c .before .before .before .if1 .taken) _ (c .before .before .lowest .ensures)))
@@ -77,7 +81,7 @@ loop-less c = let e = c .before .before .before .before .before .before .before 
 loop-again : tie.Need-loop-again Inv-loop μ-loop
 loop-again c = let e = c .before .before .before .before .before .before .before .before .before .before .before .before .before .before .before in
     let l = e .before .loop in
-    let a = c .before .before .before .before .before .before .before .before .before .before .before .before .before .before .before .before .before .before .before .before .before .before .before .before .args in
+    let a = entry (c .before .before .before .before .before .before .before .before .before .before .before .before .before .before .before .before) .args in
     let p = c .before .before .before .before .before .place in
     let t = c .before .before .before .before .before .before .before .before .before .before .try-for in
     let u = c .before .before .before .before .before .before .before .before .before .before .before .before .before .lowest .result in
@@ -91,18 +95,18 @@ loop-again c = let e = c .before .before .before .before .before .before .before
     )
 
 same-length : tie.Need-same-length Inv-loop μ-loop
-same-length c = c .before .before .loop .inv .0 .rows ∙ sym (c .before .before .before .before .before .before .before .before .before .before .pre .0 .rows)
+same-length c = c .before .before .loop .inv .0 .rows ∙ sym (entry (c .before .before) .pre .0 .rows)
 
 same-length-2 : tie.Need-same-length-2 Inv-loop μ-loop
-same-length-2 c = c .before .before .loop .inv .0 .bytes ∙ sym (c .before .before .before .before .before .before .before .before .before .before .pre .0 .bytes)
+same-length-2 c = c .before .before .loop .inv .0 .bytes ∙ sym (entry (c .before .before) .pre .0 .bytes)
 
 same-length-3 : tie.Need-same-length-3 Inv-loop μ-loop
-same-length-3 c = c .before .before .loop .inv .0 .words ∙ sym (c .before .before .before .before .before .before .before .before .before .before .pre .0 .words)
+same-length-3 c = c .before .before .loop .inv .0 .words ∙ sym (entry (c .before .before) .pre .0 .words)
 
 returns : tie.Need-returns Inv-loop μ-loop
 returns c = let e = c .before in
     let l = e .before .loop in
-    let a = c .before .before .before .before .before .before .before .before .before .before .args in
+    let a = entry (c .before .before) .args in
     let p = progressIn (a .solved) (a .layers .now) (a .sets .now) in (
       l .inv .2 ∙ visited-end (λ u. tryFor (a .n) (a .graph .now) (contextOf (a .base)) u (getD (a .measured .now) u 0)) (a .r) p (member (c .before .before .before .difference .result)) (member (l .left)) (none-left (l .left) (e .is-empty .result) (e .is-empty .ensures) (c .if1 .left))
           ∙ ap (λ (f : ℕ → Bool). visited f (λ u. tryFor (a .n) (a .graph .now) (contextOf (a .base)) u (getD (a .measured .now) u 0)) (a .r) p) (unsolved (c .before .before .before)),
