@@ -6,50 +6,47 @@ use mathlib.Core.Option.{Option, none, some}
 use mathlib.Core.List.{List, [], _∷_}
 use native.Mathlib.Omega.{arith}
 use lib.Dec.{T, eqb, eqb→eq}
+use lib.Seq.{ext-getD}
 use lib.ListN.{length, getD, List·getD-eq-default}
 use Rattle.nodes.specs.Row.{allBelow}
 use Rattle.nodes.proofs.Logic.{and-l, and-r}
 use Rattle.nodes.proofs.Row.{all-out}
 use Rattle.solver.specs.System.{firstOf}
+<<<<<<< HEAD
 use Rattle.flows.specs.Job.{Job, planeXY, planeYZ, planeXZ}
 use Rattle.flows.specs.Branch.{Context, branchTable, branches, tryBranch, firstSolvable}
+=======
+use Rattle.flows.specs.Branch.{Context, branchTable, branches, tryBranch, firstSolvable}
+>>>>>>> searches
 use Rattle.finder.specs.Views.{graphJob}
 use Rattle.finder.specs.Finding.{tryListed, tryIn}
 use Rattle.flows.proofs.Table.{keep}
 
+-- the constant as it stands in the code
 abbrev pub table : List (List ℕ)
-table =
-    (planeXY ∷ 0 ∷ [])
-    ∷ (planeYZ ∷ 0 ∷ [])
-    ∷ (planeXZ ∷ 0 ∷ [])
-    ∷ (planeXY ∷ planeXZ ∷ [])
-    ∷ (planeXY ∷ planeYZ ∷ [])
-    ∷ (planeYZ ∷ planeXZ ∷ [])
-    ∷ []
+table = (1 ∷ 0 ∷ []) ∷ (2 ∷ 0 ∷ []) ∷ (3 ∷ 0 ∷ []) ∷ (1 ∷ 3 ∷ []) ∷ (1 ∷ 2 ∷ []) ∷ (2 ∷ 3 ∷ []) ∷ []
 
 -- what a row lists: 0 is no branch
 abbrev pub listedIn : List ℕ → List ℕ
 listedIn row = keep (λ b. not (eqb b 0)) (getD row 0 0 ∷ getD row 1 0 ∷ [])
 
-unfoldable alike : List ℕ → List ℕ → Bool
-alike [] [] = true
-alike [] (b ∷ bs) = false
-alike (a ∷ l) [] = false
-alike (a ∷ l) (b ∷ bs) = eqb a b && alike l bs
+abbrev entry : ℕ → List ℕ
+entry m = listedIn (getD table m [])
 
-alike-eq : (l bs : List ℕ) → T (alike l bs) → l ≡ bs
-unfolding alike
-alike-eq [] [] t = refl
-alike-eq [] (b ∷ bs) t = absurd t
-alike-eq (a ∷ l) [] t = absurd t
-alike-eq (a ∷ l) (b ∷ bs) t = rw (eqb→eq a b (and-l (eqb a b) (alike l bs) t), alike-eq l bs (and-r (eqb a b) (alike l bs) t))
+-- row m has as many branches as measurement m + 1 tries, and the same ones
+abbrev matches : ℕ → Bool
+matches m = eqb (length (entry m)) (length (branches (suc m))) && allBelow (length (entry m)) (λ i. eqb (getD (entry m) i 0) (getD (branches (suc m)) i 0))
 
-rows-test : T (allBelow 6 (λ m. alike (listedIn (getD table m [])) (branches (suc m))))
-unfolding allBelow alike keep branches
+rows-test : T (allBelow 6 matches)
+unfolding allBelow keep branches
 rows-test = tt
 
 pub rows-list : (m : ℕ) → m < 6 → listedIn (getD table m []) ≡ branches (suc m)
-rows-list m l = alike-eq (listedIn (getD table m [])) (branches (suc m)) (all-out 6 (λ m. alike (listedIn (getD table m [])) (branches (suc m))) rows-test m l)
+rows-list m l =
+    let each : ℕ → Bool = λ i. eqb (getD (entry m) i 0) (getD (branches (suc m)) i 0) in
+    let t = all-out 6 matches rows-test m l in
+    ext-getD 0 (entry m) (branches (suc m)) (eqb→eq (length (entry m)) (length (branches (suc m))) (and-l (eqb (length (entry m)) (length (branches (suc m)))) (allBelow (length (entry m)) each) t))
+    (λ k j. eqb→eq (getD (entry m) k 0) (getD (branches (suc m)) k 0) (all-out (length (entry m)) each (and-r (eqb (length (entry m)) (length (branches (suc m)))) (allBelow (length (entry m)) each) t) k j))
 
 past : (m : ℕ) → 6 < m → branches m ≡ []
 unfolding branches

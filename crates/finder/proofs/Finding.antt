@@ -1,23 +1,23 @@
 -- What stands in the lent buffers: how a search starts, how a node is placed, and the layers and sets that are left.
-use Prim.Native.Nat.{ℕ, _+_, _*_, _/_, _%_, _^_, _≤_, _<_}
+use Prim.Native.Nat.{ℕ, zero, suc, _+_, _*_, _/_, _%_, _≤_, _<_}
 use mathlib.Core.Path.{_≡_, refl, sym, ap, ap₂, _∙_, fun-ext}
 use mathlib.Core.Bool.{Bool, true, false, cond, not, _&&_, _||_}
 use mathlib.Core.Logic.{_⊎_, inl, inr, _≢_}
-use mathlib.Core.Option.{Option, none, some}
+use mathlib.Core.Option.{none, some}
 use mathlib.Core.List.{List}
 use native.Mathlib.Omega.{arith}
 use native.Mathlib.Numerals.{add-one, lt-of-le-of-ne}
 use native.Mathlib.Decide.{ℕ-discrete}
 use lib.Dec.{T, eqb, leb, ltb, le→leb, leb→le, eqb→eq, ltb→lt}
-use lib.ListN.{length, getD, set, length-replicate, getD-replicate, List·getD-eq-default}
+use lib.ListN.{length, getD, set}
 use lib.Seq.{getD-set-same, getD-set-other}
 use Rattle.nodes.specs.Bit.{bit}
 use Rattle.nodes.specs.Row.{anyBelow, allBelow, count, lowest}
-use Rattle.nodes.specs.NodeSet.{member, memberOf, wordsOf, capacity, highest, wordBits}
+use Rattle.nodes.specs.NodeSet.{member, wordsOf, capacity, highest, wordBits}
 use Rattle.nodes.specs.SetTable.{setWords, setAt, putSet, zeros}
 use Rattle.nodes.specs.declared.utils.NodeSet.{NodeSet}
-use Rattle.nodes.proofs.Logic.{is-true, is-false, unless-in, unless-out, from-true, from-false, beq-eq, dec, and-l, and-r, and-in, and-none, and-all, and-comm, or-none, or-out, not-in, not-out, eqb-no, eqb-yes, lt-or-ge}
-use Rattle.nodes.proofs.Row.{any-in, any-out, all-in, all-out, all-ext, any-past, ltb-yes, ltb-no}
+use Rattle.nodes.proofs.Logic.{is-true, unless-in, unless-out, from-true, from-false, beq-eq, dec, and-l, and-r, and-in, and-none, and-all, or-none, or-out, not-in, not-out, eqb-no, eqb-yes, lt-or-ge}
+use Rattle.nodes.proofs.Row.{any-in, any-out, all-in, all-out, all-ext, ltb-yes, ltb-no}
 use Rattle.nodes.proofs.NodeSet.{Words, member-past}
 use Rattle.nodes.proofs.Members.{lowest-member}
 use Rattle.nodes.proofs.Remove.{removed, count-lowest}
@@ -105,11 +105,9 @@ module _ (solved : NodeSet) (layers sets : List ℕ) (u r : ℕ) where
 
 -- ---- the start
 zeros-at : (n i : ℕ) → getD (zeros n) i 0 ≡ 0
-zeros-at n i = by (lt-or-ge i n)
-  where
-    by : (i < n) ⊎ (n ≤ i) → getD (zeros n) i 0 ≡ 0
-    by (inl h) = getD-replicate n i 0 0 h
-    by (inr h) = List·getD-eq-default (zeros n) 0 (omega (arith, length-replicate {A = ℕ} n 0))
+zeros-at zero i = refl
+zeros-at (suc n) zero = refl
+zeros-at (suc n) (suc i) = zeros-at n i
 
 -- the outputs below n, no layer and no set
 pub start-cut : (n : ℕ) → n ≤ capacity → (outputs solved : NodeSet) (layers sets : List ℕ) (a b : ℕ)

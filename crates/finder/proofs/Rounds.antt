@@ -1,9 +1,9 @@
 -- A round of each search, from what its functions promise to the round of the definition.
 use Prim.Native.Nat.{ℕ, _+_, _≤_, _<_}
 use mathlib.Core.Path.{_≡_, refl, sym, ap, ap₂, _∙_}
-use mathlib.Core.Bool.{Bool, true, false, cond, not, _&&_, _||_}
+use mathlib.Core.Bool.{Bool, false, cond, not, _&&_, _||_}
 use mathlib.Core.Logic.{_⊎_, inl, inr}
-use mathlib.Core.Option.{Option, none, some}
+use mathlib.Core.Option.{Option, none}
 use mathlib.Core.List.{List, [], _∷_}
 use native.Mathlib.Omega.{arith}
 use lib.Dec.{T, eqb, leb, ltb, eqb→eq, ltb→lt}
@@ -12,15 +12,24 @@ use Rattle.nodes.specs.Bit.{_⊕_}
 use Rattle.nodes.specs.Row.{anyBelow, allBelow}
 use Rattle.nodes.specs.NodeSet.{member, capacity, highest}
 use Rattle.nodes.specs.declared.utils.NodeSet.{NodeSet}
-use Rattle.nodes.proofs.Logic.{is-true, is-false, from-true, and-l, and-r, and-comm, or-l, or-out, not-out}
+use Rattle.nodes.proofs.Logic.{is-false, and-l, and-r, and-comm, or-l, or-out, not-out}
 use Rattle.nodes.proofs.Row.{all-out, any-ext, any-past, ltb-yes}
 use Rattle.solver.specs.System.{firstOf}
+<<<<<<< HEAD
 use Rattle.flows.specs.Job.{Job, pauliY, isXorY, isYorZ}
 use Rattle.flows.specs.Branch.{Context, branches, tryBranch, firstSolvable}
 use Rattle.flows.specs.Search.{Progress, noNode, start, round}
 use Rattle.flows.specs.Planes as Planes
 use Rattle.flows.specs.Paulis as Paulis
 use Rattle.finder.specs.Finder.{jobIn, tableWords}
+=======
+use Rattle.flows.specs.Job.{Job, planeXY, planeYZ, planeXZ, pauliY, pauliZ, isXorY, isYorZ}
+use Rattle.flows.specs.Branch.{Context, branches, tryBranch, firstSolvable}
+use Rattle.flows.specs.Search.{Progress, noNode, start, round}
+use Rattle.flows.specs.Planes as Planes
+use Rattle.flows.specs.Paulis as Paulis
+use Rattle.finder.specs.Finder.{jobIn}
+>>>>>>> searches
 use Rattle.finder.specs.Views.{Within, RowsApart, SidesApart, graphJob, contextOf}
 use Rattle.finder.specs.Finding.{isPlane, planesGiven, KindsOf, forNode, tryFor, progressIn, cutTo, visited}
 use Rattle.finder.specs.declared.Sets.{Sets}
@@ -35,19 +44,23 @@ use Rattle.finder.proofs.BranchTable.{alone}
 -- a plane has one branch, its own
 one-branch : (j : Job) (c : Context) (u m : ℕ) → T (isPlane m) → firstSolvable j c u (branches m) ≡ tryBranch j c u m
 unfolding firstSolvable branches
-one-branch j c u m t = by (or-out (eqb m 1) (eqb m 2 || eqb m 3) t)
+one-branch j c u m t = by (or-out (eqb m planeXY) (eqb m planeYZ || eqb m planeXZ) t)
   where
-    more : T (eqb m 2) ⊎ T (eqb m 3) → firstSolvable j c u (branches m) ≡ tryBranch j c u m
-    more (inl q) = rw (eqb→eq m 2 q) (alone (tryBranch j c u 2))
-    more (inr q) = rw (eqb→eq m 3 q) (alone (tryBranch j c u 3))
+    more : T (eqb m planeYZ) ⊎ T (eqb m planeXZ) → firstSolvable j c u (branches m) ≡ tryBranch j c u m
+    more (inl q) = rw (eqb→eq m planeYZ q) (alone (tryBranch j c u planeYZ))
+    more (inr q) = rw (eqb→eq m planeXZ q) (alone (tryBranch j c u planeXZ))
 
-    by : T (eqb m 1) ⊎ T (eqb m 2 || eqb m 3) → firstSolvable j c u (branches m) ≡ tryBranch j c u m
-    by (inl q) = rw (eqb→eq m 1 q) (alone (tryBranch j c u 1))
-    by (inr q) = more (or-out (eqb m 2) (eqb m 3) q)
+    by : T (eqb m planeXY) ⊎ T (eqb m planeYZ || eqb m planeXZ) → firstSolvable j c u (branches m) ≡ tryBranch j c u m
+    by (inl q) = rw (eqb→eq m planeXY q) (alone (tryBranch j c u planeXY))
+    by (inr q) = more (or-out (eqb m planeYZ) (eqb m planeXZ) q)
 
 -- nodes that are cut to n are below n
 pub cut-inside : (n : ℕ) (solved : NodeSet) (layers sets : List ℕ) → progressIn solved layers sets ≡ cutTo n (progressIn solved layers sets) → (u : ℕ) → T (member solved u) → u < n
 cut-inside n solved layers sets e u t = ltb→lt u n (and-l (ltb u n) (member solved u) (rw (ap (λ (q : Progress). q .solved u) e) at t))
+
+-- the nodes below n that are not solved
+pub unsolved-inside : (n : ℕ) (s left : ℕ → Bool) → left ≡ (λ u. (ltb u n && leb u highest) && not (s u)) → (u : ℕ) → T (left u) → u < n
+unsolved-inside n s left e u t = ltb→lt u n (and-l (ltb u n) (leb u highest) (and-l (ltb u n && leb u highest) (not (s u)) (rw e at t)))
 
 -- outputs stay solved
 pub outputs-stay : (n : ℕ) (s t : Progress) (output : ℕ → Bool) (try : ℕ → Option (ℕ → Bool)) (r : ℕ) → t ≡ cutTo n (round try r s)
@@ -74,20 +87,16 @@ module _ (n : ℕ) (graph : List ℕ) (inputs outputs : NodeSet) (measured : Lis
     upper-unsolved : (u : ℕ) → T (member (s .upper) u) → T (member solved u) → ⊥
     upper-unsolved u t = not-out (member solved u) (and-r (ltb u n && leb u highest) (not (member solved u)) (rw p at t))
 
-    pub upper-inside : (u : ℕ) → T (member (s .upper) u) → u < n
-    upper-inside u t = ltb→lt u n (and-l (ltb u n) (leb u highest) (and-l (ltb u n && leb u highest) (not (member solved u)) (rw p at t)))
-
     no-lower : (u : ℕ) → T (member (s .lower) u) → ⊥
     no-lower u t = rw l at t
 
-    pub planes-within : Within n s
-    planes-within = record { nodes = h; columns = λ k t. cut-inside n solved layers sets cut k (column-solved k t); upper = upper-inside; lower = λ k t. absurd (no-lower k t) }
-
-    pub planes-rows : RowsApart s
-    planes-rows v a b = no-lower v b
-
-    pub planes-sides : SidesApart s
-    planes-sides v a b = upper-unsolved v b (column-solved v a)
+    -- what a round asks of its sets
+    pub planes-ready : Within n s × RowsApart s × SidesApart s
+    planes-ready = (
+      record { nodes = h; columns = λ k t. cut-inside n solved layers sets cut k (column-solved k t); upper = unsolved-inside n (member solved) (member (s .upper)) p; lower = λ k t. absurd (no-lower k t) },
+      λ v a b. no-lower v b,
+      λ v a b. upper-unsolved v b (column-solved v a),
+    )
 
     pub planes-stops : not (anyBelow capacity (member (s .upper))) || not (anyBelow capacity (member (s .columns))) ≡ Planes.stops job (progressIn solved layers sets)
     planes-stops =
@@ -175,14 +184,14 @@ module _ (n : ℕ) (graph : List ℕ) (inputs : NodeSet) (measured : List ℕ) (
   lower-inside : (v : ℕ) → T (member (s .lower) v) → v < n
   lower-inside v t = ltb→lt v n (and-l (ltb v n) (eqb (getD measured v 0) pauliY) (rw (ks .y) at (lower-y v t)))
 
-  pub paulis-within : Within n s
-  paulis-within = record { nodes = h; columns = column-inside; upper = row-inside; lower = lower-inside }
-
-  -- a Y node has no upper row
-  pub paulis-rows : RowsApart s
-  paulis-rows v a b =
-      not-out (member (kinds .yz) v) (and-r ((ltb v n && leb v highest) && not (member gone v)) (not (member (kinds .yz) v)) (rw p at a))
-      (rw (yz-at v (row-inside v a)) (or-l (eqb (getD measured v 0) pauliY) (eqb (getD measured v 0) 6) (rw (y-at v (row-inside v a)) at (lower-y v b))))
+  -- what a round asks of its sets; a Y node has no upper row
+  pub paulis-ready : Within n s × RowsApart s
+  paulis-ready = (
+    record { nodes = h; columns = column-inside; upper = row-inside; lower = lower-inside },
+    λ v a b.
+        not-out (member (kinds .yz) v) (and-r ((ltb v n && leb v highest) && not (member gone v)) (not (member (kinds .yz) v)) (rw p at a))
+        (rw (yz-at v (row-inside v a)) (or-l (eqb (getD measured v 0) pauliY) (eqb (getD measured v 0) pauliZ) (rw (y-at v (row-inside v a)) at (lower-y v b)))),
+  )
 
   upper-at : (v : ℕ) → v < n → member (s .upper) v ≡ not (member gone v) && not (isYorZ (getD measured v 0))
   upper-at v m = ap (λ (f : ℕ → Bool). f v) p ∙ rw (ltb-yes v n m, in-range v (omega arith), yz-at v m)
@@ -211,17 +220,12 @@ module _ (n : ℕ) (graph : List ℕ) (inputs : NodeSet) (measured : List ℕ) (
         ap₂ (λ (b : Bool) (o : Option (ℕ → Bool)). cond b none o) no-column
         (first-job n graph inputs outputs measured (forNode (contextOf s) u) u (branches (getD measured u 0)) ∙ node-ext task (forNode (contextOf s) u) (Paulis.context task (member gone) u) same-for u)
 
-  module _ (solved unsolved : NodeSet) (layers sets : List ℕ) (cut : progressIn solved layers sets ≡ cutTo n (progressIn solved layers sets))
-      (e : member unsolved ≡ (λ u. (ltb u n && leb u highest) && not (member solved u))) where
-    pub unsolved-inside : (u : ℕ) → T (member unsolved u) → u < n
-    unsolved-inside u t = ltb→lt u n (and-l (ltb u n) (leb u highest) (and-l (ltb u n && leb u highest) (not (member solved u)) (rw e at t)))
-
-    pub paulis-round : (outputs : NodeSet) (r : ℕ)
-        → visited (member unsolved) (λ u. tryFor n graph (contextOf s) u (getD measured u 0)) r (progressIn solved layers sets)
-        ≡ cutTo n (round (Paulis.try (jobIn n graph inputs outputs measured) (member gone)) r (progressIn solved layers sets))
-    paulis-round outputs r =
-        visited-round (λ u. tryFor n graph (contextOf s) u (getD measured u 0)) r (progressIn solved layers sets) n (member unsolved) (Paulis.try (jobIn n graph inputs outputs measured) (member gone)) h cut e
-        (λ u m f. paulis-tried outputs u)
+  pub paulis-round : (solved : NodeSet) (layers sets : List ℕ) → progressIn solved layers sets ≡ cutTo n (progressIn solved layers sets) → (outputs : NodeSet) (r : ℕ)
+      → visited (λ u. (ltb u n && leb u highest) && not (member solved u)) (λ u. tryFor n graph (contextOf s) u (getD measured u 0)) r (progressIn solved layers sets)
+      ≡ cutTo n (round (Paulis.try (jobIn n graph inputs outputs measured) (member gone)) r (progressIn solved layers sets))
+  paulis-round solved layers sets cut outputs r =
+      visited-round (λ u. tryFor n graph (contextOf s) u (getD measured u 0)) r (progressIn solved layers sets) n (λ u. (ltb u n && leb u highest) && not (member solved u))
+      (Paulis.try (jobIn n graph inputs outputs measured) (member gone)) h cut refl (λ u m f. paulis-tried outputs u)
 
 -- after round 0
 pub paulis-start : (n : ℕ) (graph : List ℕ) (inputs outputs : NodeSet) (measured : List ℕ) → let j = jobIn n graph inputs outputs measured in

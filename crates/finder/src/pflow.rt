@@ -1,29 +1,31 @@
 // The search for Paulis, round by round.
 ghost use mathlib.Core.Path.{_≡_};
-ghost use mathlib.Core.Bool.{false, true, not, _&&_, _||_};
-ghost use Prim.Native.Nat.{ℕ, _<_, _≤_};
+ghost use mathlib.Core.Bool.{true, not, _&&_, _||_};
+ghost use Prim.Native.Nat.{_<_, _≤_};
 ghost use lib.ListN.{length, getD};
 ghost use lib.Dec.{T, eqb, leb, ltb};
 ghost use Rattle.nodes.specs.NodeSet.{member, capacity, highest};
-ghost use Rattle.nodes.specs.declared.utils.NodeSet.{NodeSet};
 ghost use Rattle.solver.specs.System.{firstOf};
+<<<<<<< HEAD
 ghost use Rattle.flows.specs.Search as Definition;
 ghost use Rattle.flows.specs.Paulis as Paulis;
+=======
+>>>>>>> searches
 ghost use Rattle.finder.specs.Finder.{jobIn, progressAt, workBytes};
 ghost use Rattle.finder.specs.Views.{triedOf, contextOf, Within, RowsApart};
 ghost use Rattle.finder.specs.Finding.{Sized, KindsOf, progressIn, cutTo, visited, tryListed, tryIn, tryFor, searchCall};
 use crate::PLANE_XY;
-use crate::PLANE_YZ;
 use crate::PLANE_XZ;
+use crate::PLANE_YZ;
 use crate::Sets;
 use crate::Tried;
+use crate::begin;
+use crate::conclude;
 use crate::gflow::Search;
+use crate::place;
+use crate::sizes_fit;
 use crate::try_branch;
 use crate::with_if;
-use crate::sizes_fit;
-use crate::begin;
-use crate::place;
-use crate::conclude;
 use nodes::utils::NodeSet;
 
 // The measurements that are no planes, by their numbers.
@@ -148,23 +150,6 @@ fn try_for(work: &mut [u8], graph: &[u64], n: usize, base: Sets, u: u8, m: u8) -
     try_node(work, graph, n, s, u, m)
 }
 
-// Each unsolved node is visited, the least of those left at a time. All of them meet the sets of the round's start.
-fn visit(graph: &[u64], n: usize, base: Sets, unsolved: NodeSet, measured: &[u8], solved: NodeSet, r: u8, work: &mut [u8], layers: &mut [u8], sets: &mut [u64]) -> NodeSet
-    requires { ⌜ Sized n (now measured) (now work) (now layers) (now sets) × Within n base × RowsApart base × ((v : ℕ) → T (member unsolved v) → v < n) ⌝ }
-    ensures { λ q. ⌜ progressIn q (now (layers .exit)) (now (sets .exit)) ≡ visited (member unsolved) (λ u. tryFor n (now (graph .entry)) (contextOf base) u (getD (now (measured .entry)) u 0)) r (progressIn solved (now (layers .entry)) (now (sets .entry))) ⌝ }
-    ensures { λ _. ⌜ Sized n (now (measured .entry)) (now (work .exit)) (now (layers .exit)) (now (sets .exit)) ⌝ }
-{
-    let mut left = unsolved;
-    let mut q = solved;
-    while !left.is_empty() {
-        let u = left.lowest();
-        let m = measured[u as usize];
-        q = place(q, u, r, try_for(work, graph, n, base, u, m), layers, sets);
-        left = left.without_lowest();
-    }
-    q
-}
-
 // Columns: the gone nodes and those measured in X or Y that are no inputs. Upper rows: the nodes that are not gone and not
 // measured in Y or Z. Lower rows: the Y nodes that are not gone.
 fn sets_of(n: usize, inputs: NodeSet, gone: NodeSet, kinds: Kinds) -> Sets
@@ -177,31 +162,58 @@ fn sets_of(n: usize, inputs: NodeSet, gone: NodeSet, kinds: Kinds) -> Sets
     }
 }
 
-// One round, where the nodes in `gone` have left the rows and, inputs aside, joined the columns. It does not ask which nodes
-// are outputs.
-fn round(graph: &[u64], n: usize, inputs: NodeSet, kinds: Kinds, measured: &[u8], gone: NodeSet, solved: NodeSet, r: u8, work: &mut [u8], layers: &mut [u8], sets: &mut [u64]) -> NodeSet
-    requires { ⌜ Sized n (now measured) (now work) (now layers) (now sets) × KindsOf n (now measured) kinds × ((v : ℕ) → T (member gone v) → v < n) × (progressIn solved (now layers) (now sets) ≡ cutTo n (progressIn solved (now layers) (now sets))) ⌝ }
-    ensures { λ q. ⌜ ((o : NodeSet) → progressIn q (now (layers .exit)) (now (sets .exit)) ≡ cutTo n (Definition.round (Paulis.try (jobIn n (now (graph .entry)) inputs o (now (measured .entry))) (member gone)) r (progressIn solved (now (layers .entry)) (now (sets .entry))))) ⌝ }
+// Each unsolved node is visited, the least of those left at a time. All of them meet the sets of the round's start.
+fn visit(
+    graph: &[u64],
+    n: usize,
+    base: Sets,
+    measured: &[u8],
+    solved: NodeSet,
+    r: u8,
+    work: &mut [u8],
+    layers: &mut [u8],
+    sets: &mut [u64],
+) -> NodeSet
+    requires { ⌜ Sized n (now measured) (now work) (now layers) (now sets) × Within n base × RowsApart base ⌝ }
+    ensures { λ q. ⌜ progressIn q (now (layers .exit)) (now (sets .exit)) ≡ visited (λ u. (ltb u n && leb u highest) && not (member solved u)) (λ u. tryFor n (now (graph .entry)) (contextOf base) u (getD (now (measured .entry)) u 0)) r (progressIn solved (now (layers .entry)) (now (sets .entry))) ⌝ }
     ensures { λ _. ⌜ Sized n (now (measured .entry)) (now (work .exit)) (now (layers .exit)) (now (sets .exit)) ⌝ }
 {
-    let base = sets_of(n, inputs, gone, kinds);
-    let unsolved = NodeSet::below(n).difference(solved);
-    visit(graph, n, base, unsolved, measured, solved, r, work, layers, sets)
+    let mut left = NodeSet::below(n).difference(solved);
+    let mut q = solved;
+    while !left.is_empty() {
+        let u = left.lowest();
+        let m = measured[u as usize];
+        let t = try_for(work, graph, n, base, u, m);
+        q = place(q, u, r, t, layers, sets);
+        left = left.without_lowest();
+    }
+    q
 }
 
 // Rounds start at 0, with no node gone. From round 1 on the outputs and the solved nodes are gone, and a round that solves
 // nothing ends the search.
-fn rounds(graph: &[u64], n: usize, inputs: NodeSet, outputs: NodeSet, measured: &[u8], work: &mut [u8], layers: &mut [u8], sets: &mut [u64]) -> NodeSet
+fn rounds(
+    graph: &[u64],
+    n: usize,
+    inputs: NodeSet,
+    outputs: NodeSet,
+    measured: &[u8],
+    work: &mut [u8],
+    layers: &mut [u8],
+    sets: &mut [u64],
+) -> NodeSet
     requires { ⌜ Sized n (now measured) (now work) (now layers) (now sets) ⌝ }
     ensures { λ q. ⌜ progressIn q (now (layers .exit)) (now (sets .exit)) ≡ cutTo n (progressAt true (jobIn n (now (graph .entry)) inputs outputs (now (measured .entry)))) ⌝ }
     ensures { λ _. ⌜ Sized n (now (measured .entry)) (now (work .exit)) (now (layers .exit)) (now (sets .exit)) ⌝ }
 {
     let kinds = kinds_of(n, measured);
+    let first = sets_of(n, inputs, NodeSet::empty(), kinds);
     let start = begin(n, outputs, layers, sets);
-    let mut solved = round(graph, n, inputs, kinds, measured, NodeSet::empty(), start, 0, work, layers, sets);
+    let mut solved = visit(graph, n, first, measured, start, 0, work, layers, sets);
     let mut r: u8 = 1;
     loop {
-        let next = round(graph, n, inputs, kinds, measured, solved, solved, r, work, layers, sets);
+        let base = sets_of(n, inputs, solved, kinds);
+        let next = visit(graph, n, base, measured, solved, r, work, layers, sets);
         if next.same(solved) {
             return next;
         }
@@ -211,7 +223,16 @@ fn rounds(graph: &[u64], n: usize, inputs: NodeSet, outputs: NodeSet, measured: 
 }
 
 // The flow of a job whose nodes are measured in planes or Paulis: a layer and a set for each node that is solved.
-pub fn find(graph: &[u64], n: usize, inputs: NodeSet, outputs: NodeSet, measured: &[u8], work: &mut [u8], layers: &mut [u8], sets: &mut [u64]) -> Search
+pub fn find(
+    graph: &[u64],
+    n: usize,
+    inputs: NodeSet,
+    outputs: NodeSet,
+    measured: &[u8],
+    work: &mut [u8],
+    layers: &mut [u8],
+    sets: &mut [u64],
+) -> Search
     ensures { λ r. ⌜ record { answer = r; work = now (work .exit); layers = now (layers .exit); sets = now (sets .exit) } ≡ searchCall true n (now (graph .entry)) inputs outputs (now (measured .entry)) (now (work .entry)) (now (layers .entry)) (now (sets .entry)) ⌝ }
 {
     if !sizes_fit(n, graph, measured, work, layers, sets) {

@@ -1,10 +1,5 @@
-use mathlib.Core.Path.{_≡_, refl, sym, ap, _∙_, fun-ext}
-use mathlib.Core.Bool.{Bool, true, false, cond, not, _||_, _&&_}
-use Prim.Native.Nat.{ℕ, _+_, _<_}
-use native.Mathlib.Omega.{arith}
-use lib.Dec.{T}
-use lib.ListN.{getD, length}
-use Rattle.nodes.specs.NodeSet.{member, capacity}
+use mathlib.Core.Path.{sym, ap, _∙_}
+use mathlib.Core.Bool.{true}
 use Rattle.nodes.specs.SetTable.{zeros}
 use Rattle.finder.specs.Finder.{progressAt, jobIn}
 use Rattle.finder.proofs.Finding.{sizes-out, call-sizes, call-paulis, call-left}
@@ -12,56 +7,40 @@ use borrow.Author.Tests.{not-true, not-false}
 use borrow.Author.Needs.{needs}
 use Rattle.finder.proofs.pflow.find.Statement.{statement}
 use Rattle.finder.proofs.pflow.find.Tie as tie
-use Rattle.finder.proofs.pflow.find.Reads as reads
-use Rattle.finder.proofs.pflow.find.Lts as lts
-use Rattle.finder.proofs.conclude.Reads as conclude-reads
-use Rattle.finder.proofs.pflow.rounds.Reads as rounds-reads
-use Rattle.finder.proofs.sizes_fit.Reads as sizes-fit-reads
 
--- src/pflow.rt:217:9
 sizes-fit-requires : tie.Need-sizes-fit-requires
 sizes-fit-requires c κs = search needs
 
--- src/pflow.rt:218:9
 same-length : tie.Need-same-length
 same-length c = search needs
 
--- src/pflow.rt:218:9
 same-length-2 : tie.Need-same-length-2
 same-length-2 c = search needs
 
--- src/pflow.rt:218:9
 same-length-3 : tie.Need-same-length-3
 same-length-3 c = search needs
 
--- src/pflow.rt:218:9
 returns : tie.Need-returns
 returns c = let a = c .before .before .before .before .before .before .before .before .before .before .args in
     sym (call-sizes (a .n) (a .graph .now) (a .inputs) (a .outputs) (a .measured .now) (a .work .now) (a .layers .now) (a .sets .now) true (sym (c .before .sizes-fit .ensures) ∙ not-true _ (c .if1 .taken)))
 
--- src/pflow.rt:220:9
 rounds-requires : tie.Need-rounds-requires
 rounds-requires c κs = let a = c .before .before .before .before .before .before .before .before .before .before .before .before .before .args in
     let d = c .before .before .before in
     sizes-out (a .n) (a .graph .now) (a .measured .now) (a .work .now) (a .layers .now) (a .sets .now) (sym (d .before .sizes-fit .ensures) ∙ not-false _ (d .if1 .left))
 
--- src/pflow.rt:221:5
 conclude-requires : tie.Need-conclude-requires
 conclude-requires c κs = c .before .before .before .before .before .before .before .rounds .ensures .1 .nodes
 
--- src/pflow.rt:214:1
 same-length-4 : tie.Need-same-length-4
 same-length-4 c = search needs
 
--- src/pflow.rt:214:1
 same-length-5 : tie.Need-same-length-5
 same-length-5 c = search needs
 
--- src/pflow.rt:214:1
 same-length-6 : tie.Need-same-length-6
 same-length-6 c = search needs
 
--- src/pflow.rt:214:1
 returns-2 : tie.Need-returns-2
 returns-2 c = let a = c .before .before .before .before .before .before .before .before .before .before .before .before .before .before .before .before .before .before .before .before .before .before .before .before .args in
     let d = c .before .before .before .before .before .before .before .before .before .before .before .before .before .before in

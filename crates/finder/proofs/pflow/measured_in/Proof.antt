@@ -1,19 +1,14 @@
-use mathlib.Core.Path.{_≡_, refl, sym, ap, _∙_}
-use mathlib.Core.Bool.{Bool, true, false, cond, not, _||_, _&&_}
+use mathlib.Core.Path.{_≡_, ap, _∙_}
+use mathlib.Core.Bool.{Bool, _||_, _&&_}
 use Prim.Native.Nat.{ℕ, _≤_, _-_}
 use native.Mathlib.Omega.{arith}
 use lib.Dec.{eqb, ltb}
-use lib.ListN.{getD, length}
-use Rattle.nodes.specs.NodeSet.{member, capacity}
+use lib.ListN.{getD}
+use Rattle.nodes.specs.NodeSet.{member}
 use Rattle.finder.proofs.Finding.{none-yet, one-more}
 use borrow.Author.Needs.{needs}
 use Rattle.finder.proofs.pflow.measured_in.Statement.{statement}
 use Rattle.finder.proofs.pflow.measured_in.Tie as tie
-use Rattle.finder.proofs.pflow.measured_in.Reads as reads
-use Rattle.finder.proofs.pflow.measured_in.Lts as lts
-use Rattle.finder.proofs.pflow.is_either.Reads as is-either-reads
-use Rattle.finder.proofs.with_if.Reads as with-if-reads
-use Rattle.nodes.proofs.utils.NodeSet.empty.Reads as empty-reads
 
 abbrev Inv-loop : tie.InvT-loop
 Inv-loop n measured a b found₀ i₀ found i = (i ≤ n) × (member found ≡ (λ u. ltb u i && (eqb (getD measured u 0) a || eqb (getD measured u 0) b)))
@@ -21,45 +16,35 @@ Inv-loop n measured a b found₀ i₀ found i = (i ≤ n) × (member found ≡ (
 abbrev μ-loop : tie.MeasureT-loop
 μ-loop n measured a b found₀ i₀ found i = n - i
 
--- src/pflow.rt:70:9
 empty-requires : tie.Need-empty-requires Inv-loop μ-loop
 empty-requires c κs = search needs
 
--- src/pflow.rt:72:5
 loop-holds : tie.Need-loop-holds Inv-loop μ-loop
 loop-holds c = (search needs, c .empty .ensures ∙ none-yet _)
 
--- src/pflow.rt:73:32
 cast-with-if : tie.Need-cast-with-if Inv-loop μ-loop
 cast-with-if c = search needs
 
--- src/pflow.rt:73:51
 shared-slice-read-is-either : tie.Need-shared-slice-read-is-either Inv-loop μ-loop
 shared-slice-read-is-either c = search needs
 
--- src/pflow.rt:73:41
 is-either-requires : tie.Need-is-either-requires Inv-loop μ-loop
 is-either-requires c κs = search needs
 
--- src/pflow.rt:73:9
 with-if-requires : tie.Need-with-if-requires Inv-loop μ-loop
 with-if-requires c κs = search needs
 
--- src/pflow.rt:74:9
 add-i : tie.Need-add-i Inv-loop μ-loop
 add-i c = search needs
 
--- src/pflow.rt:72:5
 loop-less : tie.Need-loop-less Inv-loop μ-loop
 loop-less c = search needs
 
--- src/pflow.rt:72:5
 loop-again : tie.Need-loop-again Inv-loop μ-loop
 loop-again c = let a = c .before .before .before .before .before .before .before .args in
     let l = c .before .before .before .before .loop in
     (search needs, c .with-if .ensures ∙ one-more (l .i) (λ u. eqb (getD (a .measured .now) u 0) (a .a) || eqb (getD (a .measured .now) u 0) (a .b)) (member (l .found)) (c .before .is-either .result) (l .inv .1) (c .before .is-either .ensures))
 
--- src/pflow.rt:66:1
 returns : tie.Need-returns Inv-loop μ-loop
 returns c = let a = c .before .before .before .before .args in
     let l = c .before .loop in

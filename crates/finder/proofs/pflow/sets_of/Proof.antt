@@ -1,47 +1,36 @@
-use mathlib.Core.Path.{_≡_, refl, sym, ap, _∙_}
-use mathlib.Core.Bool.{Bool, true, false, cond, not, _||_, _&&_}
+use mathlib.Core.Path.{ap, _∙_}
+use mathlib.Core.Bool.{Bool, not, _&&_}
 use Prim.Native.Nat.{ℕ}
 use Rattle.nodes.specs.NodeSet.{member}
 use borrow.Author.Needs.{needs}
 use Rattle.finder.proofs.pflow.sets_of.Statement.{statement}
 use Rattle.finder.proofs.pflow.sets_of.Tie as tie
-use Rattle.finder.proofs.pflow.sets_of.Reads as reads
-use Rattle.finder.proofs.pflow.sets_of.Lts as lts
-use Rattle.nodes.proofs.utils.NodeSet.below.Reads as below-reads
-use Rattle.nodes.proofs.utils.NodeSet.difference.Reads as difference-reads
-use Rattle.nodes.proofs.utils.NodeSet.union.Reads as union-reads
 
--- src/pflow.rt:174:18
 union-requires : tie.Need-union-requires
 union-requires c κs = search needs
 
--- src/pflow.rt:174:18
 difference-requires : tie.Need-difference-requires
 difference-requires c κs = search needs
 
--- src/pflow.rt:175:16
 below-requires : tie.Need-below-requires
 below-requires c κs = search needs
 
--- src/pflow.rt:175:16
 difference-requires-2 : tie.Need-difference-requires-2
 difference-requires-2 c κs = search needs
 
--- src/pflow.rt:175:16
 difference-requires-3 : tie.Need-difference-requires-3
 difference-requires-3 c κs = search needs
 
--- src/pflow.rt:176:16
 difference-requires-4 : tie.Need-difference-requires-4
 difference-requires-4 c κs = search needs
 
--- src/pflow.rt:170:1
 returns : tie.Need-returns
-returns c = let a = c .before .before .before .before .before .before .args in
-    (c .before .before .before .before .difference .ensures ∙ ap {B = ℕ → Bool} (λ (f : ℕ → Bool) (k : ℕ). f k && not (member (a .inputs) k)) (c .before .before .before .before .before .union .ensures),
-    c .before .difference3 .ensures
-    ∙ ap {B = ℕ → Bool} (λ (f : ℕ → Bool) (v : ℕ). f v && not (member (a .kinds .yz) v)) (c .before .before .difference2 .ensures ∙ ap {B = ℕ → Bool} (λ (f : ℕ → Bool) (v : ℕ). f v && not (member (a .gone) v)) (c .before .before .before .below .ensures)),
-    c .difference4 .ensures)
+returns c = let a = c .before .before .before .before .before .before .args in (
+  c .before .before .before .before .difference .ensures ∙ ap {B = ℕ → Bool} (λ (f : ℕ → Bool) (k : ℕ). f k && not (member (a .inputs) k)) (c .before .before .before .before .before .union .ensures),
+  c .before .difference3 .ensures
+      ∙ ap {B = ℕ → Bool} (λ (f : ℕ → Bool) (v : ℕ). f v && not (member (a .kinds .yz) v)) (c .before .before .difference2 .ensures ∙ ap {B = ℕ → Bool} (λ (f : ℕ → Bool) (v : ℕ). f v && not (member (a .gone) v)) (c .before .before .before .below .ensures)),
+  c .difference4 .ensures,
+)
 
 pub sets-of-spec : {M : Type 1} → statement M
 sets-of-spec =

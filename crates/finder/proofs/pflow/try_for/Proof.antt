@@ -1,9 +1,8 @@
-use mathlib.Core.Path.{_≡_, refl, sym, ap, _∙_}
-use mathlib.Core.Bool.{Bool, true, false, cond, not, _||_, _&&_}
-use Prim.Native.Nat.{ℕ, _<_}
-use mathlib.Core.Option.{Option, none}
-use native.Mathlib.Omega.{arith}
-use Rattle.nodes.specs.NodeSet.{member, capacity}
+use mathlib.Core.Path.{sym, ap, _∙_}
+use mathlib.Core.Bool.{Bool, cond, not}
+use Prim.Native.Nat.{ℕ}
+use mathlib.Core.Option.{none}
+use Rattle.nodes.specs.NodeSet.{capacity}
 use Rattle.nodes.specs.Row.{anyBelow}
 use Rattle.flows.specs.Branch.{Context}
 use Rattle.finder.specs.Views.{contextOf}
@@ -13,38 +12,28 @@ use native.Mathlib.Nat.{lt-of-lt-of-le}
 use borrow.Author.Needs.{needs}
 use Rattle.finder.proofs.pflow.try_for.Statement.{statement}
 use Rattle.finder.proofs.pflow.try_for.Tie as tie
-use Rattle.finder.proofs.pflow.try_for.Reads as reads
-use Rattle.finder.proofs.pflow.try_for.Lts as lts
-use Rattle.finder.proofs.pflow.try_node.Reads as try-node-reads
-use Rattle.nodes.proofs.utils.NodeSet.is_empty.Reads as is-empty-reads
-use Rattle.nodes.proofs.utils.NodeSet.with.Reads as with-reads
-use Rattle.nodes.proofs.utils.NodeSet.without.Reads as without-reads
 
--- src/pflow.rt:137:9
 without-requires : tie.Need-without-requires
 without-requires c κs = search needs
 
--- src/pflow.rt:138:9
 with-requires : tie.Need-with-requires
 with-requires c κs = search needs
 
--- src/pflow.rt:139:9
 without-requires-2 : tie.Need-without-requires-2
 without-requires-2 c κs = search needs
 
--- src/pflow.rt:140:8
 is-empty-requires : tie.Need-is-empty-requires
 is-empty-requires c κs = search needs
 
--- src/pflow.rt:141:9
 returns : tie.Need-returns
 returns c = let s = c .before .before .before .before .before .before .before in
     let a = s .args in
-    let p = s .pre in
-    (ap (λ (b : Bool). cond b none (tryIn (a .n) (a .graph .now) (forNode (contextOf (a .base)) (a .u)) (a .u) (a .m)))
-    (sym (c .if1 .taken) ∙ c .before .is-empty .ensures ∙ ap (λ (f : ℕ → Bool). not (anyBelow capacity f)) (c .before .before .before .before .without .ensures)), p .0)
+    let p = s .pre in (
+      ap (λ (b : Bool). cond b none (tryIn (a .n) (a .graph .now) (forNode (contextOf (a .base)) (a .u)) (a .u) (a .m)))
+          (sym (c .if1 .taken) ∙ c .before .is-empty .ensures ∙ ap (λ (f : ℕ → Bool). not (anyBelow capacity f)) (c .before .before .before .before .without .ensures)),
+      p .0,
+    )
 
--- src/pflow.rt:148:5
 try-node-requires : tie.Need-try-node-requires
 try-node-requires c κs = let s = c .before .before .before .before .before .before .before .before in
     let a = s .args in
@@ -52,20 +41,20 @@ try-node-requires c κs = let s = c .before .before .before .before .before .bef
     let e = for-context (a .base) _ (a .u) (lt-of-lt-of-le (p .3) (p .1 .nodes)) (c .before .before .before .before .before .without .ensures) (c .before .before .before .before .with .ensures) (c .before .before .before .without2 .ensures) in
     (p .0, for-within (a .base) _ (a .u) e (a .n) (p .1) (p .3), for-rows (a .base) _ (a .u) e (p .2), p .3, for-column (a .base) _ (a .u) e)
 
--- src/pflow.rt:132:1
 same-length : tie.Need-same-length
 same-length c = search needs
 
--- src/pflow.rt:132:1
 returns-2 : tie.Need-returns-2
 returns-2 c = let s = c .before .before .before .before .before .before .before .before .before .before .before in
     let a = s .args in
     let p = s .pre in
     let e = for-context (a .base) _ (a .u) (lt-of-lt-of-le (p .3) (p .1 .nodes)) (c .before .before .before .before .before .before .before .before .without .ensures) (c .before .before .before .before .before .before .before .with .ensures) (c .before .before .before .before .before .before .without2 .ensures) in
-    let t = c .before .before .try-node .ensures in
-    (t .0 ∙ ap (λ (k : Context). tryIn (a .n) (a .graph .now) k (a .u) (a .m)) e
-    ∙ ap (λ (b : Bool). cond b none (tryIn (a .n) (a .graph .now) (forNode (contextOf (a .base)) (a .u)) (a .u) (a .m)))
-    (sym (c .before .before .before .before .if1 .left) ∙ c .before .before .before .before .before .is-empty .ensures ∙ ap (λ (f : ℕ → Bool). not (anyBelow capacity f)) (c .before .before .before .before .before .before .before .before .without .ensures)), t .1)
+    let t = c .before .before .try-node .ensures in (
+      t .0 ∙ ap (λ (k : Context). tryIn (a .n) (a .graph .now) k (a .u) (a .m)) e
+          ∙ ap (λ (b : Bool). cond b none (tryIn (a .n) (a .graph .now) (forNode (contextOf (a .base)) (a .u)) (a .u) (a .m)))
+          (sym (c .before .before .before .before .if1 .left) ∙ c .before .before .before .before .before .is-empty .ensures ∙ ap (λ (f : ℕ → Bool). not (anyBelow capacity f)) (c .before .before .before .before .before .before .before .before .without .ensures)),
+      t .1,
+    )
 
 pub try-for-spec : {M : Type 1} → statement M
 try-for-spec =

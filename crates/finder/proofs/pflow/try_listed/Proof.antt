@@ -1,32 +1,32 @@
 use borrow.Author.Tests.{eq-eqb, ne-eqb}
+<<<<<<< HEAD
 use mathlib.Core.Path.{_≡_, refl, sym, ap, _∙_}
 use mathlib.Core.Bool.{Bool, true, false, cond, not, _||_, _&&_}
 use mathlib.Core.Option.{Option, none}
 use Prim.Native.Nat.{ℕ}
 use Rattle.flows.specs.Branch.{tryBranch}
+=======
+use mathlib.Core.Path.{sym, ap, _∙_}
+use mathlib.Core.Bool.{Bool, cond}
+use mathlib.Core.Option.{none}
+use Rattle.flows.specs.Branch.{tryBranch}
+>>>>>>> searches
 use Rattle.finder.specs.Views.{graphJob, contextOf}
 use borrow.Author.Needs.{needs}
 use Rattle.finder.proofs.pflow.try_listed.Statement.{statement}
 use Rattle.finder.proofs.pflow.try_listed.Tie as tie
-use Rattle.finder.proofs.pflow.try_listed.Reads as reads
-use Rattle.finder.proofs.pflow.try_listed.Lts as lts
-use Rattle.finder.proofs.try_branch.Reads as try-branch-reads
 
--- src/pflow.rt:97:9
 returns : tie.Need-returns
 returns c = let s = c .before .before .before in
     let a = s .args in
     (ap (λ (b : Bool). cond b none (tryBranch (graphJob (a .n) (a .graph .now)) (contextOf (a .s)) (a .u) (a .b))) (sym (eq-eqb _ _ (c .if1 .taken))), s .pre .0)
 
--- src/pflow.rt:99:5
 try-branch-requires : tie.Need-try-branch-requires
 try-branch-requires c κs = search needs
 
--- src/pflow.rt:91:1
 same-length : tie.Need-same-length
 same-length c = search needs
 
--- src/pflow.rt:91:1
 returns-2 : tie.Need-returns-2
 returns-2 c = let s = c .before .before .before .before .before .before .before in
     let a = s .args in

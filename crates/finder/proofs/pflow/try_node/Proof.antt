@@ -1,57 +1,42 @@
-use mathlib.Core.Path.{_≡_, refl, sym, ap, _∙_}
-use mathlib.Core.Bool.{Bool, true, false, cond, not, _||_, _&&_}
+use mathlib.Core.Path.{_∙_}
 use native.Mathlib.Omega.{arith}
-use Prim.Native.Nat.{ℕ}
 use Rattle.finder.specs.Views.{contextOf}
 use Rattle.finder.proofs.BranchTable.{row-tried, none-below, none-above}
 use borrow.Author.Needs.{needs}
 use Rattle.finder.proofs.pflow.try_node.Statement.{statement}
 use Rattle.finder.proofs.pflow.try_node.Tie as tie
-use Rattle.finder.proofs.pflow.try_node.Reads as reads
-use Rattle.finder.proofs.pflow.try_node.Lts as lts
-use Rattle.finder.proofs.pflow.try_row.Reads as try-row-reads
 
--- src/pflow.rt:122:9
 returns : tie.Need-returns
 returns c = let s = c .before .before .before in
     let a = s .args in
     (none-below (a .n) (a .graph .now) (contextOf (a .s)) (a .u) (a .m) (c .if1 .taken), s .pre .0)
 
--- src/pflow.rt:125:9
 returns-2 : tie.Need-returns-2
 returns-2 c = let s = c .before .before .before .before in
     let a = s .args in
     (none-above (a .n) (a .graph .now) (contextOf (a .s)) (a .u) (a .m) (c .if2 .taken), s .pre .0)
 
--- src/pflow.rt:127:24
 cast-row : tie.Need-cast-row
 cast-row c = search needs
 
--- src/pflow.rt:127:15
 mul-row : tie.Need-mul-row
 mul-row c = search needs
 
--- src/pflow.rt:127:15
 array-copy-out-row : tie.Need-array-copy-out-row
 array-copy-out-row c = search needs
 
--- src/pflow.rt:128:35
 array-read-try-row : tie.Need-array-read-try-row
 array-read-try-row c = search needs
 
--- src/pflow.rt:128:43
 array-read-try-row-2 : tie.Need-array-read-try-row-2
 array-read-try-row-2 c = search needs
 
--- src/pflow.rt:128:5
 try-row-requires : tie.Need-try-row-requires
 try-row-requires c κs = search needs
 
--- src/pflow.rt:116:1
 same-length : tie.Need-same-length
 same-length c = search needs
 
--- src/pflow.rt:116:1
 returns-3 : tie.Need-returns-3
 returns-3 c = let s = c .before .before .before .before .before .before .before .before .before in
     let a = s .args in

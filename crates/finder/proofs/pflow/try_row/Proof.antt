@@ -1,49 +1,37 @@
-use mathlib.Core.Path.{_≡_, refl, sym, ap, _∙_}
-use mathlib.Core.Bool.{Bool, true, false, cond, not, _||_, _&&_}
+use mathlib.Core.Path.{sym, ap, _∙_}
+use mathlib.Core.Bool.{Bool}
 use mathlib.Core.Option.{Option}
 use Prim.Native.Nat.{ℕ}
 use Rattle.solver.specs.System.{firstOf}
 use Rattle.finder.specs.Views.{triedOf, contextOf}
 use Rattle.finder.specs.Finding.{tryListed}
-use Rattle.finder.specs.declared.Tried.{Tried}
 use borrow.Author.Needs.{needs}
 use Rattle.finder.proofs.pflow.try_row.Statement.{statement}
 use Rattle.finder.proofs.pflow.try_row.Tie as tie
-use Rattle.finder.proofs.pflow.try_row.Reads as reads
-use Rattle.finder.proofs.pflow.try_row.Lts as lts
-use Rattle.finder.proofs.pflow.try_listed.Reads as try-listed-reads
 
--- src/pflow.rt:108:9
 try-listed-requires : tie.Need-try-listed-requires
 try-listed-requires c κs = search needs
 
--- src/pflow.rt:110:20
 enum-known-t : tie.Need-enum-known-t
 enum-known-t c = search needs
 
--- src/pflow.rt:111:38
 enum-told : tie.Need-enum-told
 enum-told c = search needs
 
--- src/pflow.rt:111:27
 try-listed-requires-2 : tie.Need-try-listed-requires-2
 try-listed-requires-2 c κs = let p = c .before .before .before .before .before .before .before .before .before .pre in (c .before .before .before .before .before .try-listed .ensures .1, p .1, p .2, p .3, p .4)
 
--- src/pflow.rt:103:1
 same-length : tie.Need-same-length
 same-length c = search needs
 
--- src/pflow.rt:103:1
 returns : tie.Need-returns
 returns c = let a = c .before .before .before .before .before .before .before .before .before .args in
     let t = c .before .before .before .before .before .try-listed in
     (ap (λ (o : Option (ℕ → Bool)). firstOf o (tryListed (a .n) (a .graph .now) (contextOf (a .s)) (a .u) (a .second))) (ap triedOf (sym (c .before .t .given .1)) ∙ t .ensures .0), t .ensures .1)
 
--- src/pflow.rt:103:1
 same-length-2 : tie.Need-same-length-2
 same-length-2 c = search needs
 
--- src/pflow.rt:103:1
 returns-2 : tie.Need-returns-2
 returns-2 c = let a = c .before .before .before .before .before .before .before .before .before .before .before .before .args in
     let t = c .before .before .before .before .before .before .before .before .try-listed in
