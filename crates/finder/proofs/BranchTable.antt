@@ -12,12 +12,7 @@ use Rattle.nodes.specs.Row.{allBelow}
 use Rattle.nodes.proofs.Logic.{and-l, and-r}
 use Rattle.nodes.proofs.Row.{all-out}
 use Rattle.solver.specs.System.{firstOf}
-<<<<<<< HEAD
-use Rattle.flows.specs.Job.{Job, planeXY, planeYZ, planeXZ}
 use Rattle.flows.specs.Branch.{Context, branchTable, branches, tryBranch, firstSolvable}
-=======
-use Rattle.flows.specs.Branch.{Context, branchTable, branches, tryBranch, firstSolvable}
->>>>>>> searches
 use Rattle.finder.specs.Views.{graphJob}
 use Rattle.finder.specs.Finding.{tryListed, tryIn}
 use Rattle.flows.proofs.Table.{keep}

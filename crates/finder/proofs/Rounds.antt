@@ -15,21 +15,12 @@ use Rattle.nodes.specs.declared.utils.NodeSet.{NodeSet}
 use Rattle.nodes.proofs.Logic.{is-false, and-l, and-r, and-comm, or-l, or-out, not-out}
 use Rattle.nodes.proofs.Row.{all-out, any-ext, any-past, ltb-yes}
 use Rattle.solver.specs.System.{firstOf}
-<<<<<<< HEAD
-use Rattle.flows.specs.Job.{Job, pauliY, isXorY, isYorZ}
-use Rattle.flows.specs.Branch.{Context, branches, tryBranch, firstSolvable}
-use Rattle.flows.specs.Search.{Progress, noNode, start, round}
-use Rattle.flows.specs.Planes as Planes
-use Rattle.flows.specs.Paulis as Paulis
-use Rattle.finder.specs.Finder.{jobIn, tableWords}
-=======
 use Rattle.flows.specs.Job.{Job, planeXY, planeYZ, planeXZ, pauliY, pauliZ, isXorY, isYorZ}
 use Rattle.flows.specs.Branch.{Context, branches, tryBranch, firstSolvable}
 use Rattle.flows.specs.Search.{Progress, noNode, start, round}
 use Rattle.flows.specs.Planes as Planes
 use Rattle.flows.specs.Paulis as Paulis
 use Rattle.finder.specs.Finder.{jobIn}
->>>>>>> searches
 use Rattle.finder.specs.Views.{Within, RowsApart, SidesApart, graphJob, contextOf}
 use Rattle.finder.specs.Finding.{isPlane, planesGiven, KindsOf, forNode, tryFor, progressIn, cutTo, visited}
 use Rattle.finder.specs.declared.Sets.{Sets}

@@ -336,13 +336,7 @@ fn read_node(work: &[u8], s: Sets, u: u8, b: u8) -> Tried
 }
 
 // ---- both searches
-<<<<<<< HEAD
-ghost use mathlib.Core.Bool.{cond};
-ghost use Rattle.nodes.specs.Row.{anyBelow, allBelow};
 ghost use Rattle.flows.specs.Search.{start};
-=======
-ghost use Rattle.flows.specs.Search.{start};
->>>>>>> searches
 ghost use Rattle.finder.specs.Finder.{sizesFit, tableWords};
 ghost use Rattle.finder.specs.Finding.{answerOf, progressIn, cutTo, placed};
 use gflow::Search;

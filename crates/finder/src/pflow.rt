@@ -6,11 +6,6 @@ ghost use lib.ListN.{length, getD};
 ghost use lib.Dec.{T, eqb, leb, ltb};
 ghost use Rattle.nodes.specs.NodeSet.{member, capacity, highest};
 ghost use Rattle.solver.specs.System.{firstOf};
-<<<<<<< HEAD
-ghost use Rattle.flows.specs.Search as Definition;
-ghost use Rattle.flows.specs.Paulis as Paulis;
-=======
->>>>>>> searches
 ghost use Rattle.finder.specs.Finder.{jobIn, progressAt, workBytes};
 ghost use Rattle.finder.specs.Views.{triedOf, contextOf, Within, RowsApart};
 ghost use Rattle.finder.specs.Finding.{Sized, KindsOf, progressIn, cutTo, visited, tryListed, tryIn, tryFor, searchCall};

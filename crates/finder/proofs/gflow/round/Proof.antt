@@ -1,11 +1,7 @@
 use mathlib.Core.Path.{sym, _∙_}
 use lib.ListN.{getD}
-<<<<<<< HEAD
-use Rattle.flows.specs.Branch.{tryBranch}
-=======
 use Rattle.nodes.specs.NodeSet.{member}
 use Rattle.flows.specs.Branch.{tryBranch}
->>>>>>> searches
 use Rattle.finder.specs.Views.{graphJob, contextOf, nodeIn}
 use Rattle.finder.specs.Finding.{progressIn}
 use Rattle.finder.proofs.Visiting.{visited-ext}

@@ -7,15 +7,6 @@ use Rattle.nodes.specs.NodeSet.{member}
 use Rattle.nodes.specs.Row.{count}
 use Rattle.nodes.specs.declared.utils.NodeSet.{NodeSet}
 use Rattle.nodes.proofs.Logic.{from-false}
-<<<<<<< HEAD
-use Rattle.flows.specs.Job.{Job}
-use Rattle.flows.specs.Paulis as Paulis
-use Rattle.flows.specs.Search.{start}
-use Rattle.finder.specs.Finder.{jobIn}
-use Rattle.finder.specs.Finding.{Sized, KindsOf, progressIn}
-use Rattle.flows.proofs.Search.{never}
-use Rattle.flows.proofs.Progress.{paulis-try-ext}
-=======
 use Rattle.flows.specs.Job.{Job}
 use Rattle.flows.specs.Paulis as Paulis
 use Rattle.flows.specs.Search.{start, round}
@@ -24,7 +15,6 @@ use Rattle.finder.specs.Views.{Within, RowsApart}
 use Rattle.finder.specs.Finding.{Sized, progressIn, cutTo}
 use Rattle.flows.proofs.Search.{never}
 use Rattle.flows.proofs.Progress.{paulis-try-ext}
->>>>>>> searches
 use Rattle.finder.proofs.Visiting.{cut-again, Going, going-idle, going-new, going-fewer, going-on}
 use Rattle.finder.proofs.Rounds.{cut-inside, paulis-ready, paulis-round, paulis-start}
 use borrow.Author.Needs.{needs}

@@ -1,16 +1,8 @@
 use borrow.Author.Tests.{eq-eqb, ne-eqb}
-<<<<<<< HEAD
-use mathlib.Core.Path.{_≡_, refl, sym, ap, _∙_}
-use mathlib.Core.Bool.{Bool, true, false, cond, not, _||_, _&&_}
-use mathlib.Core.Option.{Option, none}
-use Prim.Native.Nat.{ℕ}
-use Rattle.flows.specs.Branch.{tryBranch}
-=======
 use mathlib.Core.Path.{sym, ap, _∙_}
 use mathlib.Core.Bool.{Bool, cond}
 use mathlib.Core.Option.{none}
 use Rattle.flows.specs.Branch.{tryBranch}
->>>>>>> searches
 use Rattle.finder.specs.Views.{graphJob, contextOf}
 use borrow.Author.Needs.{needs}
 use Rattle.finder.proofs.pflow.try_listed.Statement.{statement}
