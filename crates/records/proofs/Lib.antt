@@ -6,3 +6,5 @@ pub mod ReadingLoops
 pub mod ReadingRecords
 pub mod Records
 pub mod Writing
+pub mod Splice
+pub mod WritingLoops

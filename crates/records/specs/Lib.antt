@@ -6,3 +6,4 @@ pub mod Records
 pub mod Refusals
 pub mod Views
 pub mod Writing
+pub mod Splice
