@@ -1,19 +1,23 @@
 -- The loops of the writer: what is left to write from here on makes the whole.
-use Prim.Native.Nat.{ℕ, zero, suc, _+_, _≤_, _<_}
+use Prim.Native.Nat.{ℕ, zero, suc, _+_, _*_, _≤_, _<_}
 use mathlib.Core.Path.{_≡_, refl, sym, ap, ap₂, _∙_, subst}
 use mathlib.Core.Bool.{Bool}
+use mathlib.Core.Option.{Option, some, none}
 use mathlib.Core.List.{List, [], _∷_, _++_}
 use native.Mathlib.Omega.{arith}
+use borrow.Author.Tests.{le-leb, lt-leb}
 use lib.Dec.{T}
-use lib.ListN.{length, getD, take, length-append}
+use lib.ListN.{length, getD, take, drop, length-append}
 use lib.Seq.{length-take-le, take-suc}
 use Rattle.nodes.specs.Row.{anyBelow, count, lowest, members}
 use Rattle.nodes.specs.NodeSet.{capacity}
-use Rattle.nodes.proofs.Count.{count-empty}
+use Rattle.nodes.proofs.Count.{count-empty, count-le}
 use Rattle.nodes.proofs.Members.{members-length, lowest-some}
 use Rattle.nodes.proofs.Remove.{removed, count-lowest, members-cons}
-use Rattle.records.specs.Writing.{setBytes}
-use Rattle.records.specs.Splice.{splice}
+use Rattle.records.specs.Records.{headBytes, written, kindLayers, kindSets}
+use Rattle.records.specs.Writing.{setBytes, flowRecords}
+use Rattle.records.specs.Splice.{splice, headOf, putFirst, putCount}
+use Rattle.records.proofs.Records.{written-length}
 use Rattle.records.proofs.Splice.{splice-none, splice-more, splice-cons, splice-splice}
 
 -- ---- a payload, byte by byte
@@ -88,3 +92,44 @@ module _ (s t : ℕ → Bool) (some : T (anyBelow capacity s)) (e : t ≡ remove
 pub no-entries : (set : ℕ → ℕ → Bool) (s : ℕ → Bool) → (T (anyBelow capacity s) → ⊥) → setBytes capacity set (members capacity s) ≡ []
 unfolding setBytes
 no-entries set s f = ap (setBytes capacity set) (none-left s f)
+
+-- a table of sets has room for no more
+pub entries-most : (set : ℕ → ℕ → Bool) (s : ℕ → Bool) → length (setBytes capacity set (members capacity s)) ≤ 16640
+unfolding setBytes
+entries-most set s = omega (arith, each (members capacity s), members-length capacity s, count-le capacity s)
+  where
+    each : (us : List ℕ) → length (setBytes capacity set us) ≤ length us * 130
+    each [] = omega arith
+    each (u ∷ us) =
+        omega (arith, length-append (members capacity (set u)) (setBytes capacity set us), members-length capacity (set u), count-le capacity (set u), each us)
+
+-- ---- records
+-- head and payload
+pub record-put : (at q kind : ℕ) (p l m : List ℕ) → q ≡ at + headBytes → q + length p ≤ length l → m ≡ splice at (headOf (length p) kind) l → splice q p m ≡ splice at (written kind p) l
+unfolding written
+record-put at q kind p l m e h r = ap₂ (λ (k : ℕ) (x : List ℕ). splice k p x) e r ∙ splice-splice at (headOf (length p) kind) p l (omega arith)
+
+-- the two records of a flow file
+pub records-put : (layers sets l m : List ℕ) (q : ℕ) → q ≡ headBytes + length layers → q + headBytes + length sets ≤ length l → m ≡ splice 0 (written kindLayers layers) l
+    → splice q (written kindSets sets) m ≡ splice 0 (written kindLayers layers ++ written kindSets sets) l
+records-put layers sets l m q e h r =
+    ap₂ (λ (k : ℕ) (x : List ℕ). splice k (written kindSets sets) x) place r
+    ∙ splice-splice 0 (written kindLayers layers) (written kindSets sets) l (omega (arith, written-length kindLayers layers, written-length kindSets sets))
+  where
+    place : q ≡ 0 + length (written kindLayers layers)
+    place = omega (arith, written-length kindLayers layers)
+
+pub flow-length : (layers sets : List ℕ) → length (written kindLayers layers ++ written kindSets sets) ≡ 2 * headBytes + length layers + length sets
+flow-length layers sets =
+    omega (arith, length-append (written kindLayers layers) (written kindSets sets), written-length kindLayers layers, written-length kindSets sets)
+
+-- ---- the front of a buffer
+pub put-fits : (b out m : List ℕ) (k : ℕ) → k ≡ length b → k ≤ length out → m ≡ splice 0 b out → (some k ≡ putCount b out) × (m ≡ putFirst b out)
+unfolding splice
+put-fits b out m k e h r =
+    let f = le-leb (length b) (length out) (omega arith) in
+    let start : 0 + length b ≡ length b = omega arith in
+    (rw (f, e), rw f (r ∙ ap (λ (i : ℕ). b ++ drop i out) start))
+
+pub put-not : (b out : List ℕ) → length out < length b → (none ≡ putCount b out) × (out ≡ putFirst b out)
+put-not b out h = let f = lt-leb (length b) (length out) h in (rw f, rw f)

@@ -1,5 +1,5 @@
 use Prim.Native.Nat.{ℕ, _+_, _/_, _%_}
-use mathlib.Core.Path.{_≡_, refl, ap, _∙_}
+use mathlib.Core.Path.{_≡_, ap, _∙_}
 use mathlib.Core.List.{[], _∷_}
 use native.Mathlib.Omega.{arith}
 use borrow.Author.Needs.{needs}
@@ -7,83 +7,61 @@ use Rattle.records.specs.Splice.{splice}
 use Rattle.records.proofs.Splice.{splice-more}
 use Rattle.records.proofs.writer.put_head.Statement.{statement}
 use Rattle.records.proofs.writer.put_head.Tie as tie
-use Rattle.records.proofs.writer.put_head.Reads as reads
-use Rattle.records.proofs.writer.put_head.Lts as lts
-use Rattle.records.proofs.writer.put_byte.Reads as put-byte-reads
 
--- src/writer.rt:27:23
 cast-put-byte : tie.Need-cast-put-byte
 cast-put-byte c = search needs
 
--- src/writer.rt:27:5
 put-byte-requires : tie.Need-put-byte-requires
 put-byte-requires c κs = search needs
 
--- src/writer.rt:28:19
 add-put-byte : tie.Need-add-put-byte
 add-put-byte c = search needs
 
--- src/writer.rt:28:27
 cast-put-byte-2 : tie.Need-cast-put-byte-2
 cast-put-byte-2 c = search needs
 
--- src/writer.rt:28:5
 put-byte-requires-2 : tie.Need-put-byte-requires-2
 put-byte-requires-2 c κs = search needs
 
--- src/writer.rt:29:19
 add-put-byte-2 : tie.Need-add-put-byte-2
 add-put-byte-2 c = search needs
 
--- src/writer.rt:29:27
 cast-put-byte-3 : tie.Need-cast-put-byte-3
 cast-put-byte-3 c = search needs
 
--- src/writer.rt:29:5
 put-byte-requires-3 : tie.Need-put-byte-requires-3
 put-byte-requires-3 c κs = search needs
 
--- src/writer.rt:30:19
 add-put-byte-3 : tie.Need-add-put-byte-3
 add-put-byte-3 c = search needs
 
--- src/writer.rt:30:27
 cast-put-byte-4 : tie.Need-cast-put-byte-4
 cast-put-byte-4 c = search needs
 
--- src/writer.rt:30:5
 put-byte-requires-4 : tie.Need-put-byte-requires-4
 put-byte-requires-4 c κs = search needs
 
--- src/writer.rt:31:19
 add-put-byte-4 : tie.Need-add-put-byte-4
 add-put-byte-4 c = search needs
 
--- src/writer.rt:31:27
 cast-put-byte-5 : tie.Need-cast-put-byte-5
 cast-put-byte-5 c = search needs
 
--- src/writer.rt:31:5
 put-byte-requires-5 : tie.Need-put-byte-requires-5
 put-byte-requires-5 c κs = search needs
 
--- src/writer.rt:32:19
 add-put-byte-5 : tie.Need-add-put-byte-5
 add-put-byte-5 c = search needs
 
--- src/writer.rt:32:27
 cast-put-byte-6 : tie.Need-cast-put-byte-6
 cast-put-byte-6 c = search needs
 
--- src/writer.rt:32:5
 put-byte-requires-6 : tie.Need-put-byte-requires-6
 put-byte-requires-6 c κs = search needs
 
--- src/writer.rt:23:1
 same-length : tie.Need-same-length
 same-length c = search needs
 
--- src/writer.rt:23:1
 returns : tie.Need-returns
 returns c =
     let a = c .before .before .before .before .before .before .before .before .before .before .before .before .before .before .before .before .before .before .before .before .before .before .before .before .before .args in
