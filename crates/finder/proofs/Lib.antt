@@ -7,3 +7,4 @@ pub mod Premise
 pub mod Flows
 pub mod Sizes
 pub mod Progress
+pub mod Below

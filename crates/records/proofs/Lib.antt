@@ -8,3 +8,4 @@ pub mod Records
 pub mod Writing
 pub mod Splice
 pub mod WritingLoops
+pub mod Found
