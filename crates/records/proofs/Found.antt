@@ -36,8 +36,8 @@ module _ (n : ℕ) (few : n ≤ capacity) (p : Progress) where
   layers-found : take n (layerBytes n p) ≡ listOf n (p .layer)
   layers-found =
       is-listOf (take n (layerBytes n p)) n (p .layer) (length-take-le n (layerBytes n p) (omega (arith, length-listOf capacity (λ u. cond (ltb u n) (p .layer u) 0)))) (λ k h.
-        getD-take n (layerBytes n p) k 0 h ∙ getD-listOf capacity (λ u. cond (ltb u n) (p .layer u) 0) k (omega arith)
-        ∙ ap (λ (b : Bool). cond b (p .layer k) 0) (ltb-yes k n h))
+      getD-take n (layerBytes n p) k 0 h ∙ getD-listOf capacity (λ u. cond (ltb u n) (p .layer u) 0) k (omega arith)
+      ∙ ap (λ (b : Bool). cond b (p .layer k) 0) (ltb-yes k n h))
 
   set-found : (u : ℕ) → u < n → Below n (p .set u) → setAt (setTable n p) u ≡ p .set u
   set-found u l h = fun-ext (λ k. by k (lt-or-ge k capacity))

@@ -9,3 +9,4 @@ pub mod Writing
 pub mod Splice
 pub mod WritingLoops
 pub mod Found
+pub mod Loading

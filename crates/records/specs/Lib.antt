@@ -7,3 +7,4 @@ pub mod Refusals
 pub mod Views
 pub mod Writing
 pub mod Splice
+pub mod Loading
