@@ -6,5 +6,10 @@ pub mod Search
 pub mod Premise
 pub mod Flows
 pub mod Sizes
+pub mod Filling
+pub mod Packing
 pub mod Progress
 pub mod Below
+pub mod Visiting
+pub mod Finding
+pub mod Rounds

@@ -5,3 +5,5 @@ pub mod Planes
 pub mod Paulis
 pub mod Premise
 pub mod Finder
+pub mod Views
+pub mod Finding

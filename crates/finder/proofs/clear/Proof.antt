@@ -1,0 +1,50 @@
+use mathlib.Core.Path.{_≡_, refl}
+use Prim.Native.Nat.{_-_, _≤_}
+use native.Mathlib.Omega.{arith}
+use lib.ListN.{length, take}
+use Rattle.nodes.specs.SetTable.{zeros}
+use Rattle.nodes.proofs.SetTable.{zeros-more, zeros-whole}
+use borrow.Author.Needs.{needs}
+use Rattle.finder.proofs.clear.Statement.{statement}
+use Rattle.finder.proofs.clear.Tie as tie
+
+abbrev Inv-loop : tie.InvT-loop
+Inv-loop work₀ i₀ work i = (i ≤ length work₀) × (length work ≡ length work₀) × (take i work ≡ zeros i)
+
+abbrev μ-loop : tie.MeasureT-loop
+μ-loop work₀ i₀ work i = length work₀ - i
+
+loop-holds : tie.Need-loop-holds Inv-loop μ-loop
+loop-holds c = (search needs, refl, refl)
+
+slice-write-work : tie.Need-slice-write-work Inv-loop μ-loop
+slice-write-work c = search needs
+
+add-i : tie.Need-add-i Inv-loop μ-loop
+add-i c = search needs
+
+loop-less : tie.Need-loop-less Inv-loop μ-loop
+loop-less c = search needs
+
+loop-again : tie.Need-loop-again Inv-loop μ-loop
+loop-again c = let l = c .before .loop in (search needs, search needs, zeros-more (l .work) (l .i) (omega arith) (l .inv .2))
+
+same-length : tie.Need-same-length Inv-loop μ-loop
+same-length c = search needs
+
+returns : tie.Need-returns Inv-loop μ-loop
+returns c = let l = c .before .loop in zeros-whole (l .work) (l .i) (length (c .before .before .args .work .now)) (omega arith) (l .inv .1) (l .inv .2)
+
+pub clear-spec : {M : Type 1} → statement M
+clear-spec =
+    tie.close
+    (tie.spec
+    Inv-loop
+    μ-loop
+    loop-holds
+    slice-write-work
+    add-i
+    loop-less
+    loop-again
+    same-length
+    returns)
