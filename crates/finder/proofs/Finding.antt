@@ -1,23 +1,23 @@
 -- What stands in the lent buffers: how a search starts, how a node is placed, and the layers and sets that are left.
-use Prim.Native.Nat.{ℕ, _+_, _*_, _/_, _%_, _^_, _≤_, _<_}
+use Prim.Native.Nat.{ℕ, zero, suc, _+_, _*_, _/_, _%_, _≤_, _<_}
 use mathlib.Core.Path.{_≡_, refl, sym, ap, ap₂, _∙_, fun-ext}
 use mathlib.Core.Bool.{Bool, true, false, cond, not, _&&_, _||_}
 use mathlib.Core.Logic.{_⊎_, inl, inr, _≢_}
-use mathlib.Core.Option.{Option, none, some}
+use mathlib.Core.Option.{none, some}
 use mathlib.Core.List.{List}
 use native.Mathlib.Omega.{arith}
-use native.Mathlib.Numerals.{add-one}
+use native.Mathlib.Numerals.{add-one, lt-of-le-of-ne}
 use native.Mathlib.Decide.{ℕ-discrete}
 use lib.Dec.{T, eqb, leb, ltb, le→leb, leb→le, eqb→eq, ltb→lt}
-use lib.ListN.{length, getD, set, length-replicate, getD-replicate, List·getD-eq-default}
+use lib.ListN.{length, getD, set}
 use lib.Seq.{getD-set-same, getD-set-other}
 use Rattle.nodes.specs.Bit.{bit}
 use Rattle.nodes.specs.Row.{anyBelow, allBelow, count, lowest}
-use Rattle.nodes.specs.NodeSet.{member, memberOf, wordsOf, capacity, highest, wordBits}
+use Rattle.nodes.specs.NodeSet.{member, wordsOf, capacity, highest, wordBits}
 use Rattle.nodes.specs.SetTable.{setWords, setAt, putSet, zeros}
 use Rattle.nodes.specs.declared.utils.NodeSet.{NodeSet}
-use Rattle.nodes.proofs.Logic.{is-true, is-false, unless-in, unless-out, from-true, from-false, beq-eq, dec, and-l, and-r, and-in, and-none, and-all, and-comm, or-none, or-l, or-r, not-in, not-out, eqb-no, eqb-yes, lt-or-ge}
-use Rattle.nodes.proofs.Row.{any-in, any-out, all-in, all-out, all-ext, any-past, ltb-yes, ltb-no}
+use Rattle.nodes.proofs.Logic.{is-true, unless-in, unless-out, from-true, from-false, beq-eq, dec, and-l, and-r, and-in, and-none, and-all, or-none, or-out, not-in, not-out, eqb-no, eqb-yes, lt-or-ge}
+use Rattle.nodes.proofs.Row.{any-in, any-out, all-in, all-out, all-ext, ltb-yes, ltb-no}
 use Rattle.nodes.proofs.NodeSet.{Words, member-past}
 use Rattle.nodes.proofs.Members.{lowest-member}
 use Rattle.nodes.proofs.Remove.{removed, count-lowest}
@@ -29,7 +29,10 @@ use Rattle.finder.specs.declared.gflow.Search.{Search}
 use Rattle.finder.specs.declared.gflow.Search.the-variants.{Flow, NoFlow}
 use Rattle.finder.specs.Search.{Progress, start}
 use Rattle.finder.specs.Finder.{jobIn, workBytes, tableWords, sizesFit, layerBytes, setTable, progressAt}
-use Rattle.finder.specs.Finding.{Sized, Outcome, planesGiven, searched, refused, searchCall, progressIn, cutTo, placed, answerOf}
+use Rattle.finder.specs.Branch.{Context}
+use Rattle.finder.specs.Views.{contextOf, Within, RowsApart}
+use Rattle.finder.specs.declared.Sets.{Sets}
+use Rattle.finder.specs.Finding.{forNode, Sized, Outcome, planesGiven, searched, refused, searchCall, progressIn, cutTo, placed, answerOf}
 use Rattle.finder.proofs.Visiting.{progress-eq}
 
 -- a member is below the capacity
@@ -102,11 +105,9 @@ module _ (solved : NodeSet) (layers sets : List ℕ) (u r : ℕ) where
 
 -- ---- the start
 zeros-at : (n i : ℕ) → getD (zeros n) i 0 ≡ 0
-zeros-at n i = by (lt-or-ge i n)
-  where
-    by : (i < n) ⊎ (n ≤ i) → getD (zeros n) i 0 ≡ 0
-    by (inl h) = getD-replicate n i 0 0 h
-    by (inr h) = List·getD-eq-default (zeros n) 0 (omega (arith, length-replicate {A = ℕ} n 0))
+zeros-at zero i = refl
+zeros-at (suc n) zero = refl
+zeros-at (suc n) (suc i) = zeros-at n i
 
 -- the outputs below n, no layer and no set
 pub start-cut : (n : ℕ) → n ≤ capacity → (outputs solved : NodeSet) (layers sets : List ℕ) (a b : ℕ)
@@ -217,3 +218,65 @@ pub call-left : (n : ℕ) (p : Progress) (solved : NodeSet) (answer : Search) (w
     → length layers ≡ capacity → length sets ≡ tableWords → Words sets → _≡_ {A = Outcome} (record { answer = answer; work = work; layers = layers; sets = sets }) (searched n p)
 call-left n p solved answer work layers sets e a b hl hs w =
     outcome-eq n p answer work layers sets (a ∙ answer-left n solved layers sets p e) b (layers-left n solved layers sets p hl e) (sets-left n solved layers sets p hs w e)
+
+-- ---- a set that is gathered node by node
+pub none-yet : (f : ℕ → Bool) → _≡_ {A = ℕ → Bool} (λ u. false) (λ u. ltb u 0 && f u)
+none-yet f = fun-ext (λ u. sym (ap (λ (b : Bool). b && f u) (ltb-no u 0 (omega arith))))
+
+pub one-more : (i : ℕ) (f found : ℕ → Bool) (has : Bool) → found ≡ (λ u. ltb u i && f u) → has ≡ f i → _≡_ {A = ℕ → Bool} (λ u. found u || (has && eqb u i)) (λ u. ltb u (i + 1) && f u)
+one-more i f found has e g = fun-ext (λ u. ap (λ (q : ℕ → Bool). q u || (has && eqb u i)) e ∙ by u (lt-or-ge u i) (ℕ-discrete u i))
+  where
+    by : (u : ℕ) → (u < i) ⊎ (i ≤ u) → Dec (u ≡ i) → (ltb u i && f u) || (has && eqb u i) ≡ ltb u (i + 1) && f u
+    by u (inl l) (yes q) = absurd (apart u i l q)
+      where
+        apart : (u i : ℕ) → u < i → u ≡ i → ⊥
+        apart u i l q = omega arith
+    by u (inl l) (no q) = rw (ltb-yes u i l, eqb-no u i q, ltb-yes u (i + 1) (omega arith), and-none has, or-none (f u))
+    by u (inr l) (yes q) = rw (ltb-no u i l, q, eqb-yes i, ltb-yes i (i + 1) (omega arith), g) (and-all (f i))
+    by u (inr l) (no q) = rw (ltb-no u i l, eqb-no u i q, ltb-no u (i + 1) (beyond u i l q)) (and-none has)
+      where
+        beyond : (u i : ℕ) → i ≤ u → u ≢ i → i + 1 ≤ u
+        beyond u i l q = omega (arith, lt-of-le-of-ne l (λ x. q (sym x)))
+
+-- ---- the sets of one node
+module _ (base s : Sets) (u : ℕ) where
+  pub for-context : u < capacity → member (s .columns) ≡ (λ k. member (base .columns) k && not (eqb k u)) → member (s .upper) ≡ (λ v. member (base .upper) v || (eqb v u && leb u highest))
+      → member (s .lower) ≡ (λ v. member (base .lower) v && not (eqb v u)) → contextOf s ≡ forNode (contextOf base) u
+  for-context h a b c = context-eq (contextOf s) (forNode (contextOf base) u) a (b ∙ fun-ext (λ v. ap (λ (q : Bool). member (base .upper) v || q) (ap (λ (q : Bool). eqb v u && q) (in-range u h) ∙ and-all (eqb v u)))) c
+    where
+      context-eq : (x y : Context) → x .column ≡ y .column → x .upper ≡ y .upper → x .lower ≡ y .lower → x ≡ y
+      context-eq x y a b c =
+          ap {B = Context} (λ (f : ℕ → Bool). record { column = f; upper = x .upper; lower = x .lower }) a
+          ∙ ap {B = Context} (λ (f : ℕ → Bool). record { column = y .column; upper = f; lower = x .lower }) b
+          ∙ ap {B = Context} (λ (f : ℕ → Bool). record { column = y .column; upper = y .upper; lower = f }) c
+
+  module _ (e : contextOf s ≡ forNode (contextOf base) u) where
+    col : (k : ℕ) → T (member (s .columns) k) → T (member (base .columns) k && not (eqb k u))
+    col k t = rw (ap (λ (c : Context). c .column k) e) at t
+
+    up : (v : ℕ) → T (member (s .upper) v) → T (member (base .upper) v || eqb v u)
+    up v t = rw (ap (λ (c : Context). c .upper v) e) at t
+
+    low : (v : ℕ) → T (member (s .lower) v) → T (member (base .lower) v && not (eqb v u))
+    low v t = rw (ap (λ (c : Context). c .lower v) e) at t
+
+    pub for-column : T (member (s .columns) u) → ⊥
+    for-column t = not-out (eqb u u) (and-r (member (base .columns) u) (not (eqb u u)) (col u t)) (from-true (eqb u u) (eqb-yes u))
+
+    pub for-within : (n : ℕ) → Within n base → u < n → Within n s
+    for-within n w h = record { nodes = w .nodes; columns = λ k t. w .columns k (and-l (member (base .columns) k) (not (eqb k u)) (col k t)); upper = λ v t. by v (or-out (member (base .upper) v) (eqb v u) (up v t)); lower = λ v t. w .lower v (and-l (member (base .lower) v) (not (eqb v u)) (low v t)) }
+      where
+        by : (v : ℕ) → T (member (base .upper) v) ⊎ T (eqb v u) → v < n
+        by v (inl t) = w .upper v t
+        by v (inr t) = rw (eqb→eq v u t) h
+
+    pub for-rows : RowsApart base → RowsApart s
+    for-rows f v a b = by (or-out (member (base .upper) v) (eqb v u) (up v a))
+      where
+        by : T (member (base .upper) v) ⊎ T (eqb v u) → ⊥
+        by (inl t) = f v t (and-l (member (base .lower) v) (not (eqb v u)) (low v b))
+        by (inr t) = not-out (eqb v u) (and-r (member (base .lower) v) (not (eqb v u)) (low v b)) t
+
+pub or-self : (a : Bool) → a || a ≡ a
+or-self true = refl
+or-self false = refl

@@ -13,3 +13,4 @@ pub mod Below
 pub mod Visiting
 pub mod Finding
 pub mod Rounds
+pub mod BranchTable

@@ -4,16 +4,15 @@ use Prim.Native.Nat.{ℕ, zero, suc, _+_, _≤_, _<_}
 use mathlib.Core.Path.{_≡_, refl, sym, ap, ap₂, _∙_, fun-ext}
 use mathlib.Core.Bool.{Bool, true, false, cond, not, _&&_, _||_}
 use mathlib.Core.Logic.{_⊎_, inl, inr}
-use mathlib.Core.Option.{Option, none, some}
-use mathlib.Core.List.{List}
+use mathlib.Core.Option.{Option}
 use native.Mathlib.Omega.{arith}
 use lib.Dec.{T, eqb, leb, ltb, eqb→eq, le→leb}
 use Rattle.nodes.specs.Bit.{_⊕_}
 use Rattle.nodes.specs.Row.{anyBelow, allBelow, count}
 use Rattle.nodes.specs.NodeSet.{capacity, highest}
 use Rattle.nodes.proofs.Logic.{is-true, is-false, from-true, from-false, both-ways, dec, and-l, and-all, or-r, or-none, not-out, eqb-yes, lt-or-ge, ⊕-self, ⊕-eq}
-use Rattle.nodes.proofs.Row.{any-in, any-out, any-none, all-in, all-out, ltb-yes, ltb-no}
-use Rattle.nodes.proofs.Count.{count-le, count-ext, count-pos}
+use Rattle.nodes.proofs.Row.{any-in, any-none, all-in, all-out, ltb-yes, ltb-no}
+use Rattle.nodes.proofs.Count.{count-le, count-ext}
 use Rattle.nodes.proofs.Remove.{removed}
 use Rattle.solver.specs.System.{isSome}
 use Rattle.finder.specs.Search.{Progress, orNone, solvedNow, round, rounds}
@@ -243,7 +242,7 @@ module _ (stops : Progress → Bool) (try : (ℕ → Bool) → ℕ → Option (�
       going-fewer =
           let f : count n (λ u. not (round (try (s .solved)) r s .solved u)) < count n (λ u. not (s .solved u)) = fewer stops try n r s a in
           let q : count n (λ u. not (t .solved u)) ≡ count n (λ u. not (round (try (s .solved)) r s .solved u)) =
-                count-ext n (λ u. not (t .solved u)) (λ u. not (round (try (s .solved)) r s .solved u)) (λ u l. ap not (cut-same n t (round (try (s .solved)) r s) e .solved u l)) in
+          count-ext n (λ u. not (t .solved u)) (λ u. not (round (try (s .solved)) r s .solved u)) (λ u l. ap not (cut-same n t (round (try (s .solved)) r s) e .solved u l)) in
           omega arith
 
       pub going-on : ((x y : Progress) → SameProgress n x y → stops x ≡ stops y)

@@ -1,22 +1,23 @@
 -- The calls of both searches: how far a search has come in its set and the lent buffers, and what a call answers and leaves.
 use Prim.Native.Nat.{ℕ, _≤_}
 use mathlib.Core.Path.{_≡_}
-use mathlib.Core.Bool.{Bool, true, false, cond, not, _&&_, _||_}
-use mathlib.Core.Option.{Option}
+use mathlib.Core.Bool.{Bool, cond, not, _&&_, _||_}
+use mathlib.Core.Option.{Option, none}
 use mathlib.Core.List.{List}
 use lib.Dec.{eqb, ltb}
 use lib.ListN.{length, getD}
-use Rattle.nodes.specs.Row.{allBelow}
+use Rattle.nodes.specs.Row.{anyBelow, allBelow}
 use Rattle.nodes.specs.NodeSet.{member, capacity}
 use Rattle.nodes.specs.SetTable.{setAt, zeros}
 use Rattle.nodes.specs.declared.utils.NodeSet.{NodeSet}
 use Rattle.solver.specs.System.{isSome}
-use Rattle.finder.specs.Job.{Job, planeXY, planeYZ, planeXZ}
-use Rattle.finder.specs.Branch.{Context, branches, firstSolvable}
+use Rattle.finder.specs.Job.{Job, planeXY, planeYZ, planeXZ, pauliY, isXorY, isYorZ}
+use Rattle.finder.specs.Branch.{Context, branches, tryBranch, firstSolvable}
 use Rattle.finder.specs.Search.{Progress, orNone}
 use Rattle.finder.specs.Finder.{jobIn, workBytes, tableWords, sizesFit, layerBytes, setTable, progressAt}
 use Rattle.finder.specs.Views.{graphJob}
 use Rattle.finder.specs.declared.gflow.Search.{Search}
+use Rattle.finder.specs.declared.pflow.Kinds.{Kinds}
 use Rattle.finder.specs.declared.gflow.Search.the-variants.{Flow, NoFlow, WrongArguments}
 
 -- what a call answers, and what it leaves in the lent buffers
@@ -90,6 +91,25 @@ visited among try r p = record {
   set = λ u. cond (among u && isSome (try u)) (orNone (try u)) (p .set u);
 }
 
--- the first solvable branch of a measurement, from the graph alone
+-- ---- the tries of the search for Paulis
+-- the nodes that are measured in X or Y, in Y or Z, and in Y
+pub record KindsOf (n : ℕ) (measured : List ℕ) (k : Kinds) : Type 0 where
+  pub xy : member (k .xy) ≡ (λ u. ltb u n && isXorY (getD measured u 0))
+  pub yz : member (k .yz) ≡ (λ u. ltb u n && isYorZ (getD measured u 0))
+  pub y : member (k .y) ≡ (λ u. ltb u n && eqb (getD measured u 0) pauliY)
+
+-- a branch of a row of the table, in which 0 is no branch
+abbrev pub tryListed : (n : ℕ) (graph : List ℕ) → Context → (u b : ℕ) → Option (ℕ → Bool)
+tryListed n graph c u b = let tried = tryBranch (graphJob n graph) c u b in cond (eqb b 0) none tried
+
+-- the first solvable branch of a measurement
 abbrev pub tryIn : (n : ℕ) (graph : List ℕ) → Context → (u m : ℕ) → Option (ℕ → Bool)
 tryIn n graph c u m = firstSolvable (graphJob n graph) c u (branches m)
+
+-- u joins the upper rows and leaves the lower rows and the columns
+abbrev pub forNode : Context → ℕ → Context
+forNode c u = record { column = λ k. c .column k && not (eqb k u); upper = λ v. c .upper v || eqb v u; lower = λ v. c .lower v && not (eqb v u) }
+
+-- where no column is left, u is passed over
+abbrev pub tryFor : (n : ℕ) (graph : List ℕ) → Context → (u m : ℕ) → Option (ℕ → Bool)
+tryFor n graph c u m = let tried = tryIn n graph (forNode c u) u m in cond (not (anyBelow capacity (forNode c u .column))) none tried

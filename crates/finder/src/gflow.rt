@@ -1,6 +1,6 @@
 // The search for planes, round by round.
 ghost use mathlib.Core.Path.{_≡_};
-ghost use mathlib.Core.Bool.{Bool, true, false, not, _&&_, _||_};
+ghost use mathlib.Core.Bool.{true, false, not, _&&_, _||_};
 ghost use Prim.Native.Nat.{ℕ, _<_, _≤_};
 ghost use lib.ListN.{length, getD};
 ghost use lib.Dec.{T, leb, ltb};
@@ -11,16 +11,16 @@ ghost use Rattle.finder.specs.Branch.{tryBranch};
 ghost use Rattle.finder.specs.Views.{graphJob, contextOf, Within, RowsApart, SidesApart, nodeIn};
 ghost use Rattle.finder.specs.Finding.{Sized, isPlane, planesGiven, progressIn, cutTo, visited, searchCall};
 use crate::PLANE_XY;
-use crate::PLANE_YZ;
 use crate::PLANE_XZ;
+use crate::PLANE_YZ;
 use crate::Sets;
 use crate::Tried;
+use crate::begin;
+use crate::conclude;
 use crate::open_round;
+use crate::place;
 use crate::read_node;
 use crate::sizes_fit;
-use crate::begin;
-use crate::place;
-use crate::conclude;
 use nodes::utils::NodeSet;
 
 // What a search answers, for planes and for Paulis.
@@ -91,7 +91,15 @@ fn stops(s: Sets) -> bool
 
 // Each unsolved node is visited, the least of those left at a time. All of them meet the sets of the round's start: the
 // nodes that are solved here are no columns before the next round.
-fn visit(work: &[u8], s: Sets, measured: &[u8], solved: NodeSet, r: u8, layers: &mut [u8], sets: &mut [u64]) -> NodeSet
+fn visit(
+    work: &[u8],
+    s: Sets,
+    measured: &[u8],
+    solved: NodeSet,
+    r: u8,
+    layers: &mut [u8],
+    sets: &mut [u64],
+) -> NodeSet
     requires { ⌜ (length (now work) ≡ workBytes) × RowsApart s × SidesApart s × ((v : ℕ) → T (member (s .upper) v) → v < length (now measured)) × (length (now layers) ≡ capacity) × (length (now sets) ≡ tableWords) ⌝ }
     ensures { λ q. ⌜ progressIn q (now (layers .exit)) (now (sets .exit)) ≡ visited (member (s .upper)) (λ u. nodeIn s (now (work .entry)) u (getD (now (measured .entry)) u 0)) r (progressIn solved (now (layers .entry)) (now (sets .entry))) ⌝ }
     ensures { λ _. ⌜ (length (now (layers .exit)) ≡ capacity) × (length (now (sets .exit)) ≡ tableWords) ⌝ }
@@ -108,7 +116,17 @@ fn visit(work: &[u8], s: Sets, measured: &[u8], solved: NodeSet, r: u8, layers: 
 }
 
 // One elimination serves all nodes of the round.
-fn round(graph: &[u64], n: usize, s: Sets, measured: &[u8], solved: NodeSet, r: u8, work: &mut [u8], layers: &mut [u8], sets: &mut [u64]) -> NodeSet
+fn round(
+    graph: &[u64],
+    n: usize,
+    s: Sets,
+    measured: &[u8],
+    solved: NodeSet,
+    r: u8,
+    work: &mut [u8],
+    layers: &mut [u8],
+    sets: &mut [u64],
+) -> NodeSet
     requires { ⌜ Sized n (now measured) (now work) (now layers) (now sets) × Within n s × RowsApart s × SidesApart s ⌝ }
     ensures { λ q. ⌜ progressIn q (now (layers .exit)) (now (sets .exit)) ≡ visited (member (s .upper)) (λ u. tryBranch (graphJob n (now (graph .entry))) (contextOf s) u (getD (now (measured .entry)) u 0)) r (progressIn solved (now (layers .entry)) (now (sets .entry))) ⌝ }
     ensures { λ _. ⌜ Sized n (now (measured .entry)) (now (work .exit)) (now (layers .exit)) (now (sets .exit)) ⌝ }
@@ -118,7 +136,16 @@ fn round(graph: &[u64], n: usize, s: Sets, measured: &[u8], solved: NodeSet, r: 
 }
 
 // The rounds are numbered from 1 on; one that solves nothing ends the search.
-fn rounds(graph: &[u64], n: usize, inputs: NodeSet, outputs: NodeSet, measured: &[u8], work: &mut [u8], layers: &mut [u8], sets: &mut [u64]) -> NodeSet
+fn rounds(
+    graph: &[u64],
+    n: usize,
+    inputs: NodeSet,
+    outputs: NodeSet,
+    measured: &[u8],
+    work: &mut [u8],
+    layers: &mut [u8],
+    sets: &mut [u64],
+) -> NodeSet
     requires { ⌜ Sized n (now measured) (now work) (now layers) (now sets) × (planesGiven (jobIn n (now graph) inputs outputs (now measured)) ≡ true) ⌝ }
     ensures { λ q. ⌜ progressIn q (now (layers .exit)) (now (sets .exit)) ≡ cutTo n (progressAt false (jobIn n (now (graph .entry)) inputs outputs (now (measured .entry)))) ⌝ }
     ensures { λ _. ⌜ Sized n (now (measured .entry)) (now (work .exit)) (now (layers .exit)) (now (sets .exit)) ⌝ }
@@ -140,7 +167,16 @@ fn rounds(graph: &[u64], n: usize, inputs: NodeSet, outputs: NodeSet, measured: 
 }
 
 // The flow of a job whose nodes are measured in planes: a layer and a set for each node that is solved.
-pub fn find(graph: &[u64], n: usize, inputs: NodeSet, outputs: NodeSet, measured: &[u8], work: &mut [u8], layers: &mut [u8], sets: &mut [u64]) -> Search
+pub fn find(
+    graph: &[u64],
+    n: usize,
+    inputs: NodeSet,
+    outputs: NodeSet,
+    measured: &[u8],
+    work: &mut [u8],
+    layers: &mut [u8],
+    sets: &mut [u64],
+) -> Search
     ensures { λ r. ⌜ record { answer = r; work = now (work .exit); layers = now (layers .exit); sets = now (sets .exit) } ≡ searchCall false n (now (graph .entry)) inputs outputs (now (measured .entry)) (now (work .entry)) (now (layers .entry)) (now (sets .entry)) ⌝ }
 {
     if !sizes_fit(n, graph, measured, work, layers, sets) {

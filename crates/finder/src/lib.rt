@@ -336,17 +336,15 @@ fn read_node(work: &[u8], s: Sets, u: u8, b: u8) -> Tried
 }
 
 // ---- both searches
-ghost use mathlib.Core.Bool.{cond};
-ghost use Rattle.nodes.specs.Row.{anyBelow, allBelow};
 ghost use Rattle.finder.specs.Search.{start};
 ghost use Rattle.finder.specs.Finder.{sizesFit, tableWords};
-ghost use Rattle.finder.specs.Finding.{Sized, answerOf, progressIn, cutTo, placed};
+ghost use Rattle.finder.specs.Finding.{answerOf, progressIn, cutTo, placed};
+use gflow::Search;
 use nodes::utils::clear_table;
 use nodes::utils::put_set;
-use gflow::Search;
 
 pub mod gflow;
-
+pub mod pflow;
 
 // No set has more nodes.
 const CAPACITY: usize = NodeSet::HIGHEST as usize + 1;
@@ -358,7 +356,14 @@ const TABLE_WORDS: usize = 2 * CAPACITY;
 const WORK_BYTES: usize = CAPACITY * ROW_BYTES;
 
 // No more nodes than a set can have, a measurement for each, and buffers of exact length.
-fn sizes_fit(n: usize, graph: &[u64], measured: &[u8], work: &[u8], layers: &[u8], sets: &[u64]) -> bool
+fn sizes_fit(
+    n: usize,
+    graph: &[u64],
+    measured: &[u8],
+    work: &[u8],
+    layers: &[u8],
+    sets: &[u64],
+) -> bool
     ensures { λ r. ⌜ r ≡ sizesFit n (now (graph .entry)) (now (measured .entry)) (now (work .entry)) (now (layers .entry)) (now (sets .entry)) ⌝ }
 {
     if n > CAPACITY {

@@ -1,45 +1,29 @@
-use mathlib.Core.Bool.{_&&_}
-use Rattle.nodes.proofs.Logic.{is-true}
-use Rattle.nodes.specs.Row.{anyBelow, allBelow}
-use mathlib.Core.Bool.{Bool, cond, not}
+use mathlib.Core.Bool.{_&&_, Bool, cond, not}
+use Rattle.nodes.specs.Row.{anyBelow}
 use Prim.Native.Nat.{ℕ}
 use Rattle.nodes.specs.NodeSet.{member, capacity}
 use Rattle.finder.specs.declared.gflow.Search.the-variants.{Flow, NoFlow}
-use borrow.Author.Tests.{lt-ltb, le-ltb, le-leb, lt-leb, eq-eqb, ne-eqb}
-use native.Mathlib.Omega.{arith}
-use mathlib.Core.Path.{_≡_, refl, sym, ap, _∙_}
+use mathlib.Core.Path.{sym, ap, _∙_}
 use Rattle.finder.proofs.Finding.{all-solved}
 use borrow.Author.Needs.{needs}
 use Rattle.finder.proofs.conclude.Statement.{statement}
 use Rattle.finder.proofs.conclude.Tie as tie
-use Rattle.finder.proofs.conclude.Reads as reads
-use Rattle.finder.proofs.conclude.Lts as lts
-use Rattle.finder.proofs.clear.Reads as clear-reads
-use Rattle.nodes.proofs.utils.NodeSet.below.Reads as below-reads
-use Rattle.nodes.proofs.utils.NodeSet.difference.Reads as difference-reads
-use Rattle.nodes.proofs.utils.NodeSet.is_empty.Reads as is-empty-reads
 
--- src/lib.rt:143:5
 clear-requires : tie.Need-clear-requires
 clear-requires c κs = search needs
 
--- src/lib.rt:144:8
 below-requires : tie.Need-below-requires
 below-requires c κs = search needs
 
--- src/lib.rt:144:8
 difference-requires : tie.Need-difference-requires
 difference-requires c κs = search needs
 
--- src/lib.rt:144:8
 is-empty-requires : tie.Need-is-empty-requires
 is-empty-requires c κs = search needs
 
--- src/lib.rt:145:9
 same-length : tie.Need-same-length
 same-length c = search needs
 
--- src/lib.rt:145:9
 returns : tie.Need-returns
 returns c = let e = c .before in
     let d = e .before in
@@ -47,11 +31,9 @@ returns c = let e = c .before in
     let whole = e .is-empty .ensures ∙ ap (λ (f : ℕ → Bool). not (anyBelow capacity f)) (d .difference .ensures ∙ ap {B = ℕ → Bool} (λ (f : ℕ → Bool) (u : ℕ). f u && not (member (a .solved) u)) (d .before .below .ensures)) ∙ all-solved (a .n) (member (a .solved)) (search needs) in
     (ap (λ (b : Bool). cond b Flow NoFlow) (sym (c .if1 .taken) ∙ whole), search needs)
 
--- src/lib.rt:138:1
 same-length-2 : tie.Need-same-length-2
 same-length-2 c = search needs
 
--- src/lib.rt:138:1
 returns-2 : tie.Need-returns-2
 returns-2 c = let e = c .before in
     let d = e .before in

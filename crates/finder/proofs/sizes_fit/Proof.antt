@@ -1,40 +1,29 @@
 use Rattle.finder.proofs.Finding.{sizes-last}
-use borrow.Author.Tests.{lt-ltb, le-ltb, le-leb, lt-leb, eq-eqb, ne-eqb}
-use native.Mathlib.Omega.{arith}
-use mathlib.Core.Path.{_≡_, refl, sym, ap, _∙_}
+use borrow.Author.Tests.{le-leb, lt-leb, eq-eqb, ne-eqb}
 use Rattle.finder.specs.Finder.{sizesFit}
-use borrow.Author.Needs.{needs}
 use Rattle.finder.proofs.sizes_fit.Statement.{statement}
 use Rattle.finder.proofs.sizes_fit.Tie as tie
-use Rattle.finder.proofs.sizes_fit.Reads as reads
-use Rattle.finder.proofs.sizes_fit.Lts as lts
 
--- src/lib.rt:104:9
 returns : tie.Need-returns
 unfolding sizesFit
 returns c = simp (lt-leb _ _ (c .if1 .taken))
 
--- src/lib.rt:107:9
 returns-2 : tie.Need-returns-2
 unfolding sizesFit
 returns-2 c = simp (le-leb _ _ (c .before .if1 .left), ne-eqb _ _ (c .if2 .taken))
 
--- src/lib.rt:110:9
 returns-3 : tie.Need-returns-3
 unfolding sizesFit
 returns-3 c = simp (le-leb _ _ (c .before .before .if1 .left), eq-eqb _ _ (c .before .if2 .left), lt-leb _ _ (c .if3 .taken))
 
--- src/lib.rt:113:9
 returns-4 : tie.Need-returns-4
 unfolding sizesFit
 returns-4 c = simp (le-leb _ _ (c .before .before .before .if1 .left), eq-eqb _ _ (c .before .before .if2 .left), le-leb _ _ (c .before .if3 .left), ne-eqb _ _ (c .if4 .taken))
 
--- src/lib.rt:116:9
 returns-5 : tie.Need-returns-5
 unfolding sizesFit
 returns-5 c = simp (le-leb _ _ (c .before .before .before .before .if1 .left), eq-eqb _ _ (c .before .before .before .if2 .left), le-leb _ _ (c .before .before .if3 .left), eq-eqb _ _ (c .before .if4 .left), ne-eqb _ _ (c .if5 .taken))
 
--- src/lib.rt:100:1
 returns-6 : tie.Need-returns-6
 returns-6 c = let a = c .before .before .before .before .before .args in
     sizes-last (a .n) (a .graph .now) (a .measured .now) (a .work .now) (a .layers .now) (a .sets .now) (le-leb _ _ (c .before .before .before .before .if1 .left)) (eq-eqb _ _ (c .before .before .before .if2 .left)) (le-leb _ _ (c .before .before .if3 .left)) (eq-eqb _ _ (c .before .if4 .left)) (eq-eqb _ _ (c .if5 .left))

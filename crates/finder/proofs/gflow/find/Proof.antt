@@ -1,95 +1,66 @@
-use mathlib.Core.Path.{_≡_, refl, sym, ap, _∙_}
-use mathlib.Core.Bool.{Bool, true, false, not, _||_, _&&_}
-use Prim.Native.Nat.{ℕ, _+_, _<_}
-use native.Mathlib.Omega.{arith}
-use lib.Dec.{T}
-use lib.ListN.{length}
-use Rattle.nodes.specs.NodeSet.{member, capacity}
-use mathlib.Core.List.{List}
+use mathlib.Core.Path.{sym, ap, _∙_}
+use mathlib.Core.Bool.{false}
 use Rattle.nodes.specs.SetTable.{zeros}
 use Rattle.finder.specs.Finder.{progressAt, jobIn}
-use Rattle.finder.specs.Finding.{Sized, Outcome}
 use Rattle.finder.proofs.Finding.{sizes-out, call-sizes, call-no-plane, call-planes, call-left}
 use borrow.Author.Tests.{not-true, not-false}
 use borrow.Author.Needs.{needs}
 use Rattle.finder.proofs.gflow.find.Statement.{statement}
 use Rattle.finder.proofs.gflow.find.Tie as tie
-use Rattle.finder.proofs.gflow.find.Reads as reads
-use Rattle.finder.proofs.gflow.find.Lts as lts
-use Rattle.finder.proofs.conclude.Reads as conclude-reads
-use Rattle.finder.proofs.gflow.planes_given.Reads as planes-given-reads
-use Rattle.finder.proofs.gflow.rounds.Reads as rounds-reads
-use Rattle.finder.proofs.sizes_fit.Reads as sizes-fit-reads
 
--- src/gflow.rt:146:9
 sizes-fit-requires : tie.Need-sizes-fit-requires
 sizes-fit-requires c κs = search needs
 
--- src/gflow.rt:147:9
 same-length : tie.Need-same-length
 same-length c = search needs
 
--- src/gflow.rt:147:9
 same-length-2 : tie.Need-same-length-2
 same-length-2 c = search needs
 
--- src/gflow.rt:147:9
 same-length-3 : tie.Need-same-length-3
 same-length-3 c = search needs
 
--- src/gflow.rt:147:9
 returns : tie.Need-returns
 returns c = let a = c .before .before .before .before .before .before .before .before .before .before .args in
     sym (call-sizes (a .n) (a .graph .now) (a .inputs) (a .outputs) (a .measured .now) (a .work .now) (a .layers .now) (a .sets .now) false (sym (c .before .sizes-fit .ensures) ∙ not-true _ (c .if1 .taken)))
 
--- src/gflow.rt:149:9
 planes-given-requires : tie.Need-planes-given-requires
 planes-given-requires c κs = let a = c .before .before .before .before .before .before .before .before .before .before .args in
     let z = sizes-out (a .n) (a .graph .now) (a .measured .now) (a .work .now) (a .layers .now) (a .sets .now) (sym (c .before .sizes-fit .ensures) ∙ not-false _ (c .if1 .left)) in
     (z .nodes, z .given)
 
--- src/gflow.rt:150:9
 same-length-4 : tie.Need-same-length-4
 same-length-4 c = search needs
 
--- src/gflow.rt:150:9
 same-length-5 : tie.Need-same-length-5
 same-length-5 c = search needs
 
--- src/gflow.rt:150:9
 same-length-6 : tie.Need-same-length-6
 same-length-6 c = search needs
 
--- src/gflow.rt:150:9
 returns-2 : tie.Need-returns-2
 returns-2 c = let a = c .before .before .before .before .before .before .before .before .before .before .before .before .args in
     let d = c .before .before in
     sym (call-no-plane (a .n) (a .graph .now) (a .inputs) (a .outputs) (a .measured .now) (a .work .now) (a .layers .now) (a .sets .now) (sym (d .before .sizes-fit .ensures) ∙ not-false _ (d .if1 .left)) (sym (c .before .planes-given .ensures) ∙ not-true _ (c .if2 .taken)))
 
--- src/gflow.rt:152:9
 rounds-requires : tie.Need-rounds-requires
 rounds-requires c κs = let a = c .before .before .before .before .before .before .before .before .before .before .before .before .before .before .before .args in
     let d = c .before .before .before .before .before in
     let f = c .before .before .before in
     (sizes-out (a .n) (a .graph .now) (a .measured .now) (a .work .now) (a .layers .now) (a .sets .now) (sym (d .before .sizes-fit .ensures) ∙ not-false _ (d .if1 .left)), sym (f .before .planes-given .ensures) ∙ not-false _ (f .if2 .left))
 
--- src/gflow.rt:153:5
 conclude-requires : tie.Need-conclude-requires
 conclude-requires c κs = c .before .before .before .before .before .before .before .rounds .ensures .1 .nodes
 
--- src/gflow.rt:143:1
 same-length-7 : tie.Need-same-length-7
 same-length-7 c = search needs
 
--- src/gflow.rt:143:1
 same-length-8 : tie.Need-same-length-8
 same-length-8 c = search needs
 
--- src/gflow.rt:143:1
 same-length-9 : tie.Need-same-length-9
 same-length-9 c = search needs
 
--- src/gflow.rt:143:1
 returns-3 : tie.Need-returns-3
 returns-3 c = let a = c .before .before .before .before .before .before .before .before .before .before .before .before .before .before .before .before .before .before .before .before .before .before .before .before .before .before .args in
     let d = c .before .before .before .before .before .before .before .before .before .before .before .before .before .before .before .before in

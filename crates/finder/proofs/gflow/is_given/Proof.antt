@@ -1,28 +1,19 @@
-use mathlib.Core.Path.{_≡_, refl, sym, ap, _∙_}
-use mathlib.Core.Bool.{Bool, not, _||_, _&&_}
+use mathlib.Core.Path.{sym, ap, _∙_}
+use mathlib.Core.Bool.{Bool, _||_}
 use Rattle.finder.specs.Finding.{isPlane}
-use Rattle.nodes.specs.NodeSet.{member}
 use borrow.Author.Needs.{needs}
 use Rattle.finder.proofs.gflow.is_given.Statement.{statement}
 use Rattle.finder.proofs.gflow.is_given.Tie as tie
-use Rattle.finder.proofs.gflow.is_given.Reads as reads
-use Rattle.finder.proofs.gflow.is_given.Lts as lts
-use Rattle.finder.proofs.gflow.is_plane.Reads as is-plane-reads
-use Rattle.nodes.proofs.utils.NodeSet.has.Reads as has-reads
 
--- src/gflow.rt:49:8
 has-requires : tie.Need-has-requires
 has-requires c κs = search needs
 
--- src/gflow.rt:50:9
 returns : tie.Need-returns
 returns c = let a = c .before .before .args in ap (λ (b : Bool). b || isPlane (a .m)) (sym (c .if1 .taken) ∙ c .before .has .ensures)
 
--- src/gflow.rt:52:5
 is-plane-requires : tie.Need-is-plane-requires
 is-plane-requires c κs = search needs
 
--- src/gflow.rt:46:1
 returns-2 : tie.Need-returns-2
 returns-2 c = let a = c .before .before .before .args in c .is-plane .ensures ∙ ap (λ (b : Bool). b || isPlane (a .m)) (sym (c .before .if1 .left) ∙ c .before .before .has .ensures)
 

@@ -1,12 +1,11 @@
 use Rattle.finder.proofs.Finding.{all-more}
-use lib.ListN.{length}
-use mathlib.Core.Path.{_≡_, refl, sym, ap, _∙_}
-use mathlib.Core.Bool.{Bool, true, false, not, _||_, _&&_}
+use lib.ListN.{getD}
+use mathlib.Core.Path.{_≡_, sym, ap, _∙_}
+use mathlib.Core.Bool.{Bool, false, _||_}
 use Prim.Native.Nat.{ℕ, _≤_, _-_}
 use native.Mathlib.Omega.{arith}
 use lib.Dec.{T}
-use lib.ListN.{getD}
-use Rattle.nodes.specs.NodeSet.{member, capacity}
+use Rattle.nodes.specs.NodeSet.{member}
 use Rattle.nodes.specs.Row.{allBelow}
 use Rattle.nodes.proofs.Logic.{is-true, is-false, from-true, from-false}
 use Rattle.nodes.proofs.Row.{all-out}
@@ -15,9 +14,6 @@ use Rattle.finder.specs.Finding.{isPlane}
 use borrow.Author.Needs.{needs}
 use Rattle.finder.proofs.gflow.planes_given.Statement.{statement}
 use Rattle.finder.proofs.gflow.planes_given.Tie as tie
-use Rattle.finder.proofs.gflow.planes_given.Reads as reads
-use Rattle.finder.proofs.gflow.planes_given.Lts as lts
-use Rattle.finder.proofs.gflow.is_given.Reads as is-given-reads
 
 abbrev Inv-loop : tie.InvT-loop
 Inv-loop n outputs measured i₀ i = (i ≤ n) × T (allBelow i (λ u. member outputs u || isPlane (getD measured u 0)))
@@ -25,24 +21,19 @@ Inv-loop n outputs measured i₀ i = (i ≤ n) × T (allBelow i (λ u. member ou
 abbrev μ-loop : tie.MeasureT-loop
 μ-loop n outputs measured i₀ i = n - i
 
--- src/gflow.rt:60:5
 loop-holds : tie.Need-loop-holds Inv-loop μ-loop
 unfolding allBelow
 loop-holds c = (search needs, tt)
 
--- src/gflow.rt:61:31
 cast-is-given : tie.Need-cast-is-given Inv-loop μ-loop
 cast-is-given c = search needs
 
--- src/gflow.rt:61:40
 shared-slice-read-is-given : tie.Need-shared-slice-read-is-given Inv-loop μ-loop
 shared-slice-read-is-given c = search needs
 
--- src/gflow.rt:61:13
 is-given-requires : tie.Need-is-given-requires Inv-loop μ-loop
 is-given-requires c κs = search needs
 
--- src/gflow.rt:62:13
 returns : tie.Need-returns Inv-loop μ-loop
 returns c = let a = c .before .before .before .before .before .before .args in
     let i = c .before .before .before .before .loop .i in
@@ -50,22 +41,18 @@ returns c = let a = c .before .before .before .before .before .before .args in
     let no : f i ≡ false = sym (c .before .is-given .ensures) ∙ not-true _ (c .if1 .taken) in
     sym (is-false (allBelow (a .n) f) (λ t. from-false (f i) no (all-out (a .n) f t i (search needs))))
 
--- src/gflow.rt:64:9
 add-i : tie.Need-add-i Inv-loop μ-loop
 add-i c = search needs
 
--- src/gflow.rt:60:5
 loop-less : tie.Need-loop-less Inv-loop μ-loop
 loop-less c = search needs
 
--- src/gflow.rt:60:5
 loop-again : tie.Need-loop-again Inv-loop μ-loop
 loop-again c = let a = c .before .before .before .before .before .before .args in
     let l = c .before .before .before .before .loop in
     let f : ℕ → Bool = λ u. member (a .outputs) u || isPlane (getD (a .measured .now) u 0) in
     (search needs, all-more (l .i) f (l .inv .1) (from-true (f (l .i)) (sym (c .before .is-given .ensures) ∙ not-false _ (c .if1 .left))))
 
--- src/gflow.rt:55:1
 returns-2 : tie.Need-returns-2 Inv-loop μ-loop
 returns-2 c = let a = c .before .before .before .args in
     let l = c .before .loop in

@@ -1,32 +1,21 @@
-use mathlib.Core.Path.{_≡_, refl, sym, ap, _∙_}
-use mathlib.Core.Bool.{Bool, true, false, not, _||_, _&&_}
-use Prim.Native.Nat.{ℕ, _+_, _<_}
+use mathlib.Core.Path.{_≡_, sym, _∙_}
+use mathlib.Core.Bool.{not}
 use native.Mathlib.Omega.{arith}
 use lib.Dec.{T}
-use lib.ListN.{length}
-use Rattle.nodes.specs.NodeSet.{member, capacity}
-use mathlib.Core.List.{List}
+use Rattle.nodes.specs.NodeSet.{member}
 use Rattle.nodes.specs.Row.{count}
 use Rattle.nodes.specs.declared.utils.NodeSet.{NodeSet}
 use Rattle.nodes.proofs.Logic.{from-true, from-false}
-use Rattle.finder.specs.Job.{Job}
-use Rattle.finder.specs.Search.{Progress, start, round}
+use Rattle.finder.specs.Search.{start, round}
 use Rattle.finder.specs.Planes as Planes
 use Rattle.finder.specs.Finder.{jobIn}
 use Rattle.finder.specs.Views.{Within, RowsApart, SidesApart}
 use Rattle.finder.specs.Finding.{Sized, planesGiven, progressIn, cutTo}
 use Rattle.finder.proofs.Visiting.{going-stop, going-idle, going-new, going-fewer}
-use Rattle.finder.proofs.Rounds.{PlanesGoing, planes-start, planes-next, planes-within, planes-rows, planes-sides, planes-stops, planes-round}
+use Rattle.finder.proofs.Rounds.{PlanesGoing, planes-start, planes-next, planes-ready, planes-stops, planes-round}
 use borrow.Author.Needs.{needs}
 use Rattle.finder.proofs.gflow.rounds.Statement.{statement}
 use Rattle.finder.proofs.gflow.rounds.Tie as tie
-use Rattle.finder.proofs.gflow.rounds.Reads as reads
-use Rattle.finder.proofs.gflow.rounds.Lts as lts
-use Rattle.finder.proofs.begin.Reads as begin-reads
-use Rattle.finder.proofs.gflow.round.Reads as round-reads
-use Rattle.finder.proofs.gflow.sets_of.Reads as sets-of-reads
-use Rattle.finder.proofs.gflow.stops.Reads as stops-reads
-use Rattle.nodes.proofs.utils.NodeSet.same.Reads as same-reads
 
 abbrev Inv-loop : tie.InvT-loop
 Inv-loop graph n inputs measured work₀ layers₀ sets₀ solved₀ r₀ work layers sets solved r = Sized n measured work layers sets
@@ -43,26 +32,12 @@ on-way : (c : tie.At-loop Inv-loop μ-loop) → let a = c .before .before .befor
 on-way c = c .loop .inv .1 (c .before .before .before .before .before .before .before .before .before .before .before .before .before .args .outputs) (c .before .before .before .before .before .begin .ensures .0) (given-at c)
 
 -- the sets of the round
-within-at : (c : tie.After-sets-of Inv-loop μ-loop) → Within (c .before .before .before .before .before .before .before .before .before .before .before .before .before .before .args .n) (c .sets-of .result)
-within-at c =
+ready-at : (c : tie.After-sets-of Inv-loop μ-loop) → Within (c .before .before .before .before .before .before .before .before .before .before .before .before .before .before .args .n) (c .sets-of .result) × RowsApart (c .sets-of .result) × SidesApart (c .sets-of .result)
+ready-at c =
     let l = c .before .loop in
     let a = c .before .before .before .before .before .before .before .before .before .before .before .before .before .before .args in
     let e = c .sets-of .ensures in
-    planes-within (a .n) (a .graph .now) (a .inputs) (a .outputs) (a .measured .now) (l .solved) (l .layers) (l .sets) (c .sets-of .result) (l .inv .0 .nodes) (on-way (c .before) .going .cut) (e .0) (e .1) (e .2)
-
-rows-at : (c : tie.After-sets-of Inv-loop μ-loop) → RowsApart (c .sets-of .result)
-rows-at c =
-    let l = c .before .loop in
-    let a = c .before .before .before .before .before .before .before .before .before .before .before .before .before .before .args in
-    let e = c .sets-of .ensures in
-    planes-rows (a .n) (a .graph .now) (a .inputs) (a .outputs) (a .measured .now) (l .solved) (l .layers) (l .sets) (c .sets-of .result) (l .inv .0 .nodes) (on-way (c .before) .going .cut) (e .0) (e .1) (e .2)
-
-sides-at : (c : tie.After-sets-of Inv-loop μ-loop) → SidesApart (c .sets-of .result)
-sides-at c =
-    let l = c .before .loop in
-    let a = c .before .before .before .before .before .before .before .before .before .before .before .before .before .before .args in
-    let e = c .sets-of .ensures in
-    planes-sides (a .n) (a .graph .now) (a .inputs) (a .outputs) (a .measured .now) (l .solved) (l .layers) (l .sets) (c .sets-of .result) (l .inv .0 .nodes) (on-way (c .before) .going .cut) (e .0) (e .1) (e .2)
+    planes-ready (a .n) (a .graph .now) (a .inputs) (a .outputs) (a .measured .now) (l .solved) (l .layers) (l .sets) (c .sets-of .result) (l .inv .0 .nodes) (on-way (c .before) .going .cut) (e .0) (e .1) (e .2)
 
 stops-at : (c : tie.After-stops Inv-loop μ-loop)
     → let a = c .before .before .before .before .before .before .before .before .before .before .before .before .before .before .before .args in let l = c .before .before .loop in c .stops .result ≡ Planes.stops (jobIn (a .n) (a .graph .now) (a .inputs) (a .outputs) (a .measured .now)) (progressIn (l .solved) (l .layers) (l .sets))
@@ -84,11 +59,9 @@ made c o g t =
     let e = d .sets-of .ensures in
     c .round .ensures .0 ∙ planes-round (a .n) (a .graph .now) (a .inputs) o (a .measured .now) (l .solved) (l .layers) (l .sets) (d .sets-of .result) (l .inv .0 .nodes) (g .going .cut) (e .0) (e .1) (e .2) t (g .ends) (l .r)
 
--- src/gflow.rt:126:9
 begin-requires : tie.Need-begin-requires Inv-loop μ-loop
 begin-requires c κs = let p = c .before .before .before .before .before .before .before .pre .0 in (p .nodes, p .bytes, p .words)
 
--- src/gflow.rt:128:5
 loop-holds : tie.Need-loop-holds Inv-loop μ-loop
 loop-holds c = let s = c .before .before .before .before .before .before .before .before .before .before .before .before in
     let a = s .args in
@@ -96,71 +69,58 @@ loop-holds c = let s = c .before .before .before .before .before .before .before
     let g = c .before .before .before .before .begin .ensures .1 in
     (record { nodes = p .nodes; given = p .given; rows = p .rows; bytes = g .0; words = g .1 }, λ o e t. planes-start (a .n) (a .graph .now) (a .inputs) o (a .measured .now) _ e)
 
--- src/gflow.rt:129:13
 sets-of-requires : tie.Need-sets-of-requires Inv-loop μ-loop
 sets-of-requires c κs = search needs
 
--- src/gflow.rt:130:12
 stops-requires : tie.Need-stops-requires Inv-loop μ-loop
 stops-requires c κs = search needs
 
--- src/gflow.rt:131:13
 same-length : tie.Need-same-length Inv-loop μ-loop
 same-length c = c .before .before .before .loop .inv .0 .rows ∙ sym (c .before .before .before .before .before .before .before .before .before .before .before .before .before .before .before .before .pre .0 .rows)
 
--- src/gflow.rt:131:13
 same-length-2 : tie.Need-same-length-2 Inv-loop μ-loop
 same-length-2 c = c .before .before .before .loop .inv .0 .bytes ∙ sym (c .before .before .before .before .before .before .before .before .before .before .before .before .before .before .before .before .pre .0 .bytes)
 
--- src/gflow.rt:131:13
 same-length-3 : tie.Need-same-length-3 Inv-loop μ-loop
 same-length-3 c = c .before .before .before .loop .inv .0 .words ∙ sym (c .before .before .before .before .before .before .before .before .before .before .before .before .before .before .before .before .pre .0 .words)
 
--- src/gflow.rt:131:13
 returns : tie.Need-returns Inv-loop μ-loop
 returns c = let at = c .before .before .before in
     let a = c .before .before .before .before .before .before .before .before .before .before .before .before .before .before .before .before .args in
     let j = jobIn (a .n) (a .graph .now) (a .inputs) (a .outputs) (a .measured .now) in
     (going-stop (Planes.stops j) (Planes.try j) (a .n) (Planes.progress j) _ _ (on-way at .going) (from-true _ (sym (stops-at (c .before)) ∙ c .if1 .taken)), at .loop .inv .0)
 
--- src/gflow.rt:133:13
 round-requires : tie.Need-round-requires Inv-loop μ-loop
-round-requires c κs = let d = c .before .before .before .before .before in (d .before .loop .inv .0, within-at d, rows-at d, sides-at d)
+round-requires c κs = let d = c .before .before .before .before .before in let k = ready-at d in (d .before .loop .inv .0, k .0, k .1, k .2)
 
--- src/gflow.rt:134:12
 same-requires : tie.Need-same-requires Inv-loop μ-loop
 same-requires c κs = search needs
 
--- src/gflow.rt:135:13
 same-length-4 : tie.Need-same-length-4 Inv-loop μ-loop
 same-length-4 c = c .before .before .before .before .before .before .before .before .round .ensures .1 .rows ∙ sym (c .before .before .before .before .before .before .before .before .before .before .before .before .before .before .before .before .before .before .before .before .before .before .before .before .before .before .before .before .pre .0 .rows)
 
--- src/gflow.rt:135:13
 same-length-5 : tie.Need-same-length-5 Inv-loop μ-loop
 same-length-5 c = c .before .before .before .before .before .before .before .before .round .ensures .1 .bytes ∙ sym (c .before .before .before .before .before .before .before .before .before .before .before .before .before .before .before .before .before .before .before .before .before .before .before .before .before .before .before .before .pre .0 .bytes)
 
--- src/gflow.rt:135:13
 same-length-6 : tie.Need-same-length-6 Inv-loop μ-loop
 same-length-6 c = c .before .before .before .before .before .before .before .before .round .ensures .1 .words ∙ sym (c .before .before .before .before .before .before .before .before .before .before .before .before .before .before .before .before .before .before .before .before .before .before .before .before .before .before .before .before .pre .0 .words)
 
--- src/gflow.rt:135:13
 returns-2 : tie.Need-returns-2 Inv-loop μ-loop
 returns-2 c = let m = c .before .before .before .before .before .before .before .before in
     let at = c .before .before .before .before .before .before .before .before .before .before .before .before .before .before .before in
     let a = c .before .before .before .before .before .before .before .before .before .before .before .before .before .before .before .before .before .before .before .before .before .before .before .before .before .before .before .before .args in
     let j = jobIn (a .n) (a .graph .now) (a .inputs) (a .outputs) (a .measured .now) in
-    let g = on-way at in
-    (going-idle (Planes.stops j) (Planes.try j) (a .n) (Planes.progress j) (at .loop .r) (progressIn (at .loop .solved) (at .loop .layers) (at .loop .sets)) _ (g .going) (made m (a .outputs) g (given-at at)) (at .loop .inv .0 .nodes) (sym (c .before .same .ensures) ∙ c .if2 .taken),
-    m .round .ensures .1)
+    let g = on-way at in (
+      going-idle (Planes.stops j) (Planes.try j) (a .n) (Planes.progress j) (at .loop .r) (progressIn (at .loop .solved) (at .loop .layers) (at .loop .sets)) _ (g .going) (made m (a .outputs) g (given-at at)) (at .loop .inv .0 .nodes) (sym (c .before .same .ensures) ∙ c .if2 .taken),
+      m .round .ensures .1,
+    )
 
--- src/gflow.rt:138:9
 add-r : tie.Need-add-r Inv-loop μ-loop
 add-r c = let at = c .before .before .before .before .before .before .before .before .before .before .before .before .before .before .before in
     let n = at .loop .inv .0 .nodes in
     let e = on-way at .going .all in
     omega (arith, n, e)
 
--- src/gflow.rt:128:5
 loop-less : tie.Need-loop-less Inv-loop μ-loop
 loop-less c = let m = c .before .before .before .before .before .before .before .before in
     let at = c .before .before .before .before .before .before .before .before .before .before .before .before .before .before .before in
@@ -171,13 +131,14 @@ loop-less c = let m = c .before .before .before .before .before .before .before 
     let s = progressIn (at .loop .solved) (at .loop .layers) (at .loop .sets) in
     going-fewer (Planes.stops j) (Planes.try j) (a .n) (Planes.progress j) (at .loop .r) s _ (g .going) e (going-new (Planes.stops j) (Planes.try j) (a .n) (Planes.progress j) (at .loop .r) s _ (g .going) e (sym (c .before .same .ensures) ∙ c .if2 .left))
 
--- src/gflow.rt:128:5
 loop-again : tie.Need-loop-again Inv-loop μ-loop
 loop-again c = let m = c .before .before .before .before .before .before .before .before in
     let at = c .before .before .before .before .before .before .before .before .before .before .before .before .before .before .before in
-    let a = c .before .before .before .before .before .before .before .before .before .before .before .before .before .before .before .before .before .before .before .before .before .before .before .before .before .before .before .before .args in
-    (m .round .ensures .1, λ o e t. planes-next (a .n) (a .graph .now) (a .inputs) o (a .measured .now) (at .loop .r) (progressIn (at .loop .solved) (at .loop .layers) (at .loop .sets)) _ (at .loop .inv .1 o e t) (made m o (at .loop .inv .1 o e t) t)
-    (from-false _ (sym (stops-at (c .before .before .before .before .before .before .before .before .before .before .before .before .before)) ∙ c .before .before .before .before .before .before .before .before .before .before .before .before .if1 .left)) (sym (c .before .same .ensures) ∙ c .if2 .left))
+    let a = c .before .before .before .before .before .before .before .before .before .before .before .before .before .before .before .before .before .before .before .before .before .before .before .before .before .before .before .before .args in (
+      m .round .ensures .1,
+      λ o e t. planes-next (a .n) (a .graph .now) (a .inputs) o (a .measured .now) (at .loop .r) (progressIn (at .loop .solved) (at .loop .layers) (at .loop .sets)) _ (at .loop .inv .1 o e t) (made m o (at .loop .inv .1 o e t) t)
+          (from-false _ (sym (stops-at (c .before .before .before .before .before .before .before .before .before .before .before .before .before)) ∙ c .before .before .before .before .before .before .before .before .before .before .before .before .if1 .left)) (sym (c .before .same .ensures) ∙ c .if2 .left),
+    )
 
 pub rounds-spec : {M : Type 1} → statement M
 rounds-spec =

@@ -1,33 +1,23 @@
-use mathlib.Core.Path.{_≡_, refl, sym, ap, _∙_}
-use mathlib.Core.Bool.{Bool, not, _||_, _&&_}
+use mathlib.Core.Path.{ap, _∙_}
+use mathlib.Core.Bool.{Bool, not, _&&_}
 use Prim.Native.Nat.{ℕ}
 use Rattle.nodes.specs.NodeSet.{member}
 use borrow.Author.Needs.{needs}
 use Rattle.finder.proofs.gflow.sets_of.Statement.{statement}
 use Rattle.finder.proofs.gflow.sets_of.Tie as tie
-use Rattle.finder.proofs.gflow.sets_of.Reads as reads
-use Rattle.finder.proofs.gflow.sets_of.Lts as lts
-use Rattle.nodes.proofs.utils.NodeSet.below.Reads as below-reads
-use Rattle.nodes.proofs.utils.NodeSet.difference.Reads as difference-reads
-use Rattle.nodes.proofs.utils.NodeSet.empty.Reads as empty-reads
 
--- src/gflow.rt:74:18
 difference-requires : tie.Need-difference-requires
 difference-requires c κs = search needs
 
--- src/gflow.rt:75:16
 below-requires : tie.Need-below-requires
 below-requires c κs = search needs
 
--- src/gflow.rt:75:16
 difference-requires-2 : tie.Need-difference-requires-2
 difference-requires-2 c κs = search needs
 
--- src/gflow.rt:76:16
 empty-requires : tie.Need-empty-requires
 empty-requires c κs = search needs
 
--- src/gflow.rt:70:1
 returns : tie.Need-returns
 returns c = let a = c .before .before .before .before .args in
     (c .before .before .before .difference .ensures, c .before .difference2 .ensures ∙ ap {B = ℕ → Bool} (λ (f : ℕ → Bool) (u : ℕ). f u && not (member (a .solved) u)) (c .before .before .below .ensures), c .empty .ensures)

@@ -1,27 +1,20 @@
-use mathlib.Core.Path.{_≡_, refl, sym, ap, _∙_}
-use mathlib.Core.Bool.{Bool, not, _||_, _&&_}
+use mathlib.Core.Path.{sym, ap, _∙_}
+use mathlib.Core.Bool.{Bool, not, _||_}
 use Rattle.nodes.specs.NodeSet.{member, capacity}
 use Rattle.nodes.specs.Row.{anyBelow}
 use borrow.Author.Needs.{needs}
 use Rattle.finder.proofs.gflow.stops.Statement.{statement}
 use Rattle.finder.proofs.gflow.stops.Tie as tie
-use Rattle.finder.proofs.gflow.stops.Reads as reads
-use Rattle.finder.proofs.gflow.stops.Lts as lts
-use Rattle.nodes.proofs.utils.NodeSet.is_empty.Reads as is-empty-reads
 
--- src/gflow.rt:86:8
 is-empty-requires : tie.Need-is-empty-requires
 is-empty-requires c κs = search needs
 
--- src/gflow.rt:87:9
 returns : tie.Need-returns
 returns c = let a = c .before .before .before .before .args in ap (λ (b : Bool). b || not (anyBelow capacity (member (a .s .columns)))) (sym (c .if1 .taken) ∙ c .before .is-empty .ensures)
 
--- src/gflow.rt:89:5
 is-empty-requires-2 : tie.Need-is-empty-requires-2
 is-empty-requires-2 c κs = search needs
 
--- src/gflow.rt:81:1
 returns-2 : tie.Need-returns-2
 returns-2 c = let a = c .before .before .before .before .before .args in c .is-empty2 .ensures ∙ ap (λ (b : Bool). b || not (anyBelow capacity (member (a .s .columns)))) (sym (c .before .if1 .left) ∙ c .before .before .is-empty .ensures)
 

@@ -1,7 +1,6 @@
-use mathlib.Core.Path.{_≡_, refl, sym, ap, _∙_}
-use mathlib.Core.Bool.{Bool, not, _||_, _&&_}
-use Prim.Native.Nat.{ℕ, _<_}
-use native.Mathlib.Omega.{arith}
+use mathlib.Core.Path.{_≡_, _∙_}
+use mathlib.Core.Bool.{not, _&&_}
+use Prim.Native.Nat.{ℕ}
 use lib.Dec.{T}
 use lib.ListN.{getD, length}
 use Rattle.nodes.specs.NodeSet.{member, capacity}
@@ -14,13 +13,6 @@ use Rattle.finder.proofs.Visiting.{visited-start, visited-more, visited
 use borrow.Author.Needs.{needs}
 use Rattle.finder.proofs.gflow.visit.Statement.{statement}
 use Rattle.finder.proofs.gflow.visit.Tie as tie
-use Rattle.finder.proofs.gflow.visit.Reads as reads
-use Rattle.finder.proofs.gflow.visit.Lts as lts
-use Rattle.finder.proofs.place.Reads as place-reads
-use Rattle.finder.proofs.read_node.Reads as read-node-reads
-use Rattle.nodes.proofs.utils.NodeSet.is_empty.Reads as is-empty-reads
-use Rattle.nodes.proofs.utils.NodeSet.lowest.Reads as lowest-reads
-use Rattle.nodes.proofs.utils.NodeSet.without_lowest.Reads as without-lowest-reads
 
 abbrev Inv-loop : tie.InvT-loop
 Inv-loop work s measured r layers₀ sets₀ left₀ q₀ layers sets left q = (length layers ≡ capacity) × (length sets ≡ tableWords) × ((v : ℕ) → T (member left v) → T (member (s .upper) v))
@@ -29,55 +21,45 @@ Inv-loop work s measured r layers₀ sets₀ left₀ q₀ layers sets left q = (
 abbrev μ-loop : tie.MeasureT-loop
 μ-loop work s measured r layers₀ sets₀ left₀ q₀ layers sets left q = count capacity (member left)
 
--- src/gflow.rt:101:5
 loop-holds : tie.Need-loop-holds Inv-loop μ-loop
 loop-holds c = let a = c .before .before .before .before .before .args in
     (search needs, search needs, λ v t. t, visited-start (λ u. nodeIn (a .s) (a .work .now) u (getD (a .measured .now) u 0)) (a .r) (progressIn (a .solved) (a .layers .now) (a .sets .now)) (member (a .s .upper)))
 
--- src/gflow.rt:101:12
 is-empty-requires : tie.Need-is-empty-requires Inv-loop μ-loop
 is-empty-requires c κs = search needs
 
--- src/gflow.rt:102:13
 lowest-requires : tie.Need-lowest-requires Inv-loop μ-loop
 lowest-requires c κs = search needs
 
--- src/gflow.rt:103:26
 cast-b : tie.Need-cast-b Inv-loop μ-loop
 cast-b c = search needs
 
--- src/gflow.rt:103:17
 shared-slice-read-b : tie.Need-shared-slice-read-b Inv-loop μ-loop
 shared-slice-read-b c = let a = c .before .before .before .before .before .before .before .before .before .before .pre in
     let e = c .before .before .before in
     let l = e .before .loop in
     a .3 _ (l .inv .2 _ (lowest-left (l .left) (e .is-empty .result) (e .is-empty .ensures) (c .before .before .if1 .taken) _ (c .before .lowest .ensures)))
 
--- src/gflow.rt:104:28
 read-node-requires : tie.Need-read-node-requires Inv-loop μ-loop
 read-node-requires c κs = let a = c .before .before .before .before .before .before .before .before .before .before .pre in
     let e = c .before .before .before in
     let l = e .before .loop in
     (a .0, a .1, a .2, l .inv .2 _ (lowest-left (l .left) (e .is-empty .result) (e .is-empty .ensures) (c .before .before .if1 .taken) _ (c .before .lowest .ensures)))
 
--- src/gflow.rt:104:9
 place-requires : tie.Need-place-requires Inv-loop μ-loop
 place-requires c κs = let e = c .before .before .before .before .before .before in
     let l = e .before .loop in
     (lowest-small (l .left) (e .is-empty .result) (e .is-empty .ensures) (c .before .before .before .before .before .if1 .taken) _ (c .before .before .before .before .lowest .ensures), l .inv .0, l .inv .1)
 
--- src/gflow.rt:105:9
 without-lowest-requires : tie.Need-without-lowest-requires Inv-loop μ-loop
 without-lowest-requires c κs = search needs
 
--- src/gflow.rt:101:5
 loop-less : tie.Need-loop-less Inv-loop μ-loop
 loop-less c = let e = c .before .before .before .before .before .before .before .before .before .before .before .before in
     let l = e .before .loop in
     let w = c .before .before .before .before .before .before .before .before .before .before in
     fewer-left (l .left) (e .is-empty .result) (e .is-empty .ensures) (w .before .if1 .taken) _ (w .lowest .ensures) (member (c .without-lowest .result)) (c .without-lowest .ensures)
 
--- src/gflow.rt:101:5
 loop-again : tie.Need-loop-again Inv-loop μ-loop
 loop-again c = let e = c .before .before .before .before .before .before .before .before .before .before .before .before in
     let l = e .before .loop in
@@ -86,28 +68,29 @@ loop-again c = let e = c .before .before .before .before .before .before .before
     let a = e .before .before .before .before .before .before .before .args in
     let mine = lowest-left (l .left) (e .is-empty .result) (e .is-empty .ensures) (w .before .if1 .taken) _ (w .lowest .ensures) in
     let next = next-left (l .left) (e .is-empty .result) (e .is-empty .ensures) (w .before .if1 .taken) _ (w .lowest .ensures) (member (c .without-lowest .result)) (c .without-lowest .ensures) in
-    let still = still-left (l .left) (e .is-empty .result) (e .is-empty .ensures) (w .before .if1 .taken) _ (w .lowest .ensures) (member (c .without-lowest .result)) (c .without-lowest .ensures) in
-    (p .place .ensures .1 .0, p .place .ensures .1 .1, λ v t. l .inv .2 v (still v t),
-    visited-more (λ u. nodeIn (a .s) (a .work .now) u (getD (a .measured .now) u 0)) (a .r) (progressIn (a .solved) (a .layers .now) (a .sets .now))
-    (member (a .s .upper)) (member (l .left)) (member (c .without-lowest .result)) (w .lowest .result) (triedOf (p .before .before .before .read-node .result))
-    (progressIn (l .q) (l .layers) (l .sets)) _ (l .inv .3) (p .place .ensures .0) (p .before .before .before .read-node .ensures)
-    (l .inv .2 _ mine) mine next)
+    let still = still-left (l .left) (e .is-empty .result) (e .is-empty .ensures) (w .before .if1 .taken) _ (w .lowest .ensures) (member (c .without-lowest .result)) (c .without-lowest .ensures) in (
+      p .place .ensures .1 .0,
+      p .place .ensures .1 .1,
+      λ v t. l .inv .2 v (still v t),
+      visited-more (λ u. nodeIn (a .s) (a .work .now) u (getD (a .measured .now) u 0)) (a .r) (progressIn (a .solved) (a .layers .now) (a .sets .now))
+          (member (a .s .upper)) (member (l .left)) (member (c .without-lowest .result)) (w .lowest .result) (triedOf (p .before .before .before .read-node .result))
+          (progressIn (l .q) (l .layers) (l .sets)) _ (l .inv .3) (p .place .ensures .0) (p .before .before .before .read-node .ensures)
+          (l .inv .2 _ mine) mine next,
+    )
 
--- src/gflow.rt:94:1
 same-length : tie.Need-same-length Inv-loop μ-loop
 same-length c = search needs
 
--- src/gflow.rt:94:1
 same-length-2 : tie.Need-same-length-2 Inv-loop μ-loop
 same-length-2 c = search needs
 
--- src/gflow.rt:94:1
 returns : tie.Need-returns Inv-loop μ-loop
 returns c = let e = c .before in
     let l = e .before .loop in
-    let a = e .before .before .before .before .before .before .before .args in
-    (l .inv .3 ∙ visited-end (λ u. nodeIn (a .s) (a .work .now) u (getD (a .measured .now) u 0)) (a .r) (progressIn (a .solved) (a .layers .now) (a .sets .now)) (member (a .s .upper)) (member (l .left)) (none-left (l .left) (e .is-empty .result) (e .is-empty .ensures) (c .if1 .left)),
-    (l .inv .0, l .inv .1))
+    let a = e .before .before .before .before .before .before .before .args in (
+      l .inv .3 ∙ visited-end (λ u. nodeIn (a .s) (a .work .now) u (getD (a .measured .now) u 0)) (a .r) (progressIn (a .solved) (a .layers .now) (a .sets .now)) (member (a .s .upper)) (member (l .left)) (none-left (l .left) (e .is-empty .result) (e .is-empty .ensures) (c .if1 .left)),
+      (l .inv .0, l .inv .1),
+    )
 
 pub visit-spec : {M : Type 1} → statement M
 visit-spec =
