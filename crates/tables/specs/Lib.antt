@@ -1,5 +1,7 @@
 pub mod Calls
 pub mod Cases
 pub mod Demand
+pub mod Printing
 pub mod Programs
+pub mod Replies
 pub mod Solutions
