@@ -1,3 +1,4 @@
+pub mod Below
 pub mod BranchTable
 pub mod Filling
 pub mod Finding

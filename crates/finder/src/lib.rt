@@ -347,13 +347,13 @@ pub mod gflow;
 pub mod pflow;
 
 // No set has more nodes.
-const CAPACITY: usize = NodeSet::HIGHEST as usize + 1;
+pub const CAPACITY: usize = NodeSet::HIGHEST as usize + 1;
 
 // Two words for each node's set.
-const TABLE_WORDS: usize = 2 * CAPACITY;
+pub const TABLE_WORDS: usize = 2 * CAPACITY;
 
 // The work matrix has 128 rows.
-const WORK_BYTES: usize = CAPACITY * ROW_BYTES;
+pub const WORK_BYTES: usize = CAPACITY * ROW_BYTES;
 
 // No more nodes than a set can have, a measurement for each, and buffers of exact length.
 fn sizes_fit(

@@ -1,8 +1,12 @@
 pub mod FlowFile
+pub mod Found
 pub mod JobFile
+pub mod Loading
 pub mod ReadingEntries
 pub mod ReadingHead
 pub mod ReadingLoops
 pub mod ReadingRecords
 pub mod Records
+pub mod Splice
 pub mod Writing
+pub mod WritingLoops

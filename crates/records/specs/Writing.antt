@@ -15,9 +15,12 @@ unfoldable pub setBytes : ℕ → (ℕ → ℕ → Bool) → List ℕ → List �
 setBytes n set [] = []
 setBytes n set (u ∷ us) = u ∷ length (members n (set u)) ∷ members n (set u) ++ setBytes n set us
 
+-- a flow file from the layers of the nodes and the sets of those that have an entry
+abbrev pub flowRecords : (layers : List ℕ) (n : ℕ) (set : ℕ → ℕ → Bool) (entries : List ℕ) → List ℕ
+flowRecords layers n set entries = written kindLayers layers ++ written kindSets (setBytes n set entries)
+
 -- a flow file with an entry for each node that is no output, or 0013
 abbrev pub flowBytes : Job → Option Progress → List ℕ
 flowBytes j none = written kindNoFlow []
 flowBytes j (some s) =
-    written kindLayers (listOf (j .nodes) (s .layer))
-    ++ written kindSets (setBytes (j .nodes) (s .set) (members (j .nodes) (λ u. not (j .output u))))
+    flowRecords (listOf (j .nodes) (s .layer)) (j .nodes) (s .set) (members (j .nodes) (λ u. not (j .output u)))

@@ -1,8 +1,10 @@
 // Files and verdicts: the public entries.
+pub mod find; // find.rt: the finder, from a job file to a flow file
 mod flow; // flow.rt: checking a causal flow
 mod gflow; // gflow.rt: checking a generalized flow
 mod load; // load.rt: a file's edges and sets as tables of sets
 mod pflow; // pflow.rt: checking a Pauli flow
+pub mod programs; // programs.rt: the two programs on lent bytes
 mod validate; // validate.rt: what every flow is asked
 
 ghost use mathlib.Core.Path.{_≡_};

@@ -1,0 +1,77 @@
+-- A search gives a node no member that is no node of the job.
+use Prim.Native.Nat.{ℕ, zero, suc, _+_, _<_}
+use mathlib.Core.Path.{_≡_, refl, sym, ap, _∙_, subst}
+use mathlib.Core.Bool.{Bool, true, false, cond, not, _&&_, _||_}
+use mathlib.Core.Logic.{_⊎_, inl, inr}
+use mathlib.Core.Option.{Option, none, some, Option·none-ne-some, Option·some-injective}
+use lib.Dec.{T, eqb, eqb→eq}
+use Rattle.nodes.specs.Row.{anyBelow}
+use Rattle.nodes.proofs.Logic.{and-r, or-out}
+use Rattle.solver.specs.System.{isSome}
+use Rattle.flows.specs.Job.{Job}
+use Rattle.flows.specs.Branch.{Context, inSet, branches, tryBranch, tryNode}
+use Rattle.flows.specs.Search.{Progress, start, solvedNow, orNone, round, rounds, noNode}
+use Rattle.flows.specs.Planes as Planes
+use Rattle.flows.specs.Paulis as Paulis
+use Rattle.finder.specs.Finder.{progressAt}
+use Rattle.flows.proofs.Search.{rounds-step, Ended}
+use Rattle.flows.proofs.Tries.{FirstOf, first-of, branch-answer}
+
+abbrev pub Below : ℕ → (ℕ → Bool) → Type 0
+Below n s = (k : ℕ) → T (s k) → k < n
+
+-- what a try gives
+pub node-below : (j : Job) (c : Context) (u : ℕ) → u < j .nodes → (set : ℕ → Bool) → tryNode j c u ≡ some set → Below (j .nodes) set
+node-below j c u l set e k t =
+    let f = first-of j c u (branches (j .measured u)) set e in
+    let (x, a, p) = branch-answer j c u (f .branch) set (f .gave) in
+    member (f .branch) x (λ i s. a .within i s .0) (or-out (x k) (inSet (f .branch) && eqb k u) (rw (ap (λ (g : ℕ → Bool). g k) p) at t))
+  where
+    member : (b : ℕ) (x : ℕ → Bool) → Below (j .nodes) x → T (x k) ⊎ T (inSet b && eqb k u) → k < j .nodes
+    member b x h (inl s) = h k s
+    member b x h (inr s) = subst (λ (v : ℕ). v < j .nodes) (sym (eqb→eq k u (and-r (inSet b) (eqb k u) s))) l
+
+-- ---- rounds
+module _ (n : ℕ) (try : (ℕ → Bool) → ℕ → Option (ℕ → Bool)) (below : (gone : ℕ → Bool) (u : ℕ) → u < n → (set : ℕ → Bool) → try gone u ≡ some set → Below n set) where
+  abbrev pub SetsBelow : Progress → Type 0
+  SetsBelow s = (u : ℕ) → u < n → Below n (s .set u)
+
+  pub start-below : (output : ℕ → Bool) → SetsBelow (start output)
+  start-below output u l k t = absurd t
+
+  pub round-below : (gone : ℕ → Bool) (r : ℕ) (s : Progress) → SetsBelow s → SetsBelow (round (try gone) r s)
+  round-below gone r s h u l = go (solvedNow (try gone) s u) (try gone u) (below gone u l)
+    where
+      go : (b : Bool) (o : Option (ℕ → Bool)) → ((set : ℕ → Bool) → o ≡ some set → Below n set) → Below n (cond b (orNone o) (s .set u))
+      go true none f = λ k t. absurd t
+      go true (some x) f = f x refl
+      go false o f = h u l
+
+  pub rounds-below : (stops : Progress → Bool) (k r : ℕ) (s : Progress) → SetsBelow s → SetsBelow (rounds stops try n k r s)
+  unfolding rounds
+  rounds-below stops zero r s h = h
+  rounds-below stops (suc k) r s h = go (rounds-step stops try n k r s) (rounds-below stops k (r + 1) (round (try (s .solved)) r s) (round-below (s .solved) r s h))
+    where
+      go : (Ended stops try n s × (rounds stops try n (suc k) r s ≡ s))
+          ⊎ (T (anyBelow n (solvedNow (try (s .solved)) s)) × (rounds stops try n (suc k) r s ≡ rounds stops try n k (r + 1) (round (try (s .solved)) r s)))
+          → SetsBelow (rounds stops try n k (r + 1) (round (try (s .solved)) r s)) → SetsBelow (rounds stops try n (suc k) r s)
+      go (inl (e, p)) ih = rw p h
+      go (inr (t, p)) ih = rw p ih
+
+-- ---- both searches
+planes-below : (j : Job) (gone : ℕ → Bool) (u : ℕ) → u < j .nodes → (set : ℕ → Bool) → Planes.try j gone u ≡ some set → Below (j .nodes) set
+planes-below j gone u l set e = node-below j (Planes.context j gone) u l set e
+
+paulis-below : (j : Job) (gone : ℕ → Bool) (u : ℕ) → u < j .nodes → (set : ℕ → Bool) → Paulis.try j gone u ≡ some set → Below (j .nodes) set
+paulis-below j gone u l set e = go (Paulis.noColumnFor j gone u) e
+  where
+    go : (b : Bool) → cond b none (tryNode j (Paulis.context j gone u) u) ≡ some set → Below (j .nodes) set
+    go true e = absurd (Option·none-ne-some _ e)
+    go false e = node-below j (Paulis.context j gone u) u l set e
+
+pub progress-below : (pauli : Bool) (j : Job) (u : ℕ) → u < j .nodes → Below (j .nodes) (progressAt pauli j .set u)
+progress-below true j =
+    rounds-below (j .nodes) (Paulis.try j) (paulis-below j) (λ s. false) (j .nodes) 1 (round (Paulis.try j noNode) 0 (start (j .output)))
+    (round-below (j .nodes) (Paulis.try j) (paulis-below j) noNode 0 (start (j .output)) (start-below (j .nodes) (Paulis.try j) (paulis-below j) (j .output)))
+progress-below false j =
+    rounds-below (j .nodes) (Planes.try j) (planes-below j) (Planes.stops j) (j .nodes) 1 (start (j .output)) (start-below (j .nodes) (Planes.try j) (planes-below j) (j .output))

@@ -1,0 +1,91 @@
+use Prim.Native.Nat.{_+_, _-_}
+use mathlib.Core.Path.{_≡_, refl, ap, _∙_}
+use native.Mathlib.Omega.{arith}
+use borrow.Author.Needs.{needs}
+use lib.ListN.{length}
+use Rattle.nodes.specs.Row.{anyBelow, count, lowest, members}
+use Rattle.nodes.specs.NodeSet.{capacity, member}
+use Rattle.nodes.proofs.Logic.{unless-in, unless-out}
+use Rattle.nodes.proofs.Remove.{count-lowest}
+use Rattle.nodes.specs.SetTable.{setAt}
+use Rattle.nodes.proofs.Remove.{removed}
+use Rattle.records.specs.Writing.{setBytes}
+use Rattle.records.proofs.WritingLoops.{entry-length, entries-most, no-entries}
+use Rattle.records.proofs.writer.entries_len.Statement.{statement}
+use Rattle.records.proofs.writer.entries_len.Tie as tie
+
+abbrev Inv-loop : tie.InvT-loop
+Inv-loop sets left₀ len₀ left len = len + length (setBytes capacity (setAt sets) (members capacity (member left))) ≡ length (setBytes capacity (setAt sets) (members capacity (member left₀)))
+
+abbrev μ-loop : tie.MeasureT-loop
+μ-loop sets left₀ len₀ left len = count capacity (member left)
+
+loop-holds : tie.Need-loop-holds Inv-loop μ-loop
+loop-holds c = omega arith
+
+is-empty-requires : tie.Need-is-empty-requires Inv-loop μ-loop
+is-empty-requires c κs = search needs
+
+lowest-requires : tie.Need-lowest-requires Inv-loop μ-loop
+lowest-requires c κs = search needs
+
+set-at-requires : tie.Need-set-at-requires Inv-loop μ-loop
+set-at-requires c κs = search needs
+
+count-requires : tie.Need-count-requires Inv-loop μ-loop
+count-requires c κs = search needs
+
+add-len : tie.Need-add-len Inv-loop μ-loop
+add-len c = let l = c .before .before .before .before .before .loop in
+    let g = c .before .before .before .before .before .before .before .args .sets .now in
+    let left = unless-in (c .before .before .before .before .is-empty .result) (anyBelow capacity (member (l .left))) (c .before .before .before .before .is-empty .ensures) (c .before .before .before .if1 .taken) in
+    let size = entry-length (member (l .left)) (removed (member (l .left)) (lowest capacity (member (l .left)))) left (refl) (setAt (g)) ((c .before .before .lowest) .result) ((c .before .before .lowest) .ensures) in
+    let same = c .count .ensures ∙ ap (count capacity) (c .before .set-at .ensures) in
+    omega (arith, size, same, entries-most (setAt g) (member (l .left)), entries-most (setAt g) (member (c .before .before .before .before .before .before .before .args .nodes)))
+
+add-len-2 : tie.Need-add-len-2 Inv-loop μ-loop
+add-len-2 c = let l = c .before .before .before .before .before .loop in
+    let g = c .before .before .before .before .before .before .before .args .sets .now in
+    let left = unless-in (c .before .before .before .before .is-empty .result) (anyBelow capacity (member (l .left))) (c .before .before .before .before .is-empty .ensures) (c .before .before .before .if1 .taken) in
+    let size = entry-length (member (l .left)) (removed (member (l .left)) (lowest capacity (member (l .left)))) left (refl) (setAt (g)) ((c .before .before .lowest) .result) ((c .before .before .lowest) .ensures) in
+    let same = c .count .ensures ∙ ap (count capacity) (c .before .set-at .ensures) in
+    omega (arith, size, same, entries-most (setAt g) (member (l .left)), entries-most (setAt g) (member (c .before .before .before .before .before .before .before .args .nodes)))
+
+without-lowest-requires : tie.Need-without-lowest-requires Inv-loop μ-loop
+without-lowest-requires c κs = search needs
+
+loop-less : tie.Need-loop-less Inv-loop μ-loop
+loop-less c = let l = c .before .before .before .before .before .before .loop in
+    let fewer = ap (count capacity) (c .without-lowest .ensures) in
+    omega (arith, count-lowest capacity (member (l .left)) (unless-in (c .before .before .before .before .before .is-empty .result) (anyBelow capacity (member (l .left))) (c .before .before .before .before .before .is-empty .ensures) (c .before .before .before .before .if1 .taken)), fewer)
+
+loop-again : tie.Need-loop-again Inv-loop μ-loop
+loop-again c = let l = c .before .before .before .before .before .before .loop in
+    let g = c .before .before .before .before .before .before .before .before .args .sets .now in
+    let left = unless-in (c .before .before .before .before .before .is-empty .result) (anyBelow capacity (member (l .left))) (c .before .before .before .before .before .is-empty .ensures) (c .before .before .before .before .if1 .taken) in
+    let size = entry-length (member (l .left)) (member (c .without-lowest .result)) left (c .without-lowest .ensures) (setAt (g)) ((c .before .before .before .lowest) .result) ((c .before .before .before .lowest) .ensures) in
+    let same = c .before .count .ensures ∙ ap (count capacity) (c .before .before .set-at .ensures) in
+    omega (arith, size, same)
+
+returns : tie.Need-returns Inv-loop μ-loop
+returns c = let l = c .before .before .loop in
+    let g = c .before .before .before .before .args .sets .now in
+    omega (arith, ap length (no-entries (setAt g) (member (l .left)) (unless-out (c .before .is-empty .result) (anyBelow capacity (member (l .left))) (c .before .is-empty .ensures) (c .if1 .left))))
+
+pub entries-len-spec : {M : Type 1} → statement M
+entries-len-spec =
+    tie.close
+    (tie.spec
+    Inv-loop
+    μ-loop
+    loop-holds
+    is-empty-requires
+    lowest-requires
+    set-at-requires
+    count-requires
+    add-len
+    add-len-2
+    without-lowest-requires
+    loop-less
+    loop-again
+    returns)

@@ -1,0 +1,45 @@
+-- The programs on lent bytes: the whole output of each at the front of a buffer that has room for any.
+use Prim.Native.Nat.{ℕ}
+use mathlib.Core.Bool.{Bool, cond}
+use mathlib.Core.Option.{Option, none, some}
+use mathlib.Core.List.{List, _++_}
+use lib.Dec.{leb}
+use lib.ListN.{length, take, drop}
+use Rattle.records.specs.Answer.{Refusal, Answer, gives, refuses}
+use Rattle.records.specs.JobFile.{JobFile}
+use Rattle.records.specs.Refusals.{refusalOf}
+use Rattle.tables.specs.Calls.{workBytes, zeros, foundBytes, findAsks}
+use Rattle.tables.specs.Programs.{judgedBytes, findProgram}
+use Rattle.tables.specs.declared.programs.Numbers.{Numbers}
+use Rattle.tables.specs.declared.programs.Output.{Output}
+use Rattle.tables.specs.declared.programs.Output.the-variants.{Wrote, Refused as Told, NoRoom}
+
+-- no program writes more: the heads of two records, 128 layers, and 128 entries of a head and 128 members
+abbrev pub mostOutput : ℕ
+mostOutput = 16780
+
+pub record Printed : Type 0 where
+  pub answer : Option (Answer ℕ)
+  pub out : List ℕ
+
+-- a buffer with less room stays as it was
+unfoldable pub printed : Answer ℕ → (output out : List ℕ) → Printed
+printed answer output out =
+    cond (leb mostOutput (length out)) (record { answer = some answer; out = output ++ drop (length output) out }) (record { answer = none; out = out })
+
+-- the length of the flow file or of 0013, or the refusal whose record is written
+abbrev pub findAnswer : Answer JobFile → Answer ℕ
+findAnswer (gives f) = gives (length (foundBytes f))
+findAnswer (refuses r) = refuses r
+
+abbrev pub findPrinted : (input out : List ℕ) → Printed
+findPrinted input out = printed (findAnswer (findAsks (take judgedBytes input) (zeros workBytes))) (findProgram input) out
+
+-- what the code answers
+abbrev pub outputOf : Output → Option (Answer ℕ)
+outputOf (Wrote k) = some (gives k)
+outputOf (Told q) = some (refuses (refusalOf q))
+outputOf NoRoom = none
+
+abbrev pub numbersOf : Numbers → Refusal
+numbersOf m = record { number = m .number; a = m .a; b = m .b }
