@@ -8,5 +8,4 @@ pub mod Judging
 pub mod LoadingFiles
 pub mod LoadingTables
 pub mod Printing
-pub mod Programs
 pub mod Solutions
