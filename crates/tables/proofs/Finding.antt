@@ -36,7 +36,7 @@ use Rattle.records.proofs.JobFile.{job-asked, measured-plane}
 use Rattle.records.proofs.ReadingRecords.{has-small}
 use Rattle.records.proofs.Loading.{room-enough}
 use Rattle.records.proofs.Found.{found-written}
-use Rattle.tables.specs.Calls.{workBytes, zeros, foundBytes, Outcome, put, findAsks, findCall}
+use Rattle.verdicts.specs.Calls.{workBytes, zeros, foundBytes, Outcome, put, findAsks, findCall}
 use Rattle.tables.specs.Replies.{putReply, recordsFor}
 
 -- ---- the buffers

@@ -1,11 +1,7 @@
 pub mod Asking
 pub mod AskingDefinition
 pub mod AskingNodes
-pub mod Cases
-pub mod Demand
 pub mod Finding
-pub mod Judging
 pub mod LoadingFiles
 pub mod LoadingTables
 pub mod Printing
-pub mod Solutions

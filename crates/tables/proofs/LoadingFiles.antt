@@ -15,7 +15,7 @@ use Rattle.records.specs.Records.{written, kindAccepted}
 use Rattle.records.specs.JobFile.{JobFile, mostNodes, modeCausal, measuredOf, all, has, joined, readJob, jobOf}
 use Rattle.records.specs.FlowFile.{SetEntry, FlowFile, Flow, framed, listed, allEntries, entryBelow, readFlow, setIn, entryIn, flowOf}
 use Rattle.verdicts.specs.Verdict.{verify}
-use Rattle.tables.specs.Calls.{verdict, verifyAsks, put, verifyCall}
+use Rattle.verdicts.specs.Calls.{verdict, verifyAsks, put, verifyCall}
 use Rattle.records.specs.Refusals.{refusalOf}
 use Rattle.records.specs.Views.{fileAt, jobOfRead, JobLies, JobInside, flowAt, flowOfRead, FlowLies, FlowInside}
 use Rattle.tables.specs.Loaded.{askedOf, flowAsks}

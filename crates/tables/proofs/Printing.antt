@@ -21,10 +21,10 @@ use Rattle.records.specs.Splice.{putFirst}
 use Rattle.records.proofs.Records.{written-length}
 use Rattle.records.proofs.JobFile.{job-asked}
 use Rattle.records.proofs.Writing.{found-most}
-use Rattle.tables.specs.Calls.{zeros, search, foundBytes, Outcome, put, findAsks, findOutcome, findCall}
-use Rattle.tables.specs.Programs.{refusalBytes, findOutput}
+use Rattle.verdicts.specs.Calls.{zeros, search, foundBytes, Outcome, put, findAsks, findOutcome, findCall}
+use Rattle.verdicts.specs.Programs.{refusalBytes, findOutput}
 use Rattle.tables.specs.Printing.{mostOutput, Printed, printed, findAnswer}
-use Rattle.tables.proofs.Demand.{asked-find}
+use Rattle.verdicts.proofs.Demand.{asked-find}
 
 -- the bytes that are judged
 pub first-bytes : (k n : ℕ) (l : List ℕ) → n ≡ min k (length l) → take (n - 0) (drop 0 l) ≡ take k l

@@ -15,7 +15,7 @@ use Rattle.records.specs.Answer.{Refusal, Answer, gives, refuses, _>>_}
 use Rattle.records.specs.JobFile.{JobFile, Measured, measuredOf, jobOf}
 use Rattle.records.specs.FlowFile.{FlowFile, Flow, nothingLeft, oneMember, flowOf}
 use Rattle.verdicts.specs.Verdict.{verify}
-use Rattle.tables.specs.Calls.{verdict}
+use Rattle.verdicts.specs.Calls.{verdict}
 use Rattle.records.specs.Refusals.{refusalOf}
 use Rattle.records.specs.Views.{bytesAt}
 use Rattle.tables.specs.declared.Measured as Places

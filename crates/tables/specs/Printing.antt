@@ -8,8 +8,8 @@ use lib.ListN.{length, take, drop}
 use Rattle.records.specs.Answer.{Refusal, Answer, gives, refuses}
 use Rattle.records.specs.JobFile.{JobFile}
 use Rattle.records.specs.Refusals.{refusalOf}
-use Rattle.tables.specs.Calls.{workBytes, zeros, foundBytes, findAsks}
-use Rattle.tables.specs.Programs.{judgedBytes, findProgram}
+use Rattle.verdicts.specs.Calls.{workBytes, zeros, foundBytes, findAsks}
+use Rattle.verdicts.specs.Programs.{judgedBytes, findProgram}
 use Rattle.tables.specs.declared.programs.Numbers.{Numbers}
 use Rattle.tables.specs.declared.programs.Output.{Output}
 use Rattle.tables.specs.declared.programs.Output.the-variants.{Wrote, Refused as Told, NoRoom}

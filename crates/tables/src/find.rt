@@ -12,7 +12,7 @@ ghost use Rattle.records.specs.Records.{written, kindNoFlow};
 ghost use Rattle.records.specs.JobFile.{has, readJob, modePlanes, modePauli};
 ghost use Rattle.records.specs.Views.{bytesAt, Lies, fileAt, JobLies};
 ghost use Rattle.records.specs.Splice.{putFirst, putCount, putOf};
-ghost use Rattle.tables.specs.Calls.{workBytes, zeros, foundBytes, put, findCall};
+ghost use Rattle.verdicts.specs.Calls.{workBytes, zeros, foundBytes, put, findCall};
 ghost use Rattle.tables.specs.Replies.{replyOf, putReply, recordsFor};
 use finder::CAPACITY;
 use finder::TABLE_WORDS;

@@ -19,7 +19,7 @@ ghost use Rattle.records.specs.JobFile.{modeCausal, measuredOf, jobOf};
 ghost use Rattle.records.specs.FlowFile.{entriesOf, listed, allEntries, flowOf};
 ghost use Rattle.records.specs.Encoding.{ValidJob, ValidFlow};
 ghost use Rattle.verdicts.specs.Verdict.{verify as verifyOf};
-ghost use Rattle.tables.specs.Calls.{verdict, verifyAsks, put, verifyCall};
+ghost use Rattle.verdicts.specs.Calls.{verdict, verifyAsks, put, verifyCall};
 ghost use Rattle.records.specs.Views.{Lies, fileAt, JobLies, flowAt, FlowLies};
 ghost use Rattle.tables.specs.Loaded.{flowIn, askedOf, measuredAt, flowAsks, verifiedOf};
 use nodes::utils::NodeSet;

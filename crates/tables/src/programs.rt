@@ -5,7 +5,7 @@ ghost use lib.ListN.{length};
 ghost use Rattle.records.specs.Answer.{refusal};
 ghost use Rattle.records.specs.Refusals.{refusalOf};
 ghost use Rattle.records.specs.Splice.{putFirst};
-ghost use Rattle.tables.specs.Programs.{judgedBytes, refusalBytes};
+ghost use Rattle.verdicts.specs.Programs.{judgedBytes, refusalBytes};
 ghost use Rattle.tables.specs.Printing.{mostOutput, findPrinted, outputOf, numbersOf};
 use crate::find::Reply;
 use crate::find::find;

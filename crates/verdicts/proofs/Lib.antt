@@ -1,3 +1,7 @@
+pub mod Cases
+pub mod Demand
+pub mod Judging
 pub mod Published
 pub mod Questions
+pub mod Solutions
 pub mod Verdict

@@ -1,1 +1,1 @@
-// The verifiers of the three modes.
+// The questions of the verifiers, the calls, the programs and the demands: definitions and theorems, no code.

@@ -2,7 +2,7 @@ use mathlib.Core.Path.{_≡_, sym, ap, _∙_}
 use native.Mathlib.Omega.{arith}
 use lib.ListN.{length, length-drop}
 use borrow.Author.Tests.{not-true, not-false}
-use Rattle.tables.specs.Calls.{verdict}
+use Rattle.verdicts.specs.Calls.{verdict}
 use Rattle.records.specs.Views.{fileAt, flowAt}
 use Rattle.tables.proofs.LoadingFiles.{some-left, not-one, all-one}
 use borrow.Author.Needs.{needs}

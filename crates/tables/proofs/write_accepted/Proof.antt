@@ -7,7 +7,7 @@ use lib.Seq.{sets-eq}
 use borrow.Author.Tests.{le-leb, lt-leb}
 use Rattle.records.specs.Records.{written}
 use Rattle.records.specs.Answer.{gives}
-use Rattle.tables.specs.Calls.{Outcome, put}
+use Rattle.verdicts.specs.Calls.{Outcome, put}
 use borrow.Author.Needs.{needs}
 use Rattle.tables.proofs.write_accepted.Statement.{statement}
 use Rattle.tables.proofs.write_accepted.Tie as tie

@@ -14,7 +14,7 @@ use Rattle.finder.specs.Finding.{Outcome, searched, searchCall}
 use Rattle.records.specs.JobFile.{JobFile, Measured, modePlanes, jobOf}
 use Rattle.records.specs.Views.{bytesAt, fileAt}
 use Rattle.records.specs.Splice.{putFirst, putCount}
-use Rattle.tables.specs.Calls.{workBytes, zeros, foundBytes}
+use Rattle.verdicts.specs.Calls.{workBytes, zeros, foundBytes}
 use Rattle.tables.specs.Replies.{putReply, recordsFor}
 use Rattle.tables.proofs.Finding.{zeros-same, put-is, told-flow, told-none, told-right, valid, search-same, flow-written, none-written}
 use Rattle.tables.proofs.find.find_job.Statement.{statement}

@@ -6,8 +6,8 @@ use borrow.Author.Needs.{needs}
 use lib.ListN.{take}
 use Rattle.records.specs.Refusals.{refusalOf}
 use Rattle.tables.specs.declared.find.Reply.{Reply}
-use Rattle.tables.specs.Calls.{workBytes, zeros, Outcome, findAsks, findCall}
-use Rattle.tables.specs.Programs.{judgedBytes, findProgram}
+use Rattle.verdicts.specs.Calls.{workBytes, zeros, Outcome, findAsks, findCall}
+use Rattle.verdicts.specs.Programs.{judgedBytes, findProgram}
 use Rattle.tables.specs.Replies.{replyOf}
 use Rattle.tables.specs.Printing.{findAnswer}
 use Rattle.tables.proofs.Finding.{zeros-same}

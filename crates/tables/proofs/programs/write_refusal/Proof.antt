@@ -2,7 +2,7 @@ use mathlib.Core.Path.{ap, _∙_}
 use borrow.Author.Needs.{needs}
 use Rattle.records.specs.Answer.{Refusal}
 use Rattle.records.specs.Splice.{putFirst}
-use Rattle.tables.specs.Programs.{refusalBytes}
+use Rattle.verdicts.specs.Programs.{refusalBytes}
 use Rattle.tables.proofs.programs.write_refusal.Statement.{statement}
 use Rattle.tables.proofs.programs.write_refusal.Tie as tie
 

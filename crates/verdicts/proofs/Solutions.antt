@@ -23,15 +23,15 @@ use Rattle.records.specs.Records.{written, kindNoFlow}
 use Rattle.records.specs.JobFile.{JobFile, readJob, jobOf, modePlanes, modePauli, has}
 use Rattle.records.specs.FlowFile.{FlowFile, flowOf, readFlow}
 use Rattle.records.specs.Encoding.{foundFlow}
-use Rattle.tables.specs.Calls.{findCall, findAsks, findOutcome, foundBytes, zeros}
+use Rattle.verdicts.specs.Calls.{findCall, findAsks, findOutcome, foundBytes, zeros}
 use Rattle.records.specs.Writing.{flowBytes}
 use Rattle.verdicts.specs.Published.{Measured}
-use Rattle.tables.specs.Demand.{FlowBytes, layerIn}
-use Rattle.tables.specs.Solutions.{contextIn, systemIn, others, TheSolution, Demand2}
+use Rattle.verdicts.specs.Demand.{FlowBytes, layerIn}
+use Rattle.verdicts.specs.Solutions.{contextIn, systemIn, others, TheSolution, Demand2}
 use Rattle.records.proofs.Records.{give-inj, never}
 use Rattle.records.proofs.FlowFile.{members-below, nodes-below}
 use Rattle.records.proofs.Writing.{found-valid, found-layer, found-entry, found-set, no-flow-unread}
-use Rattle.tables.proofs.Demand.{asked-find, put-fits, reads-back, wrote-none, found-cases}
+use Rattle.verdicts.proofs.Demand.{asked-find, put-fits, reads-back, wrote-none, found-cases}
 
 listed-has : (l : List ℕ) (b : ℕ) → listed l b ≡ has l b
 unfolding listed has

@@ -13,8 +13,8 @@ use Rattle.flows.specs.Paulis as Paulis
 use Rattle.records.specs.Answer.{Answer as Reply, gives}
 use Rattle.records.specs.JobFile.{JobFile, readJob, jobOf, measuredOf, modePlanes, has}
 use Rattle.records.specs.FlowFile.{FlowFile, flowOf}
-use Rattle.tables.specs.Calls.{findCall}
-use Rattle.tables.specs.Demand.{FlowBytes, layerIn}
+use Rattle.verdicts.specs.Calls.{findCall}
+use Rattle.verdicts.specs.Demand.{FlowBytes, layerIn}
 
 -- what u met in its round, r being its layer: the nodes of layers below r were solved
 abbrev pub contextIn : JobFile → FlowFile → ℕ → Context

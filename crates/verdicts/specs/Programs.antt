@@ -5,7 +5,7 @@ use lib.ListN.{take}
 use Rattle.records.specs.Answer.{Refusal, Answer, gives, refuses}
 use Rattle.records.specs.Records.{written, headBytes, kindAccepted, kindRefusal}
 use Rattle.records.specs.JobFile.{JobFile, mostNodes}
-use Rattle.tables.specs.Calls.{workBytes, zeros, foundBytes, findAsks, verifyAsks}
+use Rattle.verdicts.specs.Calls.{workBytes, zeros, foundBytes, findAsks, verifyAsks}
 
 -- each judges the first 65,536 bytes
 abbrev pub judgedBytes : ℕ

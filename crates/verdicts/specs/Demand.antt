@@ -11,7 +11,7 @@ use Rattle.records.specs.Answer.{Answer, gives}
 use Rattle.records.specs.Records.{written, kindNoFlow}
 use Rattle.records.specs.JobFile.{JobFile, readJob, jobOf, measuredOf, modePlanes}
 use Rattle.records.specs.FlowFile.{FlowFile, readFlow}
-use Rattle.tables.specs.Calls.{findCall, verifyAsks}
+use Rattle.verdicts.specs.Calls.{findCall, verifyAsks}
 
 abbrev pub premise : JobFile → Bool
 premise f = cond (eqb (measuredOf f .mode) modePlanes) (planesPremise (jobOf f)) (paulisPremise (jobOf f))

@@ -9,7 +9,7 @@ use Rattle.solver.specs.Solver as Solver
 use Rattle.solver.specs.declared.gf2_linalg.Solved.{Solved}
 use Rattle.solver.specs.declared.gf2_linalg.Solved.the-variants.{Solvable, Unsolvable, WrongShape, NoSuchEquation}
 use Rattle.records.specs.Records.{written, kindOpen, kindEdges, kindInputs, kindOutputs, kindMeasurements, kindLayers, kindSets, kindNoFlow, kindAccepted, kindRefusal}
-use Rattle.tables.specs.Programs.{findProgram, verifyProgram}
+use Rattle.verdicts.specs.Programs.{findProgram, verifyProgram}
 
 pub data Case : Type 0 where
   -- the finder writes these bytes for the job, and each of these flows is accepted for it

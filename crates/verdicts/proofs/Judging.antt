@@ -14,13 +14,13 @@ use Rattle.records.specs.Answer.{Refusal, Answer, gives, refuses, _>>=_, _>>_}
 use Rattle.records.specs.JobFile.{JobFile, readJob, jobOf, modeCausal, modePlanes, modePauli}
 use Rattle.records.specs.FlowFile.{FlowFile, readFlow, flowOf, nothingLeft, oneMember, entryIn, setIn}
 use Rattle.records.specs.Encoding.{ValidJob, ValidFlow}
 use Rattle.verdicts.specs.Verdict.{verify}
-use Rattle.tables.specs.Calls.{verdict, verifyAsks}
+use Rattle.verdicts.specs.Calls.{verdict, verifyAsks}
 use Rattle.verdicts.specs.Published.{Measured, CausalAccepted, PlanesAccepted, PaulisAccepted}
 use Rattle.records.proofs.Records.{give-inj, never, bind-out}
 use Rattle.records.proofs.JobFile.{job-asked, job-append, behind, measured-range, output-zero, measured-most, measured-plane}
 use Rattle.records.proofs.FlowFile.{flow-asked, set-entry, members-below, nodes-below, nothing-left, one-member-asked, one-member-other, one-member}
 use Rattle.verdicts.proofs.Published.{one-to-three, Readable, planes-accepts, accepts-planes, paulis-accepts, accepts-paulis, causal-accepts, accepts-causal}
 
 verdict-out : (o : Option Refusal) (b : Bool) → verdict o ≡ gives b → o ≡ none
 verdict-out none b e = refl
