@@ -12,13 +12,12 @@ use Rattle.nodes.specs.SetTable.{setAt}
 use Rattle.nodes.specs.declared.utils.NodeSet.{NodeSet}
 use Rattle.flows.specs.Job.{pauliY, isXorY, isYorZ}
 use Rattle.records.specs.Answer.{Refusal, Answer, gives, refuses, _>>_}
-use Rattle.records.specs.JobFile.{JobFile, Measured, measuredOf, jobOf}
+use Rattle.records.specs.JobFile.{JobFile, measuredOf, jobOf}
 use Rattle.records.specs.FlowFile.{FlowFile, Flow, nothingLeft, oneMember, flowOf}
 use Rattle.verdicts.specs.Verdict.{verify}
 use Rattle.verdicts.specs.Calls.{verdict}
 use Rattle.records.specs.Refusals.{refusalOf}
 use Rattle.records.specs.Views.{bytesAt}
-use Rattle.tables.specs.declared.Measured as Places
 use Rattle.tables.specs.declared.Verified.{Verified}
 use Rattle.tables.specs.declared.Verified.the-variants.{Accepted, Refused as NotAccepted}
 use Rattle.tables.specs.declared.pflow.Paulis.{Paulis}
@@ -50,10 +49,6 @@ pub record Sorted (n : ℕ) (measured : List ℕ) (p : Paulis) : Type 0 where
   pub membersFree : member (p .xy) ≡ (λ v. within n v && isXorY (getD measured v 0))
   pub oddsFree : member (p .yz) ≡ (λ v. within n v && isYorZ (getD measured v 0))
   pub bothFree : member (p .y) ≡ (λ v. within n v && eqb (getD measured v 0) pauliY)
-
--- the mode and the measurements to work with, by their place in the file
-abbrev pub measuredAt : List ℕ → Places.Measured → Measured
-measuredAt s m = record { mode = m .mode; measurements = bytesAt (m .measurements) s }
 
 -- the number of bytes written, or the refusal
 abbrev pub verifiedOf : Verified → Answer ℕ

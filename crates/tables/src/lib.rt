@@ -21,7 +21,7 @@ ghost use Rattle.records.specs.Encoding.{ValidJob, ValidFlow};
 ghost use Rattle.verdicts.specs.Verdict.{verify as verifyOf};
 ghost use Rattle.verdicts.specs.Calls.{verdict, verifyAsks, put, verifyCall};
 ghost use Rattle.records.specs.Views.{Lies, fileAt, JobLies, flowAt, FlowLies};
-ghost use Rattle.tables.specs.Loaded.{flowIn, askedOf, measuredAt, flowAsks, verifiedOf};
+ghost use Rattle.tables.specs.Loaded.{flowIn, askedOf, flowAsks, verifiedOf};
 use nodes::utils::NodeSet;
 use records::common::FlowPlaces;
 use records::common::FlowRead;
@@ -33,6 +33,7 @@ use records::common::MODE_CAUSAL;
 use records::common::MODE_PAULI;
 use records::common::Place;
 use records::common::Refused;
+use records::load::measured_of;
 use validate::Asked;
 
 // The words of a table with a set for each node.
@@ -42,24 +43,6 @@ const TABLE_WORDS: usize = 256;
 pub enum Verified {
     Accepted(usize),
     Refused(Refused),
-}
-
-// The mode and the measurements to work with.
-struct Measured {
-    mode: u8,
-    measurements: Place,
-}
-
-// Today those of the file.
-fn measured_of(job: JobPlaces) -> Measured
-    ensures { λ r. ⌜ ((s : List ℕ) → measuredAt s r ≡ measuredOf (fileAt s job)) ⌝ }
-    ensures { λ r. ⌜ ((s : List ℕ) → Lies s (job .measurements) → Lies s (r .measurements)) ⌝ }
-{
-    let measurements = job.measurements;
-    Measured {
-        mode: job.mode,
-        measurements,
-    }
 }
 
 // Questions 13 to 19 in their order. Reading allows modes 1 to 3; any other would be asked as mode 2.
