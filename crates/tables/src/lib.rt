@@ -2,7 +2,7 @@
 pub mod find; // find.rt: the finder, from a job file to a flow file
 mod flow; // flow.rt: checking a causal flow
 mod gflow; // gflow.rt: checking a generalized flow
-mod load; // load.rt: a file's edges and sets as tables of sets
+mod load; // load.rt: a file's sets as a table of sets
 mod pflow; // pflow.rt: checking a Pauli flow
 pub mod programs; // programs.rt: the two programs on lent bytes
 mod validate; // validate.rt: what every flow is asked
@@ -33,6 +33,7 @@ use records::common::MODE_CAUSAL;
 use records::common::MODE_PAULI;
 use records::common::Place;
 use records::common::Refused;
+use records::load::load_graph;
 use records::load::measured_of;
 use validate::Asked;
 
@@ -128,7 +129,7 @@ fn verify_job(file: &[u8], job: JobPlaces, flow: FlowPlaces) -> Asked
     let edges = job.edges;
     let start = edges.start;
     let end = edges.end;
-    load::load_graph(&file[start..end], &mut graph);
+    load_graph(&file[start..end], &mut graph);
     let inputs = job.inputs;
     let first = inputs.start;
     let past = inputs.end;

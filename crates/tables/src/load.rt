@@ -1,4 +1,4 @@
-// A file's edges and sets as tables of sets, a set for each node.
+// A file's sets as a table of sets, a set for each node.
 ghost use mathlib.Core.Path.{_≡_};
 ghost use mathlib.Core.Bool.{true, _&&_, _||_};
 ghost use Prim.Native.Nat.{ℕ, _≤_};
@@ -7,7 +7,6 @@ ghost use lib.ListN.{length};
 ghost use Rattle.nodes.specs.NodeSet.{member, highest, capacity};
 ghost use Rattle.nodes.specs.SetTable.{setAt};
 ghost use Rattle.finder.specs.Finder.{tableWords};
-ghost use Rattle.records.specs.JobFile.{all, joined};
 ghost use Rattle.records.specs.FlowFile.{entriesOf, framed, listed, allEntries, entryBelow, setIn, entryIn};
 use nodes::utils::NodeSet;
 use nodes::utils::clear_table;
@@ -22,31 +21,6 @@ fn add_set(table: &mut [u64], u: u8, more: NodeSet)
 {
     let old = set_at(table, u);
     put_set(table, u, old.union(more));
-}
-
-// Node b becomes a neighbor of a.
-fn join(graph: &mut [u64], a: u8, b: u8)
-    requires { ⌜ (length (now graph) ≡ tableWords) × (a ≤ highest) × (b ≤ highest) ⌝ }
-    ensures { λ _. ⌜ ((u v : ℕ) → setAt (now (graph .exit)) u v ≡ setAt (now (graph .entry)) u v || (eqb u a && eqb v b)) ⌝ }
-{
-    let one = NodeSet::empty().with(b);
-    add_set(graph, a, one);
-}
-
-// Each edge joins both ways.
-pub(crate) fn load_graph(edges: &[u8], graph: &mut [u64])
-    requires { ⌜ (length (now graph) ≡ tableWords) × (all (λ v. leb v highest) (now edges) ≡ true) ⌝ }
-    ensures { λ _. ⌜ ((u v : ℕ) → setAt (now (graph .exit)) u v ≡ joined (now (edges .entry)) u v) ⌝ }
-{
-    clear_table(graph);
-    let mut i = 0;
-    while edges.len() - i >= 2 {
-        let a = edges[i];
-        let b = edges[i + 1];
-        join(graph, a, b);
-        join(graph, b, a);
-        i += 2;
-    }
 }
 
 // Do the entries end exactly with the payload?
