@@ -1,21 +1,20 @@
 -- A search gives a node no member that is no node of the job.
 use Prim.Native.Nat.{ℕ, zero, suc, _+_, _<_}
-use mathlib.Core.Path.{_≡_, refl, sym, ap, _∙_, subst}
-use mathlib.Core.Bool.{Bool, true, false, cond, not, _&&_, _||_}
+use mathlib.Core.Path.{_≡_, refl, sym, ap, subst}
+use mathlib.Core.Bool.{Bool, true, false, cond, _&&_}
 use mathlib.Core.Logic.{_⊎_, inl, inr}
-use mathlib.Core.Option.{Option, none, some, Option·none-ne-some, Option·some-injective}
+use mathlib.Core.Option.{Option, none, some, Option·none-ne-some}
 use lib.Dec.{T, eqb, eqb→eq}
 use Rattle.nodes.specs.Row.{anyBelow}
 use Rattle.nodes.proofs.Logic.{and-r, or-out}
-use Rattle.solver.specs.System.{isSome}
 use Rattle.flows.specs.Job.{Job}
-use Rattle.flows.specs.Branch.{Context, inSet, branches, tryBranch, tryNode}
+use Rattle.flows.specs.Branch.{Context, inSet, branches, tryNode}
 use Rattle.flows.specs.Search.{Progress, start, solvedNow, orNone, round, rounds, noNode}
 use Rattle.flows.specs.Planes as Planes
 use Rattle.flows.specs.Paulis as Paulis
 use Rattle.finder.specs.Finder.{progressAt}
 use Rattle.flows.proofs.Search.{rounds-step, Ended}
-use Rattle.flows.proofs.Tries.{FirstOf, first-of, branch-answer}
+use Rattle.flows.proofs.Tries.{first-of, branch-answer}
 
 abbrev pub Below : ℕ → (ℕ → Bool) → Type 0
 Below n s = (k : ℕ) → T (s k) → k < n

@@ -1,5 +1,4 @@
 pub mod FlowFile
-pub mod Found
 pub mod JobFile
 pub mod Loading
 pub mod ReadingEntries

@@ -1,20 +1,19 @@
 -- Edges as a table of sets: those put in so far, and those of the rest.
-use Prim.Native.Nat.{ℕ, zero, suc, _+_, _*_, _-_, _<_, _≤_}
-use mathlib.Core.Path.{_≡_, refl, sym, ap, ap₂, _∙_}
+use Prim.Native.Nat.{ℕ, _+_, _*_, _-_, _<_, _≤_}
+use mathlib.Core.Path.{_≡_, refl, sym, ap, _∙_}
 use mathlib.Core.Bool.{Bool, true, false, cond, _&&_, _||_}
 use mathlib.Core.Logic.{_⊎_, inl, inr}
-use mathlib.Core.List.{List, [], _∷_}
+use mathlib.Core.List.{List, _∷_}
 use native.Mathlib.Omega.{arith}
 use native.Mathlib.Decide.{ℕ-discrete}
 use borrow.Author.Tests.{le-leb, lt-leb}
 use lib.Dec.{T, eqb, leb, ltb}
 use lib.ListN.{length, getD, drop}
-use Rattle.nodes.specs.NodeSet.{member, wordsOf, memberOf, highest, capacity}
+use Rattle.nodes.specs.NodeSet.{member, wordsOf, highest, capacity}
 use Rattle.nodes.specs.SetTable.{setWords, setAt, putSet, zeros}
 use Rattle.nodes.specs.declared.utils.NodeSet.{NodeSet}
 use Rattle.nodes.proofs.Logic.{is-false, dec, and-all, and-none, or-none, eqb-comm, eqb-yes, eqb-no, le-or-lt}
 use Rattle.nodes.proofs.SetTable.{put-each, put-out, zeros-empty}
-use Rattle.finder.specs.Finder.{tableWords}
 use Rattle.records.specs.JobFile.{all, joined}
 use Rattle.records.specs.Loading.{hasSet, room}
 use Rattle.records.proofs.JobFile.{joined-below}
@@ -84,7 +83,7 @@ module _ (l : List ℕ) (i : ℕ) (u v : ℕ) where
       by false m x p q z = rw (and-none (x || p && q || z), and-none x, and-none (q && p), and-none z, or-none m, or-none m, or-none m)
 
 -- a table for each node has room for every edge
-pub room-enough : (ws : List ℕ) (l : List ℕ) (n : ℕ) → length ws ≡ tableWords → n ≤ capacity → all (λ v. ltb v n) l ≡ true → (u v : ℕ) → (joined l u v && room ws u v) ≡ joined l u v
+pub room-enough : (ws : List ℕ) (l : List ℕ) (n : ℕ) → length ws ≡ capacity * setWords → n ≤ capacity → all (λ v. ltb v n) l ≡ true → (u v : ℕ) → (joined l u v && room ws u v) ≡ joined l u v
 room-enough ws l n e h a u v = by (dec (joined l u v))
   where
     by : T (joined l u v) ⊎ (T (joined l u v) → ⊥) → (joined l u v && room ws u v) ≡ joined l u v

@@ -1,8 +1,8 @@
 -- The loops of the writer: what is left to write from here on makes the whole.
-use Prim.Native.Nat.{ℕ, zero, suc, _+_, _*_, _≤_, _<_}
-use mathlib.Core.Path.{_≡_, refl, sym, ap, ap₂, _∙_, subst}
+use Prim.Native.Nat.{ℕ, suc, _+_, _*_, _≤_, _<_}
+use mathlib.Core.Path.{_≡_, refl, sym, ap, ap₂, _∙_}
 use mathlib.Core.Bool.{Bool}
-use mathlib.Core.Option.{Option, some, none}
+use mathlib.Core.Option.{some, none}
 use mathlib.Core.List.{List, [], _∷_, _++_}
 use native.Mathlib.Omega.{arith}
 use borrow.Author.Tests.{le-leb, lt-leb}
@@ -15,10 +15,10 @@ use Rattle.nodes.proofs.Count.{count-empty, count-le}
 use Rattle.nodes.proofs.Members.{members-length, lowest-some}
 use Rattle.nodes.proofs.Remove.{removed, count-lowest, members-cons}
 use Rattle.records.specs.Records.{headBytes, written, kindLayers, kindSets}
-use Rattle.records.specs.Writing.{setBytes, flowRecords}
+use Rattle.records.specs.Writing.{setBytes}
 use Rattle.records.specs.Splice.{splice, headOf, putFirst, putCount}
 use Rattle.records.proofs.Records.{written-length}
-use Rattle.records.proofs.Splice.{splice-none, splice-more, splice-cons, splice-splice}
+use Rattle.records.proofs.Splice.{splice-more, splice-cons, splice-splice}
 
 -- ---- a payload, byte by byte
 pub bytes-more : (at i : ℕ) (b l m : List ℕ) → i < length b → at + length b ≤ length l → m ≡ splice at (take i b) l → splice (at + i) (getD b i 0 ∷ []) m ≡ splice at (take (i + 1) b) l

@@ -3,8 +3,7 @@
 use Prim.Native.Nat.{ℕ, zero, suc, _≤_, _<_}
 use mathlib.Core.Path.{_≡_, refl, sym, ap, ap₂, _∙_, fun-ext}
 use mathlib.Core.Bool.{Bool, true, false, cond, not, _&&_, _||_}
-use mathlib.Core.Logic.{_⊎_, inl, inr}
-use mathlib.Core.Option.{Option, none, some}
+use mathlib.Core.Option.{none, some}
 use mathlib.Core.List.{List, [], _∷_, _++_}
 use native.Mathlib.Omega.{arith}
 use borrow.Author.Tests.{le-leb, eq-eqb, eqb-true}
@@ -27,7 +26,7 @@ use Rattle.finder.specs.declared.gflow.Search.the-variants.{Flow, NoFlow, Wrong
 use Rattle.finder.proofs.Below.{progress-below}
 use Rattle.records.specs.Answer.{Refusal, Answer, gives, refuses, refusal}
 use Rattle.records.specs.Records.{written, kindNoFlow}
-use Rattle.records.specs.JobFile.{JobFile, Measured, all, has, joined, readJob, modePlanes, modePauli, measuredOf, jobOf}
+use Rattle.records.specs.JobFile.{JobFile, has, joined, readJob, modePlanes, modePauli, measuredOf, jobOf}
 use Rattle.records.specs.Encoding.{ValidJob}
 use Rattle.records.specs.Writing.{flowBytes}
 use Rattle.records.specs.Loading.{room}
@@ -35,7 +34,7 @@ use Rattle.records.specs.Splice.{putFirst, putCount}
 use Rattle.records.proofs.JobFile.{job-asked, measured-plane}
 use Rattle.records.proofs.ReadingRecords.{has-small}
 use Rattle.records.proofs.Loading.{room-enough}
-use Rattle.records.proofs.Found.{found-written}
+use Rattle.tables.proofs.Found.{found-written}
 use Rattle.verdicts.specs.Calls.{workBytes, zeros, foundBytes, Outcome, put, findAsks, findCall}
 use Rattle.tables.specs.Replies.{putReply, recordsFor}
 

@@ -2,6 +2,8 @@ pub mod Asking
 pub mod AskingDefinition
 pub mod AskingNodes
 pub mod Finding
+pub mod Found
 pub mod LoadingFiles
 pub mod LoadingTables
 pub mod Printing
+pub mod Programs

@@ -5,10 +5,10 @@ use mathlib.Core.Bool.{Bool, true, false, not, _&&_, _||_, false≢true}
 use mathlib.Core.Option.{Option, none, some}
 use mathlib.Core.List.{List, [], _∷_}
 use native.Mathlib.Omega.{arith}
-use borrow.Author.Tests.{ltb-true, lt-ltb, le-leb, eq-eqb, ne-eqb}
-use lib.Dec.{eqb, leb, ltb}
+use borrow.Author.Tests.{ltb-true, lt-ltb, eq-eqb, ne-eqb}
+use lib.Dec.{eqb, ltb}
 use lib.ListN.{length, getD}
-use Rattle.nodes.specs.NodeSet.{highest, capacity}
+use Rattle.nodes.specs.NodeSet.{capacity}
 use Rattle.flows.specs.Job.{Job}
 use Rattle.records.specs.Answer.{Refusal, refusal, gives, refuses}
 use Rattle.records.specs.Records.{written, kindAccepted}
@@ -52,9 +52,6 @@ pub flow-inside : (s : List ℕ) (r : FlowRead) → FlowInside s r → (p : Flow
 flow-inside s r h p t = rw t at h
 
 -- ---- every node that was read fits a set
-pub all-fit : (n : ℕ) (l : List ℕ) → n ≤ mostNodes → all (λ v. ltb v n) l ≡ true → all (λ v. leb v highest) l ≡ true
-all-fit n l h = all-more (λ v. ltb v n) (λ v. leb v highest) l (λ v t. let g : v < n = ltb-true v n t in le-leb v highest (omega arith))
-
 pub entries-fit : (n : ℕ) (es : List SetEntry) → n ≤ mostNodes → allEntries (entryBelow n) es ≡ true → allEntries (entryBelow capacity) es ≡ true
 unfolding allEntries
 entries-fit n [] h t = refl

@@ -17,7 +17,6 @@ use Rattle.records.specs.FlowFile.{FlowFile, Flow, nothingLeft, oneMember, flow
 use Rattle.verdicts.specs.Verdict.{verify}
 use Rattle.verdicts.specs.Calls.{verdict}
 use Rattle.records.specs.Refusals.{refusalOf}
-use Rattle.records.specs.Views.{bytesAt}
 use Rattle.tables.specs.declared.Verified.{Verified}
 use Rattle.tables.specs.declared.Verified.the-variants.{Accepted, Refused as NotAccepted}
 use Rattle.tables.specs.declared.pflow.Paulis.{Paulis}

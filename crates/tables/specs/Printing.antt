@@ -1,18 +1,19 @@
 -- The programs on lent bytes: the whole output of each at the front of a buffer that has room for any.
-use Prim.Native.Nat.{ℕ}
+use Prim.Native.Nat.{ℕ, _≤_}
 use mathlib.Core.Bool.{Bool, cond}
 use mathlib.Core.Option.{Option, none, some}
-use mathlib.Core.List.{List, _++_}
+use mathlib.Core.List.{List, [], _++_}
 use lib.Dec.{leb}
 use lib.ListN.{length, take, drop}
 use Rattle.records.specs.Answer.{Refusal, Answer, gives, refuses}
+use Rattle.records.specs.Records.{written, kindAccepted}
 use Rattle.records.specs.JobFile.{JobFile}
 use Rattle.records.specs.Refusals.{refusalOf}
-use Rattle.verdicts.specs.Calls.{workBytes, zeros, foundBytes, findAsks}
-use Rattle.verdicts.specs.Programs.{judgedBytes, findProgram}
-use Rattle.tables.specs.declared.programs.Numbers.{Numbers}
-use Rattle.tables.specs.declared.programs.Output.{Output}
-use Rattle.tables.specs.declared.programs.Output.the-variants.{Wrote, Refused as Told, NoRoom}
+use Rattle.verdicts.specs.Calls.{workBytes, zeros, foundBytes, findAsks, verifyAsks}
+use Rattle.verdicts.specs.Programs.{judgedBytes, findProgram, verifyProgram}
+use Rattle.tables.specs.declared.output.Numbers.{Numbers}
+use Rattle.tables.specs.declared.output.Output.{Output}
+use Rattle.tables.specs.declared.output.Output.the-variants.{Wrote, Refused as Told, NoRoom}
 
 -- no program writes more: the heads of two records, 128 layers, and 128 entries of a head and 128 members
 abbrev pub mostOutput : ℕ
@@ -35,11 +36,25 @@ findAnswer (refuses r) = refuses r
 abbrev pub findPrinted : (input out : List ℕ) → Printed
 findPrinted input out = printed (findAnswer (findAsks (take judgedBytes input) (zeros workBytes))) (findProgram input) out
 
+-- the length of 0014, or the refusal
+abbrev pub verifyAnswer : Answer Bool → Answer ℕ
+verifyAnswer (gives b) = gives (length (written kindAccepted []))
+verifyAnswer (refuses r) = refuses r
+
+abbrev pub verifyPrinted : (input out : List ℕ) → Printed
+verifyPrinted input out = printed (verifyAnswer (verifyAsks (take judgedBytes input))) (verifyProgram input) out
+
 -- what the code answers
 abbrev pub outputOf : Output → Option (Answer ℕ)
 outputOf (Wrote k) = some (gives k)
 outputOf (Told q) = some (refuses (refusalOf q))
 outputOf NoRoom = none
+
+-- what the answer says lies in the buffer
+abbrev pub InRoom : Output → Type 0
+InRoom (Wrote k) = k ≤ mostOutput
+InRoom (Told q) = Unit
+InRoom NoRoom = Unit
 
 abbrev pub numbersOf : Numbers → Refusal
 numbersOf m = record { number = m .number; a = m .a; b = m .b }

@@ -2,15 +2,14 @@
 pub mod find; // find.rt: the finder, from a job file to a flow file
 mod flow; // flow.rt: checking a causal flow
 mod gflow; // gflow.rt: checking a generalized flow
-mod load; // load.rt: a file's sets as a table of sets
+mod load; // load.rt: a flow's sets as a table
+pub mod output; // output.rt: the two programs on lent bytes
 mod pflow; // pflow.rt: checking a Pauli flow
-pub mod programs; // programs.rt: the two programs on lent bytes
 mod validate; // validate.rt: what every flow is asked
 
 ghost use mathlib.Core.Path.{_≡_};
 ghost use mathlib.Core.Bool.{not, _||_};
-ghost use mathlib.Core.List.{List, []};
-ghost use Prim.Native.Nat.{ℕ};
+ghost use mathlib.Core.List.{[]};
 ghost use lib.Dec.{eqb};
 ghost use lib.ListN.{length};
 ghost use Rattle.finder.specs.Finder.{jobIn};
@@ -20,8 +19,9 @@ ghost use Rattle.records.specs.FlowFile.{entriesOf, listed, allEntries, flowOf}
 ghost use Rattle.records.specs.Encoding.{ValidJob, ValidFlow};
 ghost use Rattle.verdicts.specs.Verdict.{verify as verifyOf};
 ghost use Rattle.verdicts.specs.Calls.{verdict, verifyAsks, put, verifyCall};
-ghost use Rattle.records.specs.Views.{Lies, fileAt, JobLies, flowAt, FlowLies};
+ghost use Rattle.records.specs.Views.{fileAt, JobLies, flowAt, FlowLies};
 ghost use Rattle.tables.specs.Loaded.{flowIn, askedOf, flowAsks, verifiedOf};
+use finder::TABLE_WORDS;
 use nodes::utils::NodeSet;
 use records::common::FlowPlaces;
 use records::common::FlowRead;
@@ -31,14 +31,10 @@ use records::common::JobRead;
 use records::common::KIND_ACCEPTED;
 use records::common::MODE_CAUSAL;
 use records::common::MODE_PAULI;
-use records::common::Place;
 use records::common::Refused;
 use records::load::load_graph;
 use records::load::measured_of;
 use validate::Asked;
-
-// The words of a table with a set for each node.
-const TABLE_WORDS: usize = 256;
 
 // What the verifier answers: the number of bytes written, or why not.
 pub enum Verified {

@@ -1,27 +1,16 @@
-// A file's sets as a table of sets, a set for each node.
+// A flow's sets as a table, a set for each node.
 ghost use mathlib.Core.Path.{_≡_};
-ghost use mathlib.Core.Bool.{true, _&&_, _||_};
-ghost use Prim.Native.Nat.{ℕ, _≤_};
-ghost use lib.Dec.{eqb, leb};
+ghost use mathlib.Core.Bool.{true};
+ghost use Prim.Native.Nat.{ℕ};
 ghost use lib.ListN.{length};
-ghost use Rattle.nodes.specs.NodeSet.{member, highest, capacity};
+ghost use Rattle.nodes.specs.NodeSet.{member, capacity};
 ghost use Rattle.nodes.specs.SetTable.{setAt};
 ghost use Rattle.finder.specs.Finder.{tableWords};
 ghost use Rattle.records.specs.FlowFile.{entriesOf, framed, listed, allEntries, entryBelow, setIn, entryIn};
 use nodes::utils::NodeSet;
 use nodes::utils::clear_table;
-use nodes::utils::put_set;
-use nodes::utils::set_at;
 use records::common::set_of;
-
-// The nodes of more join set u.
-fn add_set(table: &mut [u64], u: u8, more: NodeSet)
-    requires { ⌜ (length (now table) ≡ tableWords) × (u ≤ highest) ⌝ }
-    ensures { λ _. ⌜ ((v w : ℕ) → setAt (now (table .exit)) v w ≡ setAt (now (table .entry)) v w || (eqb v u && member more w)) ⌝ }
-{
-    let old = set_at(table, u);
-    put_set(table, u, old.union(more));
-}
+use records::load::add_set;
 
 // Do the entries end exactly with the payload?
 fn entries_end(sets: &[u8]) -> bool

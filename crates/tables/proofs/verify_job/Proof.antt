@@ -4,7 +4,7 @@ use lib.ListN.{replicate, length-replicate}
 use Rattle.nodes.specs.NodeSet.{member}
 use Rattle.records.specs.JobFile.{measuredOf}
 use Rattle.records.specs.FlowFile.{flowOf}
-use Rattle.records.specs.Views.{bytesAt, fileAt, flowAt}
+use Rattle.records.specs.Views.{fileAt, flowAt}
 use Rattle.records.proofs.ReadingRecords.{has-small}
 use Rattle.records.proofs.Loading.{room-enough}
 use Rattle.tables.proofs.LoadingFiles.{same-job}
@@ -65,7 +65,7 @@ returns c = let o = c .before .before in
     let f = fileAt (s .args .file .now) (s .args .job) in
     let v = s .pre .1 .0 in
     c .verify-flow .ensures
-    ∙ same-job f _ (member (i .set-of .result)) (member (o .set-of2 .result)) (fun-ext (λ u. fun-ext (λ w. l .load-graph .ensures u w ∙ room-enough (replicate 256 0) (f .edges) (f .n) (length-replicate {A = ℕ} 256 0) (v .few) (v .edgesBelow) u w)))
+    ∙ same-job f _ (member (i .set-of .result)) (member (o .set-of2 .result)) (fun-ext (λ x. fun-ext (λ y. l .load-graph .ensures x y ∙ room-enough (replicate 256 0) (f .edges) (f .n) (length-replicate {A = ℕ} 256 0) (v .few) (v .edgesBelow) x y)))
     (i .set-of .ensures ∙ fun-ext (has-small (f .n) (f .inputs) (v .few) (v .inputsBelow)))
     (o .set-of2 .ensures ∙ fun-ext (has-small (f .n) (f .outputs) (v .few) (v .outputsBelow)))
     (flowOf (flowAt (s .args .file .now) (s .args .flow))) (measuredOf f .mode)

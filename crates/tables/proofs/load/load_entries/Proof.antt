@@ -1,12 +1,12 @@
 use mathlib.Core.Path.{_≡_, refl, sym, ap, _∙_}
 use mathlib.Core.Bool.{Bool, true, _&&_, _||_}
-use Prim.Native.Nat.{ℕ, _+_, _-_, _≤_}
+use Prim.Native.Nat.{ℕ, _+_, _*_, _-_, _≤_}
 use native.Mathlib.Omega.{arith}
 use lib.Dec.{eqb}
 use lib.ListN.{length, getD, drop, length-replicate}
 use borrow.Author.Tests.{le-leb}
 use Rattle.nodes.specs.NodeSet.{member, highest, capacity}
-use Rattle.nodes.specs.SetTable.{setAt}
+use Rattle.nodes.specs.SetTable.{setWords, setAt}
 use Rattle.nodes.proofs.Logic.{and-all}
 use Rattle.finder.specs.Finder.{tableWords}
 use Rattle.records.specs.JobFile.{has}
@@ -14,7 +14,8 @@ use Rattle.records.specs.FlowFile.{entriesOf, framed, listed, allEntries, entry
 use Rattle.records.specs.Views.{between}
 use Rattle.records.proofs.ReadingEntries.{two-more, fits, framed-next}
 use Rattle.records.proofs.ReadingRecords.{has-small}
-use Rattle.tables.proofs.LoadingTables.{cleared, set-end, entry-end, set-more, entry-more, below-out}
+use Rattle.records.proofs.Loading.{cleared}
+use Rattle.tables.proofs.LoadingTables.{set-end, entry-end, set-more, entry-more, below-out}
 use borrow.Author.Needs.{needs}
 use Rattle.tables.proofs.load.load_entries.Statement.{statement}
 use Rattle.tables.proofs.load.load_entries.Tie as tie
@@ -103,14 +104,7 @@ set-of-requires : tie.Need-set-of-requires Inv-loop μ-loop
 set-of-requires c κs = search needs
 
 add-set-requires : tie.Need-add-set-requires Inv-loop μ-loop
-add-set-requires c κs = let l = c .before .before .before .before .before .before .loop in
-    let p = c .before .before .before .before .before .before .before .before .before .before .before .before .before .before .args .sets .now in
-    let x = two-more p (l .i) (l .inv .2) (omega arith) in
-    let y = fits p (l .i) (l .inv .2) (omega arith) in
-    let e : l .i + 2 + getD p (l .i + 1) 0 ≡ l .i + 2 + getD p (l .i + 1) 0 = refl in
-    let j = l .i + 2 + getD p (l .i + 1) 0 in
-    let (a, b, d) = below-out p (l .i) j e (omega arith) (l .inv .2) capacity (l .inv .3) in
-    (search needs, omega arith)
+add-set-requires c κs = search needs
 
 with-requires : tie.Need-with-requires Inv-loop μ-loop
 with-requires c κs = search needs
@@ -132,6 +126,8 @@ loop-again c = let l = c .before .before .before .before .before .before .before
     let (a, b, d) = below-out p (l .i) j e (omega arith) (l .inv .2) capacity (l .inv .3) in
     let m = c .before .before .before in
     let s = m .before .before in
+    let fit : setWords * getD p (l .i) 0 + setWords ≤ length (l .table) = omega arith in
+    let room = le-leb (setWords * getD p (l .i) 0 + setWords) (length (l .table)) fit in
     let put : (k : ℕ) → member (c .with .result) k ≡ member (l .entries) k || eqb k (getD p (l .i) 0) = λ k. ap (λ (f : ℕ → Bool). f k) (c .with .ensures) ∙ ap (λ (t : Bool). member (l .entries) k || (eqb k (getD p (l .i) 0) && t)) (le-leb (getD p (l .i) 0) highest (omega arith)) ∙ ap (λ (t : Bool). member (l .entries) k || t) (and-all (eqb k (getD p (l .i) 0))) in
     let few : (k : ℕ) → member (s .set-of .result) k ≡ has (between (l .i + 2) j p) k = λ k. ap (λ (f : ℕ → Bool). f k) (s .set-of .ensures) ∙ has-small capacity (between (l .i + 2) j p) (omega arith) b k in (
       omega arith,
@@ -140,7 +136,8 @@ loop-again c = let l = c .before .before .before .before .before .before .before
       d,
       (λ u v. l .inv .4 u v ∙ set-more p (l .i) j e (omega arith) (l .inv .2) u v (setAt (l .table) u v)
           ∙ ap (λ (t : Bool). t || setIn (listed (entriesOf (drop j p))) u v)
-          (sym (m .add-set .ensures u v ∙ ap (λ (t : Bool). setAt (l .table) u v || (eqb u (getD p (l .i) 0) && t)) (few v)))),
+          (sym (m .add-set .ensures u v ∙ ap (λ (t : Bool). setAt (l .table) u v || ((eqb u (getD p (l .i) 0) && member (s .set-of .result) v) && t)) room
+          ∙ ap (λ (t : Bool). setAt (l .table) u v || t) (and-all (eqb u (getD p (l .i) 0) && member (s .set-of .result) v)) ∙ ap (λ (t : Bool). setAt (l .table) u v || (eqb u (getD p (l .i) 0) && t)) (few v)))),
       λ u. l .inv .5 u ∙ entry-more p (l .i) j e (omega arith) (l .inv .2) u (member (l .entries) u)
           ∙ ap (λ (t : Bool). t || entryIn (listed (entriesOf (drop j p))) u)
           (sym (put u)),

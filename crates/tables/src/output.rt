@@ -1,15 +1,16 @@
 // The two programs on lent bytes: all that each writes for the bytes of its standard input.
 ghost use mathlib.Core.Path.{_≡_};
-ghost use Prim.Native.Nat.{_≤_, min};
-ghost use lib.ListN.{length};
-ghost use Rattle.records.specs.Answer.{refusal};
+ghost use Prim.Native.Nat.{min};
 ghost use Rattle.records.specs.Refusals.{refusalOf};
 ghost use Rattle.records.specs.Splice.{putFirst};
 ghost use Rattle.verdicts.specs.Programs.{judgedBytes, refusalBytes};
-ghost use Rattle.tables.specs.Printing.{mostOutput, findPrinted, outputOf, numbersOf};
+ghost use Rattle.tables.specs.Printing.{findPrinted, verifyPrinted, outputOf, InRoom, numbersOf};
+use crate::Verified;
 use crate::find::Reply;
 use crate::find::find;
+use crate::verify;
 use finder::WORK_BYTES;
+use records::common::HEAD_BYTES;
 use records::common::KIND_REFUSAL;
 use records::common::Refused;
 use records::writer::write_record;
@@ -19,6 +20,9 @@ pub const JUDGED_BYTES: usize = 65536;
 
 // A buffer of so many bytes has room for the output of any call.
 pub const MOST_OUTPUT: usize = 16780;
+
+// The bytes of 001F.
+pub const REFUSAL_BYTES: usize = HEAD_BYTES + 3;
 
 // How many bytes were written; or the refusal whose record was; or that the buffer is too small for some output.
 pub enum Output {
@@ -92,6 +96,7 @@ fn judged(len: usize) -> usize
 // All that the finder's program writes.
 pub fn find_bytes(input: &[u8], out: &mut [u8]) -> Output
     ensures { λ r. ⌜ record { answer = outputOf r; out = now (out .exit) } ≡ findPrinted (now (input .entry)) (now (out .entry)) ⌝ }
+    ensures { λ r. ⌜ InRoom r ⌝ }
 {
     if out.len() < MOST_OUTPUT {
         return Output::NoRoom;
@@ -101,6 +106,24 @@ pub fn find_bytes(input: &[u8], out: &mut [u8]) -> Output
     match find(&input[0..n], &mut work, out) {
         Reply::Wrote(k) => Output::Wrote(k),
         Reply::Refused(q) => {
+            write_refusal(out, q);
+            Output::Refused(q)
+        }
+    }
+}
+
+// All that the verifier's program writes.
+pub fn verify_bytes(input: &[u8], out: &mut [u8]) -> Output
+    ensures { λ r. ⌜ record { answer = outputOf r; out = now (out .exit) } ≡ verifyPrinted (now (input .entry)) (now (out .entry)) ⌝ }
+    ensures { λ r. ⌜ InRoom r ⌝ }
+{
+    if out.len() < MOST_OUTPUT {
+        return Output::NoRoom;
+    }
+    let n = judged(input.len());
+    match verify(&input[0..n], out) {
+        Verified::Accepted(k) => Output::Wrote(k),
+        Verified::Refused(q) => {
             write_refusal(out, q);
             Output::Refused(q)
         }

@@ -1,8 +1,8 @@
 use mathlib.Core.Path.{sym, ap, _∙_}
 use borrow.Author.Needs.{needs}
 use Rattle.records.specs.Refusals.{refusalOf}
-use Rattle.tables.proofs.programs.told.Statement.{statement}
-use Rattle.tables.proofs.programs.told.Tie as tie
+use Rattle.tables.proofs.output.told.Statement.{statement}
+use Rattle.tables.proofs.output.told.Tie as tie
 
 enum-told : tie.Need-enum-told
 enum-told c = search needs

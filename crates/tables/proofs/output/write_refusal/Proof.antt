@@ -3,8 +3,8 @@ use borrow.Author.Needs.{needs}
 use Rattle.records.specs.Answer.{Refusal}
 use Rattle.records.specs.Splice.{putFirst}
 use Rattle.verdicts.specs.Programs.{refusalBytes}
-use Rattle.tables.proofs.programs.write_refusal.Statement.{statement}
-use Rattle.tables.proofs.programs.write_refusal.Tie as tie
+use Rattle.tables.proofs.output.write_refusal.Statement.{statement}
+use Rattle.tables.proofs.output.write_refusal.Tie as tie
 
 told-requires : tie.Need-told-requires
 told-requires c κs = search needs
