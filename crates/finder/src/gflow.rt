@@ -10,9 +10,6 @@ ghost use Rattle.finder.specs.Finder.{jobIn, progressAt, workBytes, tabl
 ghost use Rattle.flows.specs.Branch.{tryBranch};
 ghost use Rattle.finder.specs.Views.{graphJob, contextOf, Within, RowsApart, SidesApart, nodeIn};
 ghost use Rattle.finder.specs.Finding.{Sized, isPlane, planesGiven, progressIn, cutTo, visited, searchCall};
-use crate::PLANE_XY;
-use crate::PLANE_XZ;
-use crate::PLANE_YZ;
 use crate::Sets;
 use crate::begin;
 use crate::conclude;
@@ -20,6 +17,9 @@ use crate::open_round;
 use crate::place;
 use crate::read_node;
 use crate::sizes_fit;
+use flows::PLANE_XY;
+use flows::PLANE_XZ;
+use flows::PLANE_YZ;
 use nodes::utils::NodeSet;
 
 // What a search answers, for planes and for Paulis.

@@ -12,22 +12,16 @@ ghost use Rattle.solver.specs.Solver.{rowBytes, mostRows, mostColumns, Eliminat
 ghost use Rattle.flows.specs.Branch.{inSet, inOdd, withNode, tryBranch};
 ghost use Rattle.finder.specs.Finder.{workBytes};
 ghost use Rattle.finder.specs.Views.{triedOf, contextOf, graphJob, rowsOf, columnsOf, Within, RowsApart, SidesApart, byRank, block, columnBit, sideBit, Added, coefficients, sideIn, sidesIn, rowsIn, answerIn, nodeIn, Opened};
+use flows::PLANE_XY;
+use flows::PLANE_XZ;
+use flows::PLANE_YZ;
 use nodes::utils::NodeSet;
 use nodes::utils::mask;
 use nodes::utils::set_at;
+use solver::gf2_linalg::ROW_BYTES;
 use solver::gf2_linalg::Solved;
 use solver::gf2_linalg::eliminate;
 use solver::gf2_linalg::read_off;
-
-// Each row, and the out bits, take 16 bytes, lowest bit first.
-const ROW_BYTES: usize = 16;
-
-// The branches by their numbers.
-const PLANE_XY: u8 = 1;
-
-const PLANE_YZ: u8 = 2;
-
-const PLANE_XZ: u8 = 3;
 
 // What a try meets: the columns, and the nodes of the upper and of the lower rows.
 pub struct Sets {

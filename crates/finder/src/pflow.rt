@@ -9,9 +9,6 @@ ghost use Rattle.solver.specs.System.{firstOf};
 ghost use Rattle.finder.specs.Finder.{jobIn, progressAt, workBytes};
 ghost use Rattle.finder.specs.Views.{triedOf, contextOf, Within, RowsApart};
 ghost use Rattle.finder.specs.Finding.{Sized, KindsOf, progressIn, cutTo, visited, tryListed, tryIn, tryFor, searchCall};
-use crate::PLANE_XY;
-use crate::PLANE_XZ;
-use crate::PLANE_YZ;
 use crate::Sets;
 use crate::Tried;
 use crate::begin;
@@ -21,14 +18,13 @@ use crate::place;
 use crate::sizes_fit;
 use crate::try_branch;
 use crate::with_if;
+use flows::PAULI_X;
+use flows::PAULI_Y;
+use flows::PAULI_Z;
+use flows::PLANE_XY;
+use flows::PLANE_XZ;
+use flows::PLANE_YZ;
 use nodes::utils::NodeSet;
-
-// The measurements that are no planes, by their numbers.
-const PAULI_X: u8 = 4;
-
-const PAULI_Y: u8 = 5;
-
-const PAULI_Z: u8 = 6;
 
 // No branch has this number.
 const NO_BRANCH: u8 = 0;

@@ -1,6 +1,5 @@
 pub mod FlowFile
 pub mod JobFile
-pub mod Loading
 pub mod ReadingEntries
 pub mod ReadingHead
 pub mod ReadingLoops

@@ -22,7 +22,7 @@ use Rattle.records.specs.Records.{part, checked, written, kindLayers, ki
 use Rattle.records.specs.JobFile.{mostNodes, all, has, rises}
 use Rattle.records.specs.FlowFile.{SetEntry, allEntries, entryBelow, entriesRise, FlowFile, readFlow, setIn, entryIn, flowOf}
 use Rattle.records.specs.Encoding.{entryBytes, flowFileBytes, ValidFlow, entriesFor, foundFlow}
-use Rattle.records.specs.Writing.{setBytes, flowBytes}
+use Rattle.records.specs.Writing.{setBytes, flowBytes, mostOutput}
 use Rattle.records.proofs.Records.{never, and-out, all-append, all-more, written-length, written-bytes}
 use Rattle.records.proofs.JobFile.{rises-length}
 use Rattle.records.proofs.FlowFile.{flow-decodes, entries-few, entry-bytes-length}
@@ -203,7 +203,7 @@ module _ (j : Job) (s : Progress) where
   pub found-length : length (flowBytes j (some s)) ≤ 12 + j .nodes + j .nodes * (j .nodes + 2)
   found-length = rw found-file (flow-file-length (j .nodes) (foundFlow j s) found-valid)
 
-  pub found-most : j .nodes ≤ mostNodes → length (flowBytes j (some s)) ≤ 16780
+  pub found-most : j .nodes ≤ mostNodes → length (flowBytes j (some s)) ≤ mostOutput
   found-most h =
       let a : j .nodes * (j .nodes + 2) ≤ 128 * 130 = mul-le-mul {n₁ = j .nodes} {m₁ = j .nodes + 2} {n₂ = 128} {m₂ = 130} (omega arith) (omega arith) in
       omega (arith, found-length)

@@ -2,7 +2,6 @@ pub mod Answer
 pub mod Encoding
 pub mod FlowFile
 pub mod JobFile
-pub mod Loading
 pub mod Records
 pub mod Refusals
 pub mod Splice

@@ -1,6 +1,7 @@
 -- Document 01's number, a and b for each cause of a refusal.
 use Prim.Native.Nat.{ℕ}
 use Rattle.records.specs.Answer.{Refusal, refusal}
+use Rattle.records.specs.declared.common.Numbers.{Numbers}
 use Rattle.records.specs.declared.common.Refused.{Refused}
 use Rattle.records.specs.declared.common.Refused.the-variants.{
   NoRecord,
@@ -50,3 +51,7 @@ refusalOf (InconsistentFlowOrder a b) = record { number = 18; a = a; b = b }
 refusalOf (InconsistentFlowPlane a) = record { number = 19; a = a; b = 0 }
 refusalOf (InconsistentFlowPPlane a) = record { number = 19; a = a; b = 0 }
 refusalOf ResultTooLong = refusal 20
+
+-- the same in the code's record
+abbrev pub numbersIn : Numbers → Refusal
+numbersIn m = record { number = m .number; a = m .a; b = m .b }

@@ -1,5 +1,5 @@
 -- What the finder writes for what its search found.
-use Prim.Native.Nat.{ℕ}
+use Prim.Native.Nat.{ℕ, _+_, _*_}
 use mathlib.Core.Bool.{Bool, not}
 use mathlib.Core.Option.{Option, none, some}
 use mathlib.Core.List.{List, [], _∷_, _++_}
@@ -8,7 +8,8 @@ use Rattle.nodes.specs.Row.{members}
 use Rattle.solver.specs.WorkMatrix.{listOf}
 use Rattle.flows.specs.Job.{Job}
 use Rattle.flows.specs.Search.{Progress}
-use Rattle.records.specs.Records.{written, kindLayers, kindSets, kindNoFlow}
+use Rattle.records.specs.Records.{headBytes, written, kindLayers, kindSets, kindNoFlow}
+use Rattle.records.specs.JobFile.{mostNodes}
 
 -- entries of the nodes in the list: node, count, members
 unfoldable pub setBytes : ℕ → (ℕ → ℕ → Bool) → List ℕ → List ℕ
@@ -24,3 +25,7 @@ abbrev pub flowBytes : Job → Option Progress → List ℕ
 flowBytes j none = written kindNoFlow []
 flowBytes j (some s) =
     flowRecords (listOf (j .nodes) (s .layer)) (j .nodes) (s .set) (members (j .nodes) (λ u. not (j .output u)))
+
+-- no file of a flow is longer: the heads of two records, 128 layers, and 128 entries of node, count and 128 members
+abbrev pub mostOutput : ℕ
+mostOutput = 2 * headBytes + mostNodes + mostNodes * (mostNodes + 2)

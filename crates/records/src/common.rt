@@ -9,7 +9,11 @@ ghost use Rattle.records.specs.Answer.{passed};
 ghost use Rattle.records.specs.Records.{lengthField, kindField, headBytes, part, checked};
 ghost use Rattle.records.specs.JobFile.{mostNodes, all, has, rises, pairsRise, highestOf, allows, allAllowed, openNo, edgesNo, nodesNo, measurementsNo, readJob, readEdges, readInputs, readOutputs, readMeasurements};
 ghost use Rattle.records.specs.FlowFile.{entriesOf, framed, listed, allEntries, entryBelow, entriesRise, layersNo, setsNo, readFlow, readSets};
+ghost use Rattle.records.specs.Refusals.{refusalOf, numbersIn};
 ghost use Rattle.records.specs.Views.{bytesAt, Lies, checkedOf, askOf, partOf, Inside, jobOfRead, JobInside, flowOfRead, FlowInside};
+use flows::PAULI_Z;
+use flows::PLANE_XY;
+use flows::PLANE_XZ;
 use nodes::utils::NodeSet;
 
 // The bytes of a record's length and kind.
@@ -46,13 +50,6 @@ pub const MODE_PLANES: u8 = 2;
 
 pub const MODE_PAULI: u8 = 3;
 
-// The highest measurement byte of each mode; the lowest of each is that of XY.
-const PLANE_XY: u8 = 1;
-
-const PLANE_XZ: u8 = 3;
-
-const PAULI_Z: u8 = 6;
-
 // Why a call is refused, with document 01's number beside each case. Three causes share number 3, and two number 19.
 pub enum Refused {
     NoRecord, // 1
@@ -77,6 +74,48 @@ pub enum Refused {
     InconsistentFlowPlane(u8), // 19, mode 2
     InconsistentFlowPPlane(u8), // 19, mode 3
     ResultTooLong, // 20
+}
+
+// Document 01's number of a refusal, with a and b.
+pub struct Numbers {
+    pub number: u8,
+    pub a: u8,
+    pub b: u8,
+}
+
+fn three(number: u8, a: u8, b: u8) -> Numbers
+    ensures { λ r. ⌜ numbersIn r ≡ record { number = number; a = a; b = b } ⌝ }
+{
+    Numbers { number, a, b }
+}
+
+pub fn numbers_of(q: Refused) -> Numbers
+    ensures { λ r. ⌜ numbersIn r ≡ refusalOf q ⌝ }
+{
+    match q {
+        Refused::NoRecord => three(1, 0, 0),
+        Refused::CutPayload => three(2, 0, 0),
+        Refused::OddEdges => three(3, 0, 0),
+        Refused::CutEntry => three(3, 0, 0),
+        Refused::WrongLength => three(3, 0, 0),
+        Refused::WrongOpening => three(4, 0, 0),
+        Refused::NodeTooLarge => three(5, 0, 0),
+        Refused::NotAscending => three(6, 0, 0),
+        Refused::WrongMeasurement => three(7, 0, 0),
+        Refused::BytesLeft => three(8, 0, 0),
+        Refused::NotOneMember => three(9, 0, 0),
+        Refused::ModeNotSearched => three(10, 0, 0),
+        Refused::WrongWorkBuffer => three(11, 0, 0),
+        Refused::InvalidFlowCodomain(a) => three(13, a, 0),
+        Refused::InvalidFlowDomain(a) => three(14, a, 0),
+        Refused::ExcessiveNonZeroLayer(a, b) => three(15, a, b),
+        Refused::ExcessiveZeroLayer(a) => three(16, a, 0),
+        Refused::InvalidMeasurementSpec(a) => three(17, a, 0),
+        Refused::InconsistentFlowOrder(a, b) => three(18, a, b),
+        Refused::InconsistentFlowPlane(a) => three(19, a, 0),
+        Refused::InconsistentFlowPPlane(a) => three(19, a, 0),
+        Refused::ResultTooLong => three(20, 0, 0),
+    }
 }
 
 // Where a payload lies in the file.
@@ -243,7 +282,7 @@ fn pairs_rising(edges: &[u8]) -> bool
     true
 }
 
-// The highest measurement byte that the mode allows.
+// The highest measurement byte that the mode allows; the lowest of each is that of XY.
 fn highest_of(mode: u8) -> u8
     ensures { λ r. ⌜ r ≡ highestOf mode ⌝ }
 {
@@ -310,7 +349,7 @@ pub fn set_of(nodes: &[u8]) -> NodeSet
 // ---- Entries of a sets record: node, count, members.
 
 // Do the entries end exactly with the payload?
-fn entries_end(sets: &[u8]) -> bool
+pub fn entries_end(sets: &[u8]) -> bool
     ensures { λ r. ⌜ r ≡ framed (entriesOf (now (sets .entry))) ⌝ }
 {
     let mut i = 0;

@@ -1,4 +1,3 @@
 // Job and flow files: reading and writing their records.
 pub mod common; // common.rt: the records, and reading them
-pub mod load; // load.rt: what a job holds, as the cores take it
 pub mod writer; // writer.rt: records written into a lent buffer

@@ -17,7 +17,7 @@ use nodes::utils::NodeSet;
 use nodes::utils::mask;
 
 // Each row, and the out bits, take 16 bytes, lowest bit first.
-const ROW_BYTES: usize = 16;
+pub const ROW_BYTES: usize = 16;
 
 const MOST_ROWS: usize = 128;
 

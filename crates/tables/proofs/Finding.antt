@@ -29,11 +29,11 @@ use Rattle.records.specs.Records.{written, kindNoFlow}
 use Rattle.records.specs.JobFile.{JobFile, has, joined, readJob, modePlanes, modePauli, measuredOf, jobOf}
 use Rattle.records.specs.Encoding.{ValidJob}
 use Rattle.records.specs.Writing.{flowBytes}
-use Rattle.records.specs.Loading.{room}
+use Rattle.tables.specs.Loading.{room}
 use Rattle.records.specs.Splice.{putFirst, putCount}
 use Rattle.records.proofs.JobFile.{job-asked, measured-plane}
 use Rattle.records.proofs.ReadingRecords.{has-small}
-use Rattle.records.proofs.Loading.{room-enough}
+use Rattle.tables.proofs.LoadingEdges.{room-enough}
 use Rattle.tables.proofs.Found.{found-written}
 use Rattle.verdicts.specs.Calls.{workBytes, zeros, foundBytes, Outcome, put, findAsks, findCall}
 use Rattle.tables.specs.Replies.{putReply, recordsFor}

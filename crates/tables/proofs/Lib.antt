@@ -3,7 +3,7 @@ pub mod AskingDefinition
 pub mod AskingNodes
 pub mod Finding
 pub mod Found
+pub mod LoadingEdges
 pub mod LoadingFiles
 pub mod LoadingTables
 pub mod Printing
-pub mod Programs

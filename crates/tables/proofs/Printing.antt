@@ -1,27 +1,46 @@
 -- What a program's call leaves: its whole output, which has room where any has.
 use Prim.Native.Nat.{ℕ, _-_, _≤_, _<_, min}
-use mathlib.Core.Path.{_≡_, refl, sym, ap, _∙_}
+use mathlib.Core.Path.{_≡_, refl, sym, ap, _∙_, subst}
 use mathlib.Core.Bool.{Bool}
-use mathlib.Core.Option.{none, some}
+use mathlib.Core.Option.{Option, none, some}
 use mathlib.Core.List.{List, [], _∷_, _++_}
 use mathlib.Core.Logic.{_⊎_, inl, inr}
 use native.Mathlib.Omega.{arith}
 use native.Mathlib.Nat.{min-eq-left, min-eq-right}
 use borrow.Author.Tests.{le-leb, lt-leb}
+use lib.Dec.{leb, le→leb}
 use lib.ListN.{length, take, drop}
 use lib.Seq.{take-all, take-length}
-use Rattle.nodes.proofs.Logic.{le-or-lt}
+use Rattle.nodes.proofs.Logic.{is-true, le-or-lt}
+use Rattle.flows.specs.Search.{Progress}
 use Rattle.records.specs.Answer.{Refusal, Answer, gives, refuses}
-use Rattle.records.specs.Records.{written, kindAccepted, kindRefusal}
-use Rattle.records.specs.JobFile.{JobFile}
+use Rattle.records.specs.Records.{written, kindNoFlow, kindAccepted, kindRefusal}
+use Rattle.records.specs.JobFile.{JobFile, mostNodes, jobOf, measuredOf}
+use Rattle.records.specs.Writing.{flowBytes, mostOutput}
 use Rattle.records.specs.Splice.{putFirst}
 use Rattle.records.proofs.Records.{give-inj, never, written-length}
 use Rattle.records.proofs.JobFile.{job-asked}
-use Rattle.verdicts.specs.Calls.{zeros, foundBytes, Outcome, put, findAsks, findOutcome, findCall, verifyAsks, verifyOutcome, verifyCall}
+use Rattle.records.proofs.Writing.{found-most}
+use Rattle.verdicts.specs.Calls.{zeros, search, foundBytes, Outcome, put, findAsks, findOutcome, findCall, verifyAsks, verifyOutcome, verifyCall}
 use Rattle.verdicts.specs.Programs.{refusalBytes, findOutput, verifyOutput}
-use Rattle.tables.specs.Printing.{mostOutput, Printed, printed, findAnswer, verifyAnswer}
+use Rattle.tables.specs.Printing.{Printed, printed, findAnswer, verifyAnswer}
 use Rattle.verdicts.proofs.Demand.{asked-find}
-use Rattle.tables.proofs.Programs.{refuse-inj, put-whole, found-fits}
+
+pub refuse-inj : {A : Type 0} {r s : Refusal} → _≡_ {A = Answer A} (refuses r) (refuses s) → r ≡ s
+refuse-inj e = cc
+
+-- what fits is put
+pub put-whole : (work result out : List ℕ) → length result ≤ length out
+    → put work result out ≡ record { answer = gives (length result); work = work; out = result ++ drop (length result) out }
+unfolding put
+put-whole work result out h = rw (is-true (leb (length result) (length out)) (le→leb (length result) (length out) h))
+
+pub found-fits : (f : JobFile) → f .n ≤ mostNodes → length (foundBytes f) ≤ mostOutput
+found-fits f h = go (search (measuredOf f .mode) (jobOf f))
+  where
+    go : (o : Option Progress) → length (flowBytes (jobOf f) o) ≤ mostOutput
+    go none = subst (λ (k : ℕ). k ≤ mostOutput) (sym (written-length kindNoFlow [])) (omega arith)
+    go (some s) = found-most (jobOf f) s h
 
 -- the bytes that are judged
 pub first-bytes : (k n : ℕ) (l : List ℕ) → n ≡ min k (length l) → take (n - 0) (drop 0 l) ≡ take k l

@@ -1,3 +1,4 @@
 pub mod Loaded
+pub mod Loading
 pub mod Printing
 pub mod Replies

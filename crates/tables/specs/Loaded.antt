@@ -11,14 +11,12 @@ use Rattle.nodes.specs.NodeSet.{member, highest, capacity}
 use Rattle.nodes.specs.SetTable.{setAt}
 use Rattle.nodes.specs.declared.utils.NodeSet.{NodeSet}
 use Rattle.flows.specs.Job.{pauliY, isXorY, isYorZ}
-use Rattle.records.specs.Answer.{Refusal, Answer, gives, refuses, _>>_}
+use Rattle.records.specs.Answer.{Refusal, Answer, _>>_}
 use Rattle.records.specs.JobFile.{JobFile, measuredOf, jobOf}
 use Rattle.records.specs.FlowFile.{FlowFile, Flow, nothingLeft, oneMember, flowOf}
 use Rattle.verdicts.specs.Verdict.{verify}
 use Rattle.verdicts.specs.Calls.{verdict}
 use Rattle.records.specs.Refusals.{refusalOf}
-use Rattle.tables.specs.declared.Verified.{Verified}
-use Rattle.tables.specs.declared.Verified.the-variants.{Accepted, Refused as NotAccepted}
 use Rattle.tables.specs.declared.pflow.Paulis.{Paulis}
 use Rattle.tables.specs.declared.validate.Asked.{Asked}
 use Rattle.tables.specs.declared.validate.Asked.the-variants.{Passed, Refused as Stopped}
@@ -48,11 +46,6 @@ pub record Sorted (n : ℕ) (measured : List ℕ) (p : Paulis) : Type 0 where
   pub membersFree : member (p .xy) ≡ (λ v. within n v && isXorY (getD measured v 0))
   pub oddsFree : member (p .yz) ≡ (λ v. within n v && isYorZ (getD measured v 0))
   pub bothFree : member (p .y) ≡ (λ v. within n v && eqb (getD measured v 0) pauliY)
-
--- the number of bytes written, or the refusal
-abbrev pub verifiedOf : Verified → Answer ℕ
-verifiedOf (Accepted k) = gives k
-verifiedOf (NotAccepted q) = refuses (refusalOf q)
 
 -- the questions that follow reading: 8, 9, and those on the flow
 unfoldable pub flowAsks : JobFile → FlowFile → Answer Bool

@@ -5,19 +5,15 @@ use mathlib.Core.Option.{Option, none, some}
 use mathlib.Core.List.{List, [], _++_}
 use lib.Dec.{leb}
 use lib.ListN.{length, take, drop}
-use Rattle.records.specs.Answer.{Refusal, Answer, gives, refuses}
+use Rattle.records.specs.Answer.{Answer, gives, refuses}
 use Rattle.records.specs.Records.{written, kindAccepted}
 use Rattle.records.specs.JobFile.{JobFile}
 use Rattle.records.specs.Refusals.{refusalOf}
+use Rattle.records.specs.Writing.{mostOutput}
 use Rattle.verdicts.specs.Calls.{workBytes, zeros, foundBytes, findAsks, verifyAsks}
 use Rattle.verdicts.specs.Programs.{judgedBytes, findProgram, verifyProgram}
-use Rattle.tables.specs.declared.output.Numbers.{Numbers}
 use Rattle.tables.specs.declared.output.Output.{Output}
 use Rattle.tables.specs.declared.output.Output.the-variants.{Wrote, Refused as Told, NoRoom}
-
--- no program writes more: the heads of two records, 128 layers, and 128 entries of a head and 128 members
-abbrev pub mostOutput : ℕ
-mostOutput = 16780
 
 pub record Printed : Type 0 where
   pub answer : Option (Answer ℕ)
@@ -55,6 +51,3 @@ abbrev pub InRoom : Output → Type 0
 InRoom (Wrote k) = k ≤ mostOutput
 InRoom (Told q) = Unit
 InRoom NoRoom = Unit
-
-abbrev pub numbersOf : Numbers → Refusal
-numbersOf m = record { number = m .number; a = m .a; b = m .b }

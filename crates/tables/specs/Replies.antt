@@ -11,8 +11,8 @@ use Rattle.nodes.specs.SetTable.{setAt}
 use Rattle.records.specs.Answer.{Answer, gives, refuses, refusal}
 use Rattle.records.specs.Refusals.{refusalOf}
 use Rattle.records.specs.Writing.{flowRecords}
-use Rattle.tables.specs.declared.find.Reply.{Reply}
-use Rattle.tables.specs.declared.find.Reply.the-variants.{Wrote, Refused as NotWritten}
+use Rattle.tables.specs.declared.Reply.{Reply}
+use Rattle.tables.specs.declared.Reply.the-variants.{Wrote, Refused as NotWritten}
 
 -- the number of bytes written, or the refusal
 abbrev pub replyOf : Reply → Answer ℕ

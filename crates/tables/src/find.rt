@@ -1,19 +1,22 @@
 // The finder: a job file is read and searched, and a flow file or 0013 is written.
 ghost use mathlib.Core.Path.{_≡_};
 ghost use mathlib.Core.Bool.{true, not, _&&_, _||_};
-ghost use mathlib.Core.List.{[]};
 ghost use Prim.Native.Nat.{_≤_};
 ghost use lib.Dec.{eqb, leb};
 ghost use lib.ListN.{length};
 ghost use Rattle.nodes.specs.NodeSet.{member, highest};
 ghost use Rattle.finder.specs.Finding.{searchCall};
 ghost use Rattle.records.specs.Answer.{gives};
-ghost use Rattle.records.specs.Records.{written, kindNoFlow};
 ghost use Rattle.records.specs.JobFile.{has, readJob, modePlanes, modePauli};
 ghost use Rattle.records.specs.Views.{bytesAt, Lies, fileAt, JobLies};
-ghost use Rattle.records.specs.Splice.{putFirst, putCount, putOf};
+ghost use Rattle.records.specs.Splice.{putFirst, putCount};
 ghost use Rattle.verdicts.specs.Calls.{workBytes, zeros, foundBytes, put, findCall};
 ghost use Rattle.tables.specs.Replies.{replyOf, putReply, recordsFor};
+use crate::Reply;
+use crate::answered;
+use crate::load::load_graph;
+use crate::load::measured_of;
+use crate::write_bare;
 use finder::CAPACITY;
 use finder::TABLE_WORDS;
 use finder::WORK_BYTES;
@@ -30,27 +33,7 @@ use records::common::Place;
 use records::common::Refused;
 use records::common::read_job;
 use records::common::set_of;
-use records::load::load_graph;
-use records::load::measured_of;
-use records::writer::Put;
 use records::writer::write_flow;
-use records::writer::write_record;
-
-// What an entry answers: how many bytes it wrote, or why it was refused.
-pub enum Reply {
-    Wrote(usize),
-    Refused(Refused),
-}
-
-// Does the result fit the lent buffer (20)?
-fn answered(put: Put) -> Reply
-    ensures { λ r. ⌜ replyOf r ≡ putReply (putOf put) ⌝ }
-{
-    match put {
-        Put::Bytes(k) => Reply::Wrote(k),
-        Put::TooLong => Reply::Refused(Refused::ResultTooLong),
-    }
-}
 
 // The flow file of a finished search: an entry for each node that is no output.
 fn write_found(n: usize, outputs: NodeSet, layers: &[u8], sets: &[u64], out: &mut [u8]) -> Reply
@@ -60,14 +43,6 @@ fn write_found(n: usize, outputs: NodeSet, layers: &[u8], sets: &[u64], out: &mu
 {
     let nodes = NodeSet::below(n).difference(outputs);
     answered(write_flow(out, &layers[0..n], sets, nodes))
-}
-
-// 0013: no flow.
-fn write_none(out: &mut [u8]) -> Reply
-    ensures { λ r. ⌜ replyOf r ≡ putReply (putCount (written kindNoFlow []) (now (out .entry))) ⌝ }
-    ensures { λ _. ⌜ now (out .exit) ≡ putFirst (written kindNoFlow []) (now (out .entry)) ⌝ }
-{
-    answered(write_record(out, KIND_NO_FLOW, b""))
 }
 
 // The nodes of a payload as a set.
@@ -135,9 +110,9 @@ fn find_job(file: &[u8], job: JobPlaces, work: &mut [u8], out: &mut [u8]) -> Rep
         &mut sets,
     ) {
         Search::Flow => write_found(n, outputs, &layers, &sets, out),
-        Search::NoFlow => write_none(out),
+        Search::NoFlow => write_bare(out, KIND_NO_FLOW),
         // No job comes here: the reader's questions and those before the search see to the arguments.
-        Search::WrongArguments => write_none(out),
+        Search::WrongArguments => write_bare(out, KIND_NO_FLOW),
     }
 }
 

@@ -1,6 +1,8 @@
 // Checking a causal flow, mode 1 of document 01.
 ghost use mathlib.Core.Path.{_≡_};
+ghost use Prim.Native.Nat.{_≤_};
 ghost use mathlib.Core.List.{[]};
+ghost use Rattle.nodes.specs.NodeSet.{capacity};
 ghost use Rattle.finder.specs.Finder.{jobIn};
 ghost use Rattle.records.specs.JobFile.{modeCausal};
 ghost use Rattle.verdicts.specs.Verdict.{each, causalAsk, definitionAsk, checkDefinition};
@@ -15,7 +17,8 @@ use nodes::utils::set_at;
 use records::common::Refused;
 
 // Node i with f(i) = k: is f(i) later, are its neighbors other than i later, are the two adjacent (18)?
-fn check_pair(n: u8, graph: &[u64], layers: &[u8], i: u8, k: u8) -> Asked
+fn check_pair(n: usize, graph: &[u64], layers: &[u8], i: u8, k: u8) -> Asked
+    requires { ⌜ n ≤ capacity ⌝ }
     ensures { λ r. ⌜ askedOf r ≡ causalAsk (jobIn n (now (graph .entry)) noNodes noNodes []) (flowIn (now (layers .entry)) noNodes []) i k ⌝ }
 {
     if byte_at(layers, k) >= byte_at(layers, i) {
@@ -33,13 +36,21 @@ fn check_pair(n: u8, graph: &[u64], layers: &[u8], i: u8, k: u8) -> Asked
 }
 
 // Node i, where it is no output, with each member of its set: there is one, by question 9.
-fn check_node(n: u8, graph: &[u64], outputs: NodeSet, layers: &[u8], sets: &[u64], i: u8) -> Asked
+fn check_node(
+    n: usize,
+    graph: &[u64],
+    outputs: NodeSet,
+    layers: &[u8],
+    sets: &[u64],
+    i: u8,
+) -> Asked
+    requires { ⌜ n ≤ capacity ⌝ }
     ensures { λ r. ⌜ askedOf r ≡ definitionAsk (jobIn n (now (graph .entry)) noNodes outputs []) (flowIn (now (layers .entry)) noNodes (now (sets .entry))) modeCausal i ⌝ }
 {
     if outputs.has(i) {
         return Asked::Passed;
     }
-    let mut s = set_at(sets, i).intersection(NodeSet::below(n as usize));
+    let mut s = set_at(sets, i).intersection(NodeSet::below(n));
     while !s.is_empty() {
         let a = check_pair(n, graph, layers, i, s.lowest());
         let Asked::Passed = a else {
@@ -50,11 +61,12 @@ fn check_node(n: u8, graph: &[u64], outputs: NodeSet, layers: &[u8], sets: &[u64
     Asked::Passed
 }
 
-fn check_nodes(n: u8, graph: &[u64], outputs: NodeSet, layers: &[u8], sets: &[u64]) -> Asked
+fn check_nodes(n: usize, graph: &[u64], outputs: NodeSet, layers: &[u8], sets: &[u64]) -> Asked
+    requires { ⌜ n ≤ capacity ⌝ }
     ensures { λ r. ⌜ askedOf r ≡ each n (definitionAsk (jobIn n (now (graph .entry)) noNodes outputs []) (flowIn (now (layers .entry)) noNodes (now (sets .entry))) modeCausal) ⌝ }
 {
     let mut i: u8 = 0;
-    while i < n {
+    while (i as usize) < n {
         let a = check_node(n, graph, outputs, layers, sets, i);
         let Asked::Passed = a else {
             return a;
@@ -66,7 +78,7 @@ fn check_nodes(n: u8, graph: &[u64], outputs: NodeSet, layers: &[u8], sets: &[u6
 
 // Has each entry a measurement (17)? Then node by node.
 pub(crate) fn check_definition(
-    n: u8,
+    n: usize,
     graph: &[u64],
     outputs: NodeSet,
     measured: &[u8],
@@ -74,6 +86,7 @@ pub(crate) fn check_definition(
     entries: NodeSet,
     sets: &[u64],
 ) -> Asked
+    requires { ⌜ n ≤ capacity ⌝ }
     ensures { λ r. ⌜ askedOf r ≡ checkDefinition (jobIn n (now (graph .entry)) noNodes outputs (now (measured .entry))) (flowIn (now (layers .entry)) entries (now (sets .entry))) modeCausal ⌝ }
 {
     let a = check_measured(n, measured, entries);

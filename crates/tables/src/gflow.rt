@@ -1,5 +1,7 @@
 // Checking a generalized flow, mode 2 of document 01.
 ghost use mathlib.Core.Path.{_≡_};
+ghost use Prim.Native.Nat.{_≤_};
+ghost use Rattle.nodes.specs.NodeSet.{capacity};
 ghost use Rattle.finder.specs.Finder.{jobIn};
 ghost use Rattle.records.specs.JobFile.{modePlanes};
 ghost use Rattle.verdicts.specs.Verdict.{each, definitionAsk, checkDefinition};
@@ -18,7 +20,7 @@ use records::common::Refused;
 // Node i, where it is no output: is each member other than i later, and each node of Odd (18)? Does its own
 // measurement hold (19)?
 fn check_node(
-    n: u8,
+    n: usize,
     graph: &[u64],
     outputs: NodeSet,
     measured: &[u8],
@@ -26,6 +28,7 @@ fn check_node(
     sets: &[u64],
     i: u8,
 ) -> Asked
+    requires { ⌜ n ≤ capacity ⌝ }
     ensures { λ r. ⌜ askedOf r ≡ definitionAsk (jobIn n (now (graph .entry)) noNodes outputs (now (measured .entry))) (flowIn (now (layers .entry)) noNodes (now (sets .entry))) modePlanes i ⌝ }
 {
     if outputs.has(i) {
@@ -49,17 +52,18 @@ fn check_node(
 }
 
 fn check_nodes(
-    n: u8,
+    n: usize,
     graph: &[u64],
     outputs: NodeSet,
     measured: &[u8],
     layers: &[u8],
     sets: &[u64],
 ) -> Asked
+    requires { ⌜ n ≤ capacity ⌝ }
     ensures { λ r. ⌜ askedOf r ≡ each n (definitionAsk (jobIn n (now (graph .entry)) noNodes outputs (now (measured .entry))) (flowIn (now (layers .entry)) noNodes (now (sets .entry))) modePlanes) ⌝ }
 {
     let mut i: u8 = 0;
-    while i < n {
+    while (i as usize) < n {
         let a = check_node(n, graph, outputs, measured, layers, sets, i);
         let Asked::Passed = a else {
             return a;
@@ -71,7 +75,7 @@ fn check_nodes(
 
 // Has each entry a measurement (17)? Then node by node.
 pub(crate) fn check_definition(
-    n: u8,
+    n: usize,
     graph: &[u64],
     outputs: NodeSet,
     measured: &[u8],
@@ -79,6 +83,7 @@ pub(crate) fn check_definition(
     entries: NodeSet,
     sets: &[u64],
 ) -> Asked
+    requires { ⌜ n ≤ capacity ⌝ }
     ensures { λ r. ⌜ askedOf r ≡ checkDefinition (jobIn n (now (graph .entry)) noNodes outputs (now (measured .entry))) (flowIn (now (layers .entry)) entries (now (sets .entry))) modePlanes ⌝ }
 {
     let a = check_measured(n, measured, entries);

@@ -2,7 +2,7 @@
 pub mod find; // find.rt: the finder, from a job file to a flow file
 mod flow; // flow.rt: checking a causal flow
 mod gflow; // gflow.rt: checking a generalized flow
-mod load; // load.rt: a flow's sets as a table
+mod load; // load.rt: what the records hold, as tables
 pub mod output; // output.rt: the two programs on lent bytes
 mod pflow; // pflow.rt: checking a Pauli flow
 mod validate; // validate.rt: what every flow is asked
@@ -10,41 +10,62 @@ mod validate; // validate.rt: what every flow is asked
 ghost use mathlib.Core.Path.{_≡_};
 ghost use mathlib.Core.Bool.{not, _||_};
 ghost use mathlib.Core.List.{[]};
+ghost use Prim.Native.Nat.{_≤_};
 ghost use lib.Dec.{eqb};
 ghost use lib.ListN.{length};
+ghost use Rattle.nodes.specs.NodeSet.{capacity};
 ghost use Rattle.finder.specs.Finder.{jobIn};
-ghost use Rattle.records.specs.Records.{written, kindAccepted};
+ghost use Rattle.records.specs.Records.{written};
+ghost use Rattle.records.specs.Splice.{putFirst, putCount, putOf};
 ghost use Rattle.records.specs.JobFile.{modeCausal, measuredOf, jobOf};
 ghost use Rattle.records.specs.FlowFile.{entriesOf, listed, allEntries, flowOf};
 ghost use Rattle.records.specs.Encoding.{ValidJob, ValidFlow};
 ghost use Rattle.verdicts.specs.Verdict.{verify as verifyOf};
-ghost use Rattle.verdicts.specs.Calls.{verdict, verifyAsks, put, verifyCall};
+ghost use Rattle.verdicts.specs.Calls.{verdict, verifyAsks, verifyCall};
 ghost use Rattle.records.specs.Views.{fileAt, JobLies, flowAt, FlowLies};
-ghost use Rattle.tables.specs.Loaded.{flowIn, askedOf, flowAsks, verifiedOf};
+ghost use Rattle.tables.specs.Loaded.{flowIn, askedOf, flowAsks};
+ghost use Rattle.tables.specs.Replies.{replyOf, putReply};
 use finder::TABLE_WORDS;
 use nodes::utils::NodeSet;
 use records::common::FlowPlaces;
 use records::common::FlowRead;
-use records::common::HEAD_BYTES;
 use records::common::JobPlaces;
 use records::common::JobRead;
 use records::common::KIND_ACCEPTED;
 use records::common::MODE_CAUSAL;
 use records::common::MODE_PAULI;
 use records::common::Refused;
-use records::load::load_graph;
-use records::load::measured_of;
+use records::writer::Put;
+use records::writer::write_record;
 use validate::Asked;
 
-// What the verifier answers: the number of bytes written, or why not.
-pub enum Verified {
-    Accepted(usize),
+// What an entry answers: how many bytes it wrote, or why it was refused.
+pub enum Reply {
+    Wrote(usize),
     Refused(Refused),
+}
+
+// Does the result fit the lent buffer (20)?
+fn answered(put: Put) -> Reply
+    ensures { λ r. ⌜ replyOf r ≡ putReply (putOf put) ⌝ }
+{
+    match put {
+        Put::Bytes(k) => Reply::Wrote(k),
+        Put::TooLong => Reply::Refused(Refused::ResultTooLong),
+    }
+}
+
+// A record that is its kind alone.
+fn write_bare(out: &mut [u8], kind: u16) -> Reply
+    ensures { λ r. ⌜ replyOf r ≡ putReply (putCount (written kind []) (now (out .entry))) ⌝ }
+    ensures { λ _. ⌜ now (out .exit) ≡ putFirst (written kind []) (now (out .entry)) ⌝ }
+{
+    answered(write_record(out, kind, b""))
 }
 
 // Questions 13 to 19 in their order. Reading allows modes 1 to 3; any other would be asked as mode 2.
 fn verify_loaded(
-    n: u8,
+    n: usize,
     mode: u8,
     graph: &[u64],
     inputs: NodeSet,
@@ -54,6 +75,7 @@ fn verify_loaded(
     entries: NodeSet,
     sets: &[u64],
 ) -> Asked
+    requires { ⌜ n ≤ capacity ⌝ }
     ensures { λ r. ⌜ askedOf r ≡ verifyOf (jobIn n (now (graph .entry)) inputs outputs (now (measured .entry))) (flowIn (now (layers .entry)) entries (now (sets .entry))) mode ⌝ }
 {
     let a = validate::check_domain(n, inputs, outputs, sets);
@@ -93,8 +115,8 @@ fn verify_flow(
     let start = sets.start;
     let end = sets.end;
     let entries = load::load_sets(&file[start..end], &mut table);
-    let n = job.n as u8;
-    let measured = measured_of(job);
+    let n = job.n;
+    let measured = load::measured_of(job);
     let mode = measured.mode;
     let place = measured.measurements;
     let first = place.start;
@@ -125,7 +147,7 @@ fn verify_job(file: &[u8], job: JobPlaces, flow: FlowPlaces) -> Asked
     let edges = job.edges;
     let start = edges.start;
     let end = edges.end;
-    load_graph(&file[start..end], &mut graph);
+    load::load_graph(&file[start..end], &mut graph);
     let inputs = job.inputs;
     let first = inputs.start;
     let past = inputs.end;
@@ -183,29 +205,13 @@ fn verify_file(file: &[u8]) -> Asked
     }
 }
 
-// 0014, where it fits the lent buffer (20); bytes after it stay as they were.
-fn write_accepted(out: &mut [u8]) -> Verified
-    ensures { λ r. ⌜ record { answer = verifiedOf r; work = []; out = now (out .exit) } ≡ put [] (written kindAccepted []) (now (out .entry)) ⌝ }
-{
-    if out.len() < HEAD_BYTES {
-        return Verified::Refused(Refused::ResultTooLong);
-    }
-    out[0] = 0;
-    out[1] = 0;
-    out[2] = 0;
-    out[3] = 0;
-    out[4] = (KIND_ACCEPTED % 256) as u8;
-    out[5] = (KIND_ACCEPTED / 256) as u8;
-    Verified::Accepted(HEAD_BYTES)
-}
-
 // Does the flow file behind the job satisfy the job's mode? The answer 0014 goes to the lent buffer; a refusal
 // leaves it untouched.
-pub fn verify(file: &[u8], out: &mut [u8]) -> Verified
-    ensures { λ r. ⌜ record { answer = verifiedOf r; work = []; out = now (out .exit) } ≡ verifyCall (now (file .entry)) (now (out .entry)) ⌝ }
+pub fn verify(file: &[u8], out: &mut [u8]) -> Reply
+    ensures { λ r. ⌜ record { answer = replyOf r; work = []; out = now (out .exit) } ≡ verifyCall (now (file .entry)) (now (out .entry)) ⌝ }
 {
     match verify_file(file) {
-        Asked::Passed => write_accepted(out),
-        Asked::Refused(q) => Verified::Refused(q),
+        Asked::Passed => write_bare(out, KIND_ACCEPTED),
+        Asked::Refused(q) => Reply::Refused(q),
     }
 }

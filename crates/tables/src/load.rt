@@ -1,34 +1,74 @@
-// A flow's sets as a table, a set for each node.
+// What the records hold, as the cores take it: the measurements to work with, and edges and sets as tables of sets.
 ghost use mathlib.Core.Path.{_≡_};
-ghost use mathlib.Core.Bool.{true};
+ghost use mathlib.Core.Bool.{true, _&&_, _||_};
+ghost use mathlib.Core.List.{List};
 ghost use Prim.Native.Nat.{ℕ};
+ghost use lib.Dec.{eqb};
 ghost use lib.ListN.{length};
 ghost use Rattle.nodes.specs.NodeSet.{member, capacity};
 ghost use Rattle.nodes.specs.SetTable.{setAt};
 ghost use Rattle.finder.specs.Finder.{tableWords};
+ghost use Rattle.records.specs.JobFile.{measuredOf, joined};
 ghost use Rattle.records.specs.FlowFile.{entriesOf, framed, listed, allEntries, entryBelow, setIn, entryIn};
+ghost use Rattle.records.specs.Views.{Lies, fileAt};
+ghost use Rattle.tables.specs.Loading.{measuredAt, hasSet, room};
 use nodes::utils::NodeSet;
 use nodes::utils::clear_table;
+use nodes::utils::put_set;
+use nodes::utils::set_at;
+use records::common::ENTRY_HEAD_BYTES;
+use records::common::JobPlaces;
+use records::common::Place;
+use records::common::entries_end;
 use records::common::set_of;
-use records::load::add_set;
 
-// Do the entries end exactly with the payload?
-fn entries_end(sets: &[u8]) -> bool
-    ensures { λ r. ⌜ r ≡ framed (entriesOf (now (sets .entry))) ⌝ }
+// The mode and the measurements to work with.
+pub struct Measured {
+    pub mode: u8,
+    pub measurements: Place,
+}
+
+// Today those of the file.
+pub(crate) fn measured_of(job: JobPlaces) -> Measured
+    ensures { λ r. ⌜ ((s : List ℕ) → measuredAt s r ≡ measuredOf (fileAt s job)) ⌝ }
+    ensures { λ r. ⌜ ((s : List ℕ) → Lies s (job .measurements) → Lies s (r .measurements)) ⌝ }
 {
-    let mut i = 0;
-    while i < sets.len() {
-        let left = sets.len() - i;
-        if left < 2 {
-            return false;
-        }
-        let count = sets[i + 1] as usize;
-        if count > left - 2 {
-            return false;
-        }
-        i += 2 + count;
+    let measurements = job.measurements;
+    Measured {
+        mode: job.mode,
+        measurements,
     }
-    true
+}
+
+// The nodes of more join set u, where the table has it.
+fn add_set(table: &mut [u64], u: u8, more: NodeSet)
+    ensures { λ _. ⌜ ((v w : ℕ) → setAt (now (table .exit)) v w ≡ setAt (now (table .entry)) v w || ((eqb v u && member more w) && hasSet (now (table .entry)) u)) ⌝ }
+{
+    let old = set_at(table, u);
+    put_set(table, u, old.union(more));
+}
+
+// Node b becomes a neighbor of a, where the table has room for it.
+fn join(graph: &mut [u64], a: u8, b: u8)
+    ensures { λ _. ⌜ ((u v : ℕ) → setAt (now (graph .exit)) u v ≡ setAt (now (graph .entry)) u v || ((eqb u a && eqb v b) && room (now (graph .entry)) u v)) ⌝ }
+{
+    let one = NodeSet::empty().with(b);
+    add_set(graph, a, one);
+}
+
+// Each edge joins both ways.
+pub(crate) fn load_graph(edges: &[u8], graph: &mut [u64])
+    ensures { λ _. ⌜ ((u v : ℕ) → setAt (now (graph .exit)) u v ≡ (joined (now (edges .entry)) u v && room (now (graph .entry)) u v)) ⌝ }
+{
+    clear_table(graph);
+    let mut i = 0;
+    while edges.len() - i >= 2 {
+        let a = edges[i];
+        let b = edges[i + 1];
+        join(graph, a, b);
+        join(graph, b, a);
+        i += 2;
+    }
 }
 
 // The members of each entry go into its node's set; the answer is the nodes that have an entry.
@@ -43,7 +83,7 @@ fn load_entries(sets: &[u8], table: &mut [u64]) -> NodeSet
     let mut i = 0;
     while i < sets.len() {
         let u = sets[i];
-        let start = i + 2;
+        let start = i + ENTRY_HEAD_BYTES;
         let end = start + sets[i + 1] as usize;
         let members = set_of(&sets[start..end]);
         add_set(table, u, members);

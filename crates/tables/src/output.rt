@@ -4,15 +4,15 @@ ghost use Prim.Native.Nat.{min};
 ghost use Rattle.records.specs.Refusals.{refusalOf};
 ghost use Rattle.records.specs.Splice.{putFirst};
 ghost use Rattle.verdicts.specs.Programs.{judgedBytes, refusalBytes};
-ghost use Rattle.tables.specs.Printing.{findPrinted, verifyPrinted, outputOf, InRoom, numbersOf};
-use crate::Verified;
-use crate::find::Reply;
+ghost use Rattle.tables.specs.Printing.{findPrinted, verifyPrinted, outputOf, InRoom};
+use crate::Reply;
 use crate::find::find;
 use crate::verify;
 use finder::WORK_BYTES;
 use records::common::HEAD_BYTES;
 use records::common::KIND_REFUSAL;
 use records::common::Refused;
+use records::common::numbers_of;
 use records::writer::write_record;
 
 // Each judges the first 65,536 bytes.
@@ -31,54 +31,11 @@ pub enum Output {
     NoRoom,
 }
 
-// The payload of 001F.
-struct Numbers {
-    number: u8,
-    a: u8,
-    b: u8,
-}
-
-fn three(number: u8, a: u8, b: u8) -> Numbers
-    ensures { λ r. ⌜ numbersOf r ≡ record { number = number; a = a; b = b } ⌝ }
-{
-    Numbers { number, a, b }
-}
-
-// Document 01's number, a and b of a refusal.
-fn told(q: Refused) -> Numbers
-    ensures { λ r. ⌜ numbersOf r ≡ refusalOf q ⌝ }
-{
-    match q {
-        Refused::NoRecord => three(1, 0, 0),
-        Refused::CutPayload => three(2, 0, 0),
-        Refused::OddEdges => three(3, 0, 0),
-        Refused::CutEntry => three(3, 0, 0),
-        Refused::WrongLength => three(3, 0, 0),
-        Refused::WrongOpening => three(4, 0, 0),
-        Refused::NodeTooLarge => three(5, 0, 0),
-        Refused::NotAscending => three(6, 0, 0),
-        Refused::WrongMeasurement => three(7, 0, 0),
-        Refused::BytesLeft => three(8, 0, 0),
-        Refused::NotOneMember => three(9, 0, 0),
-        Refused::ModeNotSearched => three(10, 0, 0),
-        Refused::WrongWorkBuffer => three(11, 0, 0),
-        Refused::InvalidFlowCodomain(a) => three(13, a, 0),
-        Refused::InvalidFlowDomain(a) => three(14, a, 0),
-        Refused::ExcessiveNonZeroLayer(a, b) => three(15, a, b),
-        Refused::ExcessiveZeroLayer(a) => three(16, a, 0),
-        Refused::InvalidMeasurementSpec(a) => three(17, a, 0),
-        Refused::InconsistentFlowOrder(a, b) => three(18, a, b),
-        Refused::InconsistentFlowPlane(a) => three(19, a, 0),
-        Refused::InconsistentFlowPPlane(a) => three(19, a, 0),
-        Refused::ResultTooLong => three(20, 0, 0),
-    }
-}
-
 // 001F at the front of the buffer, where it fits.
 fn write_refusal(out: &mut [u8], q: Refused)
     ensures { λ _. ⌜ now (out .exit) ≡ putFirst (refusalBytes (refusalOf q)) (now (out .entry)) ⌝ }
 {
-    let m = told(q);
+    let m = numbers_of(q);
     let payload = [m.number, m.a, m.b];
     write_record(out, KIND_REFUSAL, &payload);
 }
@@ -122,8 +79,8 @@ pub fn verify_bytes(input: &[u8], out: &mut [u8]) -> Output
     }
     let n = judged(input.len());
     match verify(&input[0..n], out) {
-        Verified::Accepted(k) => Output::Wrote(k),
-        Verified::Refused(q) => {
+        Reply::Wrote(k) => Output::Wrote(k),
+        Reply::Refused(q) => {
             write_refusal(out, q);
             Output::Refused(q)
         }

@@ -1,15 +1,13 @@
 // Checking a Pauli flow, mode 3 of document 01.
 ghost use mathlib.Core.Path.{_≡_};
-ghost use Rattle.nodes.specs.NodeSet.{member};
+ghost use Prim.Native.Nat.{_≤_};
+ghost use Rattle.nodes.specs.NodeSet.{member, capacity};
 ghost use Rattle.flows.specs.Job.{own};
 ghost use Rattle.finder.specs.Finder.{jobIn};
 ghost use Rattle.records.specs.JobFile.{modePauli};
 ghost use Rattle.verdicts.specs.Verdict.{ask, _next_, each, definitionAsk, checkDefinition};
 ghost use Rattle.tables.specs.Loaded.{flowIn, noNodes, askedOf, firstIn, Sorted};
 use crate::validate::Asked;
-use crate::validate::PAULI_X;
-use crate::validate::PAULI_Y;
-use crate::validate::PAULI_Z;
 use crate::validate::byte_at;
 use crate::validate::check_measured;
 use crate::validate::in_order;
@@ -17,6 +15,9 @@ use crate::validate::nodes_from;
 use crate::validate::not_later;
 use crate::validate::odd_of;
 use crate::validate::own_holds;
+use flows::PAULI_X;
+use flows::PAULI_Y;
+use flows::PAULI_Z;
 use nodes::utils::NodeSet;
 use nodes::utils::set_at;
 use records::common::Refused;
@@ -28,7 +29,8 @@ struct Paulis {
     y: NodeSet,
 }
 
-fn paulis_of(n: u8, measured: &[u8]) -> Paulis
+fn paulis_of(n: usize, measured: &[u8]) -> Paulis
+    requires { ⌜ n ≤ capacity ⌝ }
     ensures { λ r. ⌜ Sorted n (now (measured .entry)) r ⌝ }
 {
     let x = nodes_from(n, measured, PAULI_X);
@@ -58,7 +60,7 @@ fn check_measurement(i: u8, measurement: u8, set: NodeSet, odd: NodeSet, wrong: 
 // Node i, where it is no output: is each member other than i later, or measured X or Y, and each node of Odd,
 // or measured Y or Z (18)? Do the Y nodes and its own measurement hold (19)?
 fn check_node(
-    n: u8,
+    n: usize,
     graph: &[u64],
     outputs: NodeSet,
     measured: &[u8],
@@ -67,6 +69,7 @@ fn check_node(
     paulis: Paulis,
     i: u8,
 ) -> Asked
+    requires { ⌜ n ≤ capacity ⌝ }
     requires { ⌜ Sorted n (now measured) paulis ⌝ }
     ensures { λ r. ⌜ askedOf r ≡ definitionAsk (jobIn n (now (graph .entry)) noNodes outputs (now (measured .entry))) (flowIn (now (layers .entry)) noNodes (now (sets .entry))) modePauli i ⌝ }
 {
@@ -92,18 +95,19 @@ fn check_node(
 }
 
 fn check_nodes(
-    n: u8,
+    n: usize,
     graph: &[u64],
     outputs: NodeSet,
     measured: &[u8],
     layers: &[u8],
     sets: &[u64],
 ) -> Asked
+    requires { ⌜ n ≤ capacity ⌝ }
     ensures { λ r. ⌜ askedOf r ≡ each n (definitionAsk (jobIn n (now (graph .entry)) noNodes outputs (now (measured .entry))) (flowIn (now (layers .entry)) noNodes (now (sets .entry))) modePauli) ⌝ }
 {
     let paulis = paulis_of(n, measured);
     let mut i: u8 = 0;
-    while i < n {
+    while (i as usize) < n {
         let a = check_node(n, graph, outputs, measured, layers, sets, paulis, i);
         let Asked::Passed = a else {
             return a;
@@ -115,7 +119,7 @@ fn check_nodes(
 
 // Has each entry a measurement (17)? Then node by node.
 pub(crate) fn check_definition(
-    n: u8,
+    n: usize,
     graph: &[u64],
     outputs: NodeSet,
     measured: &[u8],
@@ -123,6 +127,7 @@ pub(crate) fn check_definition(
     entries: NodeSet,
     sets: &[u64],
 ) -> Asked
+    requires { ⌜ n ≤ capacity ⌝ }
     ensures { λ r. ⌜ askedOf r ≡ checkDefinition (jobIn n (now (graph .entry)) noNodes outputs (now (measured .entry))) (flowIn (now (layers .entry)) entries (now (sets .entry))) modePauli ⌝ }
 {
     let a = check_measured(n, measured, entries);

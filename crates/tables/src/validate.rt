@@ -1,35 +1,29 @@
 // The questions on a flow's domain and layers, 13 to 16 of document 01, and what the three definitions share.
 ghost use mathlib.Core.Path.{_≡_};
+ghost use Prim.Native.Nat.{_≤_};
 ghost use mathlib.Core.Bool.{cond, not, _&&_, _||_};
 ghost use mathlib.Core.List.{[]};
 ghost use lib.Dec.{eqb, leb, ltb};
 ghost use lib.ListN.{getD};
 ghost use Rattle.nodes.specs.Row.{parity};
-ghost use Rattle.nodes.specs.NodeSet.{member, highest};
+ghost use Rattle.nodes.specs.NodeSet.{member, highest, capacity};
 ghost use Rattle.nodes.specs.SetTable.{setAt};
 ghost use Rattle.flows.specs.Job.{own};
 ghost use Rattle.finder.specs.Finder.{jobIn};
 ghost use Rattle.verdicts.specs.Verdict.{ask, each, measuredAsk, inputAsk, domainAsk, checkDomain, checkInitial};
 ghost use Rattle.records.specs.JobFile.{modePauli};
 ghost use Rattle.tables.specs.Loaded.{flowIn, noNodes, within, askedOf, firstIn};
+use flows::PAULI_X;
+use flows::PAULI_Y;
+use flows::PAULI_Z;
+use flows::PLANE_XY;
+use flows::PLANE_XZ;
+use flows::PLANE_YZ;
 use nodes::utils::NodeSet;
 use nodes::utils::odd_neighbors;
 use nodes::utils::set_at;
 use records::common::MODE_PAULI;
 use records::common::Refused;
-
-// The measurements by their numbers.
-pub const PLANE_XY: u8 = 1;
-
-pub const PLANE_YZ: u8 = 2;
-
-pub const PLANE_XZ: u8 = 3;
-
-pub const PAULI_X: u8 = 4;
-
-pub const PAULI_Y: u8 = 5;
-
-pub const PAULI_Z: u8 = 6;
 
 pub enum Asked {
     Passed,
@@ -60,12 +54,13 @@ fn with_if(s: NodeSet, v: u8, put: bool) -> NodeSet
 }
 
 // The nodes below n whose byte is low or more.
-pub(crate) fn nodes_from(n: u8, bytes: &[u8], low: u8) -> NodeSet
+pub(crate) fn nodes_from(n: usize, bytes: &[u8], low: u8) -> NodeSet
+    requires { ⌜ n ≤ capacity ⌝ }
     ensures { λ r. ⌜ member r ≡ (λ v. within n v && leb low (getD (now (bytes .entry)) v 0)) ⌝ }
 {
     let mut s = NodeSet::empty();
     let mut v: u8 = 0;
-    while v < n {
+    while (v as usize) < n {
         let byte = byte_at(bytes, v);
         s = with_if(s, v, low <= byte);
         v += 1;
@@ -74,7 +69,8 @@ pub(crate) fn nodes_from(n: u8, bytes: &[u8], low: u8) -> NodeSet
 }
 
 // The nodes below n other than i that are not later than i.
-pub(crate) fn not_later(n: u8, layers: &[u8], i: u8) -> NodeSet
+pub(crate) fn not_later(n: usize, layers: &[u8], i: u8) -> NodeSet
+    requires { ⌜ n ≤ capacity ⌝ }
     ensures { λ r. ⌜ member r ≡ (λ v. (within n v && leb (getD (now (layers .entry)) i 0) (getD (now (layers .entry)) v 0)) && not (eqb v i)) ⌝ }
 {
     let layer = byte_at(layers, i);
@@ -82,10 +78,10 @@ pub(crate) fn not_later(n: u8, layers: &[u8], i: u8) -> NodeSet
 }
 
 // Odd of the set, of whose members those below n count.
-pub(crate) fn odd_of(n: u8, graph: &[u64], set: NodeSet) -> NodeSet
+pub(crate) fn odd_of(n: usize, graph: &[u64], set: NodeSet) -> NodeSet
     ensures { λ r. ⌜ member r ≡ (λ v. parity n (λ k. setAt (now (graph .entry)) k v && member set k)) ⌝ }
 {
-    let all = NodeSet::below(n as usize);
+    let all = NodeSet::below(n);
     odd_neighbors(graph, set.intersection(all))
 }
 
@@ -117,10 +113,11 @@ pub(crate) fn own_holds(measurement: u8, inside: bool, odd: bool) -> bool
 }
 
 // Has each entry a measurement (17)?
-pub(crate) fn check_measured(n: u8, measured: &[u8], entries: NodeSet) -> Asked
+pub(crate) fn check_measured(n: usize, measured: &[u8], entries: NodeSet) -> Asked
+    requires { ⌜ n ≤ capacity ⌝ }
     ensures { λ r. ⌜ askedOf r ≡ each n (measuredAsk (jobIn n [] noNodes noNodes (now (measured .entry))) (flowIn [] entries [])) ⌝ }
 {
-    let all = NodeSet::below(n as usize);
+    let all = NodeSet::below(n);
     let some = nodes_from(n, measured, PLANE_XY);
     let bare = entries.intersection(all).difference(some);
     if bare.is_empty() {
@@ -132,12 +129,13 @@ pub(crate) fn check_measured(n: u8, measured: &[u8], entries: NodeSet) -> Asked
 // ---- Domain and layers.
 
 // Is each member no input, the node itself excepted (13)?
-fn check_codomain(n: u8, inputs: NodeSet, sets: &[u64]) -> Asked
+fn check_codomain(n: usize, inputs: NodeSet, sets: &[u64]) -> Asked
+    requires { ⌜ n ≤ capacity ⌝ }
     ensures { λ r. ⌜ askedOf r ≡ each n (λ u. each n (inputAsk (jobIn n [] inputs noNodes []) (flowIn [] noNodes (now (sets .entry))) u)) ⌝ }
 {
     let mut u: u8 = 0;
-    while u < n {
-        let all = NodeSet::below(n as usize);
+    while (u as usize) < n {
+        let all = NodeSet::below(n);
         let wrong = set_at(sets, u)
             .intersection(inputs)
             .intersection(all)
@@ -151,12 +149,13 @@ fn check_codomain(n: u8, inputs: NodeSet, sets: &[u64]) -> Asked
 }
 
 // Are the nodes with a non-empty set exactly the non-outputs (14)?
-fn check_members(n: u8, outputs: NodeSet, sets: &[u64]) -> Asked
+fn check_members(n: usize, outputs: NodeSet, sets: &[u64]) -> Asked
+    requires { ⌜ n ≤ capacity ⌝ }
     ensures { λ r. ⌜ askedOf r ≡ each n (domainAsk (jobIn n [] noNodes outputs []) (flowIn [] noNodes (now (sets .entry)))) ⌝ }
 {
     let mut u: u8 = 0;
-    while u < n {
-        let all = NodeSet::below(n as usize);
+    while (u as usize) < n {
+        let all = NodeSet::below(n);
         let empty = set_at(sets, u).intersection(all).is_empty();
         if empty != outputs.has(u) {
             return Asked::Refused(Refused::InvalidFlowDomain(u));
@@ -167,7 +166,8 @@ fn check_members(n: u8, outputs: NodeSet, sets: &[u64]) -> Asked
 }
 
 // What the questions do not look at, the graph and the layers, is left empty in the contract.
-pub(crate) fn check_domain(n: u8, inputs: NodeSet, outputs: NodeSet, sets: &[u64]) -> Asked
+pub(crate) fn check_domain(n: usize, inputs: NodeSet, outputs: NodeSet, sets: &[u64]) -> Asked
+    requires { ⌜ n ≤ capacity ⌝ }
     ensures { λ r. ⌜ askedOf r ≡ checkDomain (jobIn n [] inputs outputs []) (flowIn [] noNodes (now (sets .entry))) ⌝ }
 {
     let a = check_codomain(n, inputs, sets);
@@ -196,11 +196,12 @@ fn check_layer(mode: u8, output: bool, u: u8, layer: u8) -> Asked
     Asked::Passed
 }
 
-pub(crate) fn check_initial(n: u8, mode: u8, outputs: NodeSet, layers: &[u8]) -> Asked
+pub(crate) fn check_initial(n: usize, mode: u8, outputs: NodeSet, layers: &[u8]) -> Asked
+    requires { ⌜ n ≤ capacity ⌝ }
     ensures { λ r. ⌜ askedOf r ≡ checkInitial (jobIn n [] noNodes outputs []) (flowIn (now (layers .entry)) noNodes []) mode ⌝ }
 {
     let mut u: u8 = 0;
-    while u < n {
+    while (u as usize) < n {
         let layer = byte_at(layers, u);
         let a = check_layer(mode, outputs.has(u), u, layer);
         let Asked::Passed = a else {

@@ -1,4 +1,7 @@
-use mathlib.Core.Path.{_∙_}
+use mathlib.Core.Path.{refl, _∙_}
+use mathlib.Core.List.{[]}
+use Rattle.records.specs.Records.{written, kindAccepted}
+use Rattle.tables.proofs.Finding.{put-is}
 use Rattle.tables.proofs.LoadingFiles.{call-passed, call-stopped}
 use borrow.Author.Needs.{needs}
 use Rattle.tables.proofs.verify.Statement.{statement}
@@ -10,8 +13,8 @@ verify-file-requires c κs = search needs
 enum-told : tie.Need-enum-told
 enum-told c = search needs
 
-write-accepted-requires : tie.Need-write-accepted-requires
-write-accepted-requires c κs = search needs
+write-bare-requires : tie.Need-write-bare-requires
+write-bare-requires c κs = search needs
 
 enum-known-q : tie.Need-enum-known-q
 enum-known-q c = search needs
@@ -23,7 +26,8 @@ returns : tie.Need-returns
 returns c = let t = c .before .before .before .before in
     let f = t .before .before in
     let a = f .before .before .before .args in
-    c .before .before .write-accepted .ensures ∙ call-passed (a .file .now) (a .out .now) (f .verify-file .result) (f .verify-file .ensures) (t .enum-told .given .1)
+    put-is (written kindAccepted []) (a .out .now) _ _ [] [] (c .before .before .write-bare .ensures .0) (c .before .before .write-bare .ensures .1) refl
+    ∙ call-passed (a .file .now) (a .out .now) (f .verify-file .result) (f .verify-file .ensures) (t .enum-told .given .1)
 
 returns-2 : tie.Need-returns-2
 returns-2 c = let f = c .before .before .before in
@@ -36,7 +40,7 @@ verify-spec =
     (tie.spec
     verify-file-requires
     enum-told
-    write-accepted-requires
+    write-bare-requires
     enum-known-q
     same-length
     returns

@@ -25,27 +25,24 @@ slice-aggregate-load-sets c = search needs
 load-sets-requires : tie.Need-load-sets-requires
 load-sets-requires c κs = let s = c .before .before .before .before .before in (search needs, entries-fit (s .args .job .n) (flowAt (s .args .file .now) (s .args .flow) .sets) (s .pre .1 .0 .few) (s .pre .1 .1 .below))
 
-cast-n : tie.Need-cast-n
-cast-n c = search needs
-
 measured-of-requires : tie.Need-measured-of-requires
 measured-of-requires c κs = search needs
 
 sub-verify-loaded : tie.Need-sub-verify-loaded
 sub-verify-loaded c = let m = c .before .before in
-    let s = m .before .before .before .before .before .before .before .before .before in
+    let s = m .before .before .before .before .before .before .before .before in
     let i = m .measured-of .ensures .1 (s .args .file .now) (s .pre .0 .0 .measurements) in
     search needs
 
 part-verify-loaded-start : tie.Need-part-verify-loaded-start
 part-verify-loaded-start c = let m = c .before .before in
-    let s = m .before .before .before .before .before .before .before .before .before in
+    let s = m .before .before .before .before .before .before .before .before in
     let i = m .measured-of .ensures .1 (s .args .file .now) (s .pre .0 .0 .measurements) in
     search needs
 
 part-verify-loaded-end : tie.Need-part-verify-loaded-end
 part-verify-loaded-end c = let m = c .before .before in
-    let s = m .before .before .before .before .before .before .before .before .before in
+    let s = m .before .before .before .before .before .before .before .before in
     let i = m .measured-of .ensures .1 (s .args .file .now) (s .pre .0 .0 .measurements) in
     search needs
 
@@ -62,12 +59,12 @@ slice-aggregate-verify-loaded : tie.Need-slice-aggregate-verify-loaded
 slice-aggregate-verify-loaded c = search needs
 
 verify-loaded-requires : tie.Need-verify-loaded-requires
-verify-loaded-requires c κs = search needs
+verify-loaded-requires c κs = let s = c .before .before .before .before .before .before .before .before .before .before .before .before .before in s .pre .1 .0 .few
 
 returns : tie.Need-returns
 returns c = let m = c .before .before .before .before .before .before in
-    let l = c .before .before .before .before .before .before .before .before .before in
-    let s = c .before .before .before .before .before .before .before .before .before .before .before .before .before .before .before in
+    let l = c .before .before .before .before .before .before .before .before in
+    let s = c .before .before .before .before .before .before .before .before .before .before .before .before .before .before in
     let f = fileAt (s .args .file .now) (s .args .job) in
     let g = flowAt (s .args .file .now) (s .args .flow) in
     c .verify-loaded .ensures
@@ -83,7 +80,6 @@ verify-flow-spec =
     part-load-sets-end
     slice-aggregate-load-sets
     load-sets-requires
-    cast-n
     measured-of-requires
     sub-verify-loaded
     part-verify-loaded-start

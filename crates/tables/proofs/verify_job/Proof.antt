@@ -6,7 +6,7 @@ use Rattle.records.specs.JobFile.{measuredOf}
 use Rattle.records.specs.FlowFile.{flowOf}
 use Rattle.records.specs.Views.{fileAt, flowAt}
 use Rattle.records.proofs.ReadingRecords.{has-small}
-use Rattle.records.proofs.Loading.{room-enough}
+use Rattle.tables.proofs.LoadingEdges.{room-enough}
 use Rattle.tables.proofs.LoadingFiles.{same-job}
 use borrow.Author.Needs.{needs}
 use Rattle.tables.proofs.verify_job.Statement.{statement}

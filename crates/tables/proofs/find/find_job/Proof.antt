@@ -110,14 +110,14 @@ write-found-requires c κs = let t = c .before .before .before .before .before .
 enum-told-2 : tie.Need-enum-told-2
 enum-told-2 c = search needs
 
-write-none-requires : tie.Need-write-none-requires
-write-none-requires c κs = search needs
+write-bare-requires : tie.Need-write-bare-requires
+write-bare-requires c κs = search needs
 
 enum-told-3 : tie.Need-enum-told-3
 enum-told-3 c = search needs
 
-write-none-requires-2 : tie.Need-write-none-requires-2
-write-none-requires-2 c κs = search needs
+write-bare-requires-2 : tie.Need-write-bare-requires-2
+write-bare-requires-2 c κs = search needs
 
 same-length : tie.Need-same-length
 same-length c = search needs
@@ -154,7 +154,7 @@ returns-2 c = let a = c .before .before .before .before .before .before .before 
     let p = progressOf f in
     let told = sym (ap (λ (o : Outcome). o .answer) e) ∙ c .before .before .before .before .enum-told2 .given .1 in
     let zero = ap (λ (o : Outcome). o .work) e ∙ zeros-same workBytes in
-    let wrote = c .before .before .write-none in
+    let wrote = c .before .before .write-bare in
     let bytes = none-written s f (c .before .before .before .before .before .before .before .before .before .before .before .before .before .before .before .before .before .before .before .before .before .before .before .before .before .before .before .before .before .before .pre .0 .0) (told-none (f .n) (p .solved) told) in
     put-is (foundBytes f) (a .out .now) _ _ (zeros workBytes) _ (wrote .ensures .0 ∙ ap (λ (b : List ℕ). putReply (putCount b (a .out .now))) bytes) (wrote .ensures .1 ∙ ap (λ (b : List ℕ). putFirst b (a .out .now)) bytes) zero
 
@@ -197,9 +197,9 @@ find-job-spec =
     slice-aggregate-write-found-2
     write-found-requires
     enum-told-2
-    write-none-requires
+    write-bare-requires
     enum-told-3
-    write-none-requires-2
+    write-bare-requires-2
     same-length
     same-length-2
     returns

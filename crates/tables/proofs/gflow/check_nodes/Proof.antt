@@ -19,6 +19,9 @@ abbrev μ-loop : tie.MeasureT-loop
 loop-holds : tie.Need-loop-holds Inv-loop μ-loop
 loop-holds c = (search needs, each-start _ _)
 
+cast-loop : tie.Need-cast-loop Inv-loop μ-loop
+cast-loop c = search needs
+
 check-node-requires : tie.Need-check-node-requires Inv-loop μ-loop
 check-node-requires c κs = search needs
 
@@ -62,6 +65,7 @@ check-nodes-spec =
     Inv-loop
     μ-loop
     loop-holds
+    cast-loop
     check-node-requires
     enum-told
     enum-told-2

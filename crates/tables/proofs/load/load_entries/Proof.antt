@@ -14,7 +14,7 @@ use Rattle.records.specs.FlowFile.{entriesOf, framed, listed, allEntries, entry
 use Rattle.records.specs.Views.{between}
 use Rattle.records.proofs.ReadingEntries.{two-more, fits, framed-next}
 use Rattle.records.proofs.ReadingRecords.{has-small}
-use Rattle.records.proofs.Loading.{cleared}
+use Rattle.tables.proofs.LoadingEdges.{cleared}
 use Rattle.tables.proofs.LoadingTables.{set-end, entry-end, set-more, entry-more, below-out}
 use borrow.Author.Needs.{needs}
 use Rattle.tables.proofs.load.load_entries.Statement.{statement}

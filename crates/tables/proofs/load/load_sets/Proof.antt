@@ -4,7 +4,7 @@ use Prim.Native.Nat.{ℕ}
 use lib.ListN.{length}
 use borrow.Author.Tests.{not-true, not-false}
 use Rattle.records.specs.FlowFile.{entriesOf}
-use Rattle.records.proofs.Loading.{cleared}
+use Rattle.tables.proofs.LoadingEdges.{cleared}
 use Rattle.tables.proofs.LoadingFiles.{no-set, no-entry}
 use borrow.Author.Needs.{needs}
 use Rattle.tables.proofs.load.load_sets.Statement.{statement}

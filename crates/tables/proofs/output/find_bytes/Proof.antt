@@ -5,7 +5,7 @@ use native.Mathlib.Omega.{arith}
 use borrow.Author.Needs.{needs}
 use lib.ListN.{take}
 use Rattle.records.specs.Refusals.{refusalOf}
-use Rattle.tables.specs.declared.find.Reply.{Reply}
+use Rattle.tables.specs.declared.Reply.{Reply}
 use Rattle.verdicts.specs.Calls.{workBytes, zeros, Outcome, findAsks, findCall}
 use Rattle.verdicts.specs.Programs.{judgedBytes, findProgram}
 use Rattle.tables.specs.Replies.{replyOf}

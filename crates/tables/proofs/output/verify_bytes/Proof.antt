@@ -5,10 +5,10 @@ use native.Mathlib.Omega.{arith}
 use borrow.Author.Needs.{needs}
 use lib.ListN.{take}
 use Rattle.records.specs.Refusals.{refusalOf}
-use Rattle.tables.specs.declared.Verified.{Verified}
+use Rattle.tables.specs.declared.Reply.{Reply}
 use Rattle.verdicts.specs.Calls.{Outcome, verifyAsks, verifyCall}
 use Rattle.verdicts.specs.Programs.{judgedBytes, verifyProgram}
-use Rattle.tables.specs.Loaded.{verifiedOf}
+use Rattle.tables.specs.Replies.{replyOf}
 use Rattle.tables.specs.Printing.{verifyAnswer}
 use Rattle.tables.proofs.Printing.{first-bytes, no-room, verify-prints, verify-tells}
 use Rattle.tables.proofs.output.verify_bytes.Statement.{statement}
@@ -50,7 +50,7 @@ unfolding verifyProgram
 returns-2 c = let a = c .before .before .before .before .before .before .before .before .before .before .before .before .args in
     let l = a .input .now in
     let r = c .before .before .before .before .before .verify in
-    let here = ap {B = Outcome} (λ (x : Verified). record { answer = verifiedOf x; work = []; out = r .last .1 .0 }) (sym (c .before .k .given .1)) in
+    let here = ap {B = Outcome} (λ (x : Reply). record { answer = replyOf x; work = []; out = r .last .1 .0 }) (sym (c .before .k .given .1)) in
     let call = here ∙ r .ensures ∙ ap (λ (s : List ℕ). verifyCall s (a .out .now)) (first-bytes judgedBytes (c .before .before .before .before .before .before .before .before .judged .result) l (c .before .before .before .before .before .before .before .before .judged .ensures)) in
     verify-prints (take judgedBytes l) (a .out .now) (r .last .1 .0) [] (omega arith) (c .before .k .given .0 .0) call
 
@@ -62,7 +62,7 @@ unfolding verifyProgram
 returns-3 c = let a = c .before .before .before .before .before .before .before .before .before .before .before .before .before .before .before .before .args in
     let l = a .input .now in
     let r = c .before .before .before .before .before .before .before .before .before .verify in
-    let here = ap {B = Outcome} (λ (x : Verified). record { answer = verifiedOf x; work = []; out = r .last .1 .0 }) (sym (c .before .before .before .before .before .q .given .1)) in
+    let here = ap {B = Outcome} (λ (x : Reply). record { answer = replyOf x; work = []; out = r .last .1 .0 }) (sym (c .before .before .before .before .before .q .given .1)) in
     let call = here ∙ r .ensures ∙ ap (λ (s : List ℕ). verifyCall s (a .out .now)) (first-bytes judgedBytes (c .before .before .before .before .before .before .before .before .before .before .before .before .judged .result) l (c .before .before .before .before .before .before .before .before .before .before .before .before .judged .ensures)) in
     (verify-tells (take judgedBytes l) (a .out .now) (r .last .1 .0) [] (omega arith) (refusalOf (c .before .before .before .before .before .q .given .0 .0)) (c .before .before .write-refusal .last .0) call (c .before .before .write-refusal .ensures), tt)
 

@@ -39,7 +39,7 @@ first c =
     let e = m .before .before in
     let s = start e in
     order-excused (s .args .n) (s .args .i) (F s .layer) (F s .set (s .args .i)) (λ k. isXorY (G s .measured k)) (member (d .intersection .result)) (λ k l. set-past (s .args .sets .now) (s .args .i) k l)
-    (λ k. ap (λ (f : ℕ → Bool). f k) (d .intersection .ensures) ∙ rw (e .set-at .ensures, m .difference .ensures, e .before .not-later .ensures, s .pre .membersFree))
+    (λ k. ap (λ (f : ℕ → Bool). f k) (d .intersection .ensures) ∙ rw (e .set-at .ensures, m .difference .ensures, e .before .not-later .ensures, s .pre .1 .membersFree))
     ∙ sym (c .in-order .ensures)
 
 set-odd : (c : tie.After-odd-of) → let s = start (c .before .before .before .before .before .before .before) in member (c .odd-of .result) ≡ odd (G s) (F s .set (s .args .i))
@@ -57,7 +57,7 @@ second c =
     let s = start e in
     order-excused (s .args .n) (s .args .i) (F s .layer) (odd (G s) (F s .set (s .args .i))) (λ k. isYorZ (G s .measured k)) (member (d .intersection2 .result))
     (odd-past (s .args .n) (setAt (s .args .graph .now)) (F s .set (s .args .i)) (set-past (s .args .graph .now)))
-    (λ k. ap (λ (f : ℕ → Bool). f k) (d .intersection2 .ensures) ∙ rw (set-odd o, m .difference2 .ensures, e .before .not-later .ensures, s .pre .oddsFree))
+    (λ k. ap (λ (f : ℕ → Bool). f k) (d .intersection2 .ensures) ∙ rw (set-odd o, m .difference2 .ensures, e .before .not-later .ensures, s .pre .1 .oddsFree))
     ∙ sym (c .in-order2 .ensures)
 
 rest : (c : tie.After-enum-told3) → let s = start (c .before .before .before .before .before .before .before .before .before .before .before .before .before) in definitionAsk (G s) (F s) modePauli (s .args .i) ≡ (each (s .args .n) (yAsk (G s) (F s) modePauli (s .args .i)) next ownAsk (G s) (F s) (s .args .i))
@@ -80,7 +80,7 @@ third c =
     y-first (s .args .n) (s .args .i) (F s .layer) (F s .set (s .args .i)) (odd (G s) (F s .set (s .args .i))) (λ k. eqb (G s .measured k) pauliY) (member (c .intersection4 .result))
     (λ k l. set-past (s .args .sets .now) (s .args .i) k l)
     (odd-past (s .args .n) (setAt (s .args .graph .now)) (F s .set (s .args .i)) (set-past (s .args .graph .now)))
-    (λ k. ap (λ (f : ℕ → Bool). f k) (c .intersection4 .ensures) ∙ rw (m .intersection3 .ensures, x .xor .ensures, set-odd o, e .set-at .ensures, e .before .not-later .ensures, s .pre .bothFree))
+    (λ k. ap (λ (f : ℕ → Bool). f k) (c .intersection4 .ensures) ∙ rw (m .intersection3 .ensures, x .xor .ensures, set-odd o, e .set-at .ensures, e .before .not-later .ensures, s .pre .1 .bothFree))
 
 has-requires : tie.Need-has-requires
 has-requires c κs = search needs

@@ -22,8 +22,11 @@ paulis-of-requires c κs = search needs
 loop-holds : tie.Need-loop-holds Inv-loop μ-loop
 loop-holds c = (search needs, each-start _ _)
 
+cast-loop : tie.Need-cast-loop Inv-loop μ-loop
+cast-loop c = search needs
+
 check-node-requires : tie.Need-check-node-requires Inv-loop μ-loop
-check-node-requires c κs = c .before .before .paulis-of .ensures
+check-node-requires c κs = (search needs, c .before .before .paulis-of .ensures)
 
 enum-told : tie.Need-enum-told Inv-loop μ-loop
 enum-told c = search needs
@@ -66,6 +69,7 @@ check-nodes-spec =
     μ-loop
     paulis-of-requires
     loop-holds
+    cast-loop
     check-node-requires
     enum-told
     enum-told-2

@@ -27,6 +27,9 @@ abbrev μ-loop : tie.MeasureT-loop
 loop-holds : tie.Need-loop-holds Inv-loop μ-loop
 loop-holds c = (search needs, each-start _ _)
 
+cast-loop : tie.Need-cast-loop Inv-loop μ-loop
+cast-loop c = search needs
+
 below-requires : tie.Need-below-requires Inv-loop μ-loop
 below-requires c κs = search needs
 
@@ -94,6 +97,7 @@ check-codomain-spec =
     Inv-loop
     μ-loop
     loop-holds
+    cast-loop
     below-requires
     set-at-requires
     intersection-requires

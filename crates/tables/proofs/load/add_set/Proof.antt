@@ -4,9 +4,9 @@ use mathlib.Core.List.{List}
 use borrow.Author.Needs.{needs}
 use Rattle.nodes.specs.NodeSet.{member}
 use Rattle.nodes.specs.SetTable.{setAt}
-use Rattle.records.proofs.Loading.{put-union}
-use Rattle.records.proofs.load.add_set.Statement.{statement}
-use Rattle.records.proofs.load.add_set.Tie as tie
+use Rattle.tables.proofs.LoadingEdges.{put-union}
+use Rattle.tables.proofs.load.add_set.Statement.{statement}
+use Rattle.tables.proofs.load.add_set.Tie as tie
 
 set-at-requires : tie.Need-set-at-requires
 set-at-requires c κs = search needs

@@ -6,9 +6,9 @@ use lib.Dec.{leb}
 use lib.ListN.{length}
 use Rattle.nodes.specs.NodeSet.{highest}
 use Rattle.nodes.specs.SetTable.{setWords}
 use Rattle.records.specs.JobFile.{Measured}
 use Rattle.records.specs.Views.{bytesAt}
-use Rattle.records.specs.declared.load.Measured as Places
+use Rattle.tables.specs.declared.load.Measured as Places
 
 abbrev pub measuredAt : List ℕ → Places.Measured → Measured
 measuredAt s m = record { mode = m .mode; measurements = bytesAt (m .measurements) s }

@@ -1,8 +1,8 @@
 use mathlib.Core.Path.{sym, ap, _∙_}
 use borrow.Author.Needs.{needs}
 use Rattle.records.specs.Refusals.{refusalOf}
-use Rattle.tables.proofs.output.told.Statement.{statement}
-use Rattle.tables.proofs.output.told.Tie as tie
+use Rattle.records.proofs.common.numbers_of.Statement.{statement}
+use Rattle.records.proofs.common.numbers_of.Tie as tie
 
 enum-told : tie.Need-enum-told
 enum-told c = search needs
@@ -202,8 +202,8 @@ returns-21 c = c .three21 .ensures ∙ sym (ap refusalOf (c .before .before .q8 
 returns-22 : tie.Need-returns-22
 returns-22 c = c .three22 .ensures ∙ sym (ap refusalOf (c .before .enum-told14 .given .1))
 
-pub told-spec : {M : Type 1} → statement M
-told-spec =
+pub numbers-of-spec : {M : Type 1} → statement M
+numbers-of-spec =
     tie.close
     (tie.spec
     enum-told

@@ -13,11 +13,11 @@ use Rattle.nodes.specs.SetTable.{setWords, setAt}
 use Rattle.nodes.specs.NodeSet.{highest}
 use Rattle.nodes.specs.SetTable.{setWords, setAt}
 use Rattle.nodes.proofs.Logic.{or-none}
 use Rattle.records.specs.JobFile.{joined}
-use Rattle.records.specs.Loading.{room}
-use Rattle.records.proofs.Loading.{cleared, joined-end, joined-more}
-use Rattle.records.proofs.load.load_graph.Statement.{statement}
-use Rattle.records.proofs.load.load_graph.Tie as tie
+use Rattle.tables.specs.Loading.{room}
+use Rattle.tables.proofs.LoadingEdges.{cleared, joined-end, joined-more}
+use Rattle.tables.proofs.load.load_graph.Statement.{statement}
+use Rattle.tables.proofs.load.load_graph.Tie as tie
 
 abbrev Inv-loop : tie.InvT-loop
 Inv-loop edges graph₀ i₀ graph i = (i ≤ length edges) × (length graph ≡ length graph₀) × ((u v : ℕ) → (joined edges u v && room graph₀ u v) ≡ setAt graph u v || (joined (drop i edges) u v && room graph₀ u v))

@@ -4,8 +4,8 @@ use borrow.Author.Needs.{needs}
 use Rattle.records.specs.Splice.{putOf}
 use Rattle.records.specs.declared.writer.Put.{Put}
 use Rattle.tables.specs.Replies.{putReply}
-use Rattle.tables.proofs.find.answered.Statement.{statement}
-use Rattle.tables.proofs.find.answered.Tie as tie
+use Rattle.tables.proofs.answered.Statement.{statement}
+use Rattle.tables.proofs.answered.Tie as tie
 
 enum-known-put : tie.Need-enum-known-put
 enum-known-put c = search needs

@@ -2,8 +2,8 @@ use Prim.Native.Nat.{_-_}
 use mathlib.Core.Path.{ap, _∙_}
 use borrow.Author.Needs.{needs}
 use Rattle.tables.specs.Replies.{putReply}
-use Rattle.tables.proofs.find.write_none.Statement.{statement}
-use Rattle.tables.proofs.find.write_none.Tie as tie
+use Rattle.tables.proofs.write_bare.Statement.{statement}
+use Rattle.tables.proofs.write_bare.Tie as tie
 
 slice-aggregate-write-record : tie.Need-slice-aggregate-write-record
 slice-aggregate-write-record c = search needs
@@ -20,8 +20,8 @@ same-length c = search needs
 returns : tie.Need-returns
 returns c = (c .answered .ensures ∙ ap putReply (c .before .before .before .write-record .ensures .0), c .before .before .before .write-record .ensures .1)
 
-pub write-none-spec : {M : Type 1} → statement M
-write-none-spec =
+pub write-bare-spec : {M : Type 1} → statement M
+write-bare-spec =
     tie.close
     (tie.spec
     slice-aggregate-write-record

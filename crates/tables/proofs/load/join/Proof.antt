@@ -7,9 +7,9 @@ use lib.Dec.{eqb, leb}
 use Rattle.nodes.specs.NodeSet.{member, highest}
 use Rattle.nodes.specs.NodeSet.{member, highest}
 use Rattle.nodes.specs.SetTable.{setAt}
-use Rattle.records.proofs.Loading.{one-more}
-use Rattle.records.proofs.load.join.Statement.{statement}
-use Rattle.records.proofs.load.join.Tie as tie
+use Rattle.tables.proofs.LoadingEdges.{one-more}
+use Rattle.tables.proofs.load.join.Statement.{statement}
+use Rattle.tables.proofs.load.join.Tie as tie
 
 empty-requires : tie.Need-empty-requires
 empty-requires c κs = search needs

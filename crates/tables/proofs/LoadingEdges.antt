@@ -14,10 +14,10 @@ use Rattle.nodes.specs.SetTable.{setWords, setAt, putSet, zeros}
 use Rattle.nodes.specs.declared.utils.NodeSet.{NodeSet}
 use Rattle.nodes.proofs.Logic.{is-false, dec, and-all, and-none, or-none, eqb-comm, eqb-yes, eqb-no, le-or-lt}
 use Rattle.nodes.proofs.SetTable.{put-each, put-out, zeros-empty}
 use Rattle.records.specs.JobFile.{all, joined}
-use Rattle.records.specs.Loading.{hasSet, room}
+use Rattle.tables.specs.Loading.{hasSet, room}
 use Rattle.records.proofs.JobFile.{joined-below}
 use Rattle.records.proofs.ReadingLoops.{rest-none, rest-cons, rest-two}
 
 -- ---- a table to which the members of s are added at u, where it has room
 module _ (ws : List ℕ) (u : ℕ) (s : NodeSet) (more : ℕ → Bool) (e : member s ≡ (λ w. setAt ws u w || more w)) (v w : ℕ) where
