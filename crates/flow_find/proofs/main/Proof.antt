@@ -4,7 +4,8 @@ use native.Mathlib.Omega.{arith}
 use borrow.Author.Needs.{needs}
 use lib.ListN.{length}
 use lib.Seq.{length-take-le}
-use Rattle.tables.specs.Printing.{mostOutput, InRoom}
+use Rattle.records.specs.Writing.{mostOutput}
+use Rattle.tables.specs.Printing.{InRoom}
 use Rattle.flow_find.proofs.main.Statement.{statement}
 use Rattle.flow_find.proofs.main.Tie as tie
 
