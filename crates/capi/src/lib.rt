@@ -1,0 +1,87 @@
+// The calls as a program in C sees them: a slice is a pointer and a length, and the answer is one number.
+ghost use mathlib.Core.Path.{_≡_};
+ghost use mathlib.Core.List.{[]};
+ghost use Rattle.solver.specs.Solver.{solverAccepts, MatrixAfter, solveCall};
+ghost use Rattle.records.specs.Refusals.{refusalOf};
+ghost use Rattle.verdicts.specs.Calls.{findCall, verifyCall};
+ghost use Rattle.tables.specs.Replies.{replyOf};
+ghost use Rattle.capi.specs.Codes.{refusalCode, answerCode, coded, solvedCode, codedBits};
+use records::common::Refused;
+use records::common::numbers_of;
+use solver::gf2_linalg::Solved;
+use solver::gf2_linalg::solve_in_place;
+use tables::Reply;
+use tables::find::find;
+use tables::verify;
+
+// The places of a refusal's number and of a.
+const NUMBER_UNIT: u64 = 4294967296;
+
+const A_UNIT: u64 = 65536;
+
+fn code(number: u8, a: u8, b: u8) -> u64
+    ensures { λ r. ⌜ r ≡ refusalCode (record { number = number; a = a; b = b }) ⌝ }
+{
+    number as u64 * NUMBER_UNIT + a as u64 * A_UNIT + b as u64
+}
+
+fn refusal_code(q: Refused) -> u64
+    ensures { λ r. ⌜ r ≡ refusalCode (refusalOf q) ⌝ }
+{
+    let m = numbers_of(q);
+    code(m.number, m.a, m.b)
+}
+
+fn reply_code(reply: Reply) -> u64
+    ensures { λ r. ⌜ r ≡ answerCode (replyOf reply) ⌝ }
+{
+    match reply {
+        Reply::Wrote(k) => k as u64,
+        Reply::Refused(q) => refusal_code(q),
+    }
+}
+
+fn solved_code(solved: Solved) -> u64
+    ensures { λ r. ⌜ r ≡ solvedCode solved ⌝ }
+{
+    match solved {
+        Solved::Solvable => 1,
+        Solved::Unsolvable => 0,
+        Solved::WrongShape => code(11, 0, 0),
+        Solved::NoSuchEquation => code(12, 0, 0),
+    }
+}
+
+// The finder: the count of bytes written, or the refusal.
+#[no_mangle]
+pub extern "C" fn bolz_find(file: &[u8], work: &mut [u8], out: &mut [u8]) -> u64
+    ensures { λ r. ⌜ record { code = r; work = now (work .exit); out = now (out .exit) } ≡ coded (findCall (now (file .entry)) (now (work .entry)) (now (out .entry))) ⌝ }
+{
+    reply_code(find(file, work, out))
+}
+
+// The verifier: the count of bytes written, or the refusal.
+#[no_mangle]
+pub extern "C" fn bolz_verify(file: &[u8], out: &mut [u8]) -> u64
+    ensures { λ r. ⌜ record { code = r; work = []; out = now (out .exit) } ≡ coded (verifyCall (now (file .entry)) (now (out .entry))) ⌝ }
+{
+    reply_code(verify(file, out))
+}
+
+// The solver: 1 for solvable, 0 for not, or the refusal.
+#[no_mangle]
+pub extern "C" fn bolz_solve(
+    matrix: &mut [u8],
+    bits: &mut [u8],
+    rows: usize,
+    cols: usize,
+    sides: usize,
+    side: usize,
+) -> u64
+    ensures { λ r. ⌜ record { code = r; out = now (bits .exit) }
+        ≡ codedBits (solveCall (now (matrix .entry)) (now (bits .entry)) rows cols sides side) ⌝ }
+    ensures { λ _. ⌜ MatrixAfter (solverAccepts (now (matrix .entry)) (now (bits .entry)) rows cols sides side) rows cols sides
+        (now (matrix .entry)) (now (matrix .exit)) ⌝ }
+{
+    solved_code(solve_in_place(matrix, bits, rows, cols, sides, side))
+}
