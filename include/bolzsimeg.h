@@ -1,0 +1,90 @@
+/* The table compiler for programs in C. Link with libcapi.a, made by `rt staticlib capi`. */
+#ifndef BOLZSIMEG_H
+#define BOLZSIMEG_H
+
+#include <stddef.h>
+#include <stdint.h>
+
+#ifdef __cplusplus
+extern "C" {
+#endif
+
+/* Grows with each change of a file's format, of a size or of a refusal. */
+#define BOLZ_VERSION 1
+
+#define BOLZ_MOST_NODES 128
+#define BOLZ_ROW_BYTES 16      /* a row of the work matrix, and the solver's out bits, lowest bit first */
+#define BOLZ_WORK_BYTES 2048   /* the finder's work buffer, exactly */
+#define BOLZ_MOST_OUTPUT 16780 /* no result is longer */
+
+/* Refusals, numbered as the questions that they answer with 'no'. */
+enum bolz_refusal {
+    BOLZ_NO_RECORD = 1,
+    BOLZ_CUT_PAYLOAD = 2,
+    BOLZ_WRONG_LENGTH = 3,
+    BOLZ_WRONG_OPENING = 4,
+    BOLZ_NODE_TOO_LARGE = 5,
+    BOLZ_NOT_ASCENDING = 6,
+    BOLZ_WRONG_MEASUREMENT = 7,
+    BOLZ_BYTES_LEFT = 8,
+    BOLZ_NOT_ONE_MEMBER = 9,
+    BOLZ_MODE_NOT_SEARCHED = 10,
+    BOLZ_WRONG_SHAPE = 11,
+    BOLZ_NO_SUCH_EQUATION = 12,
+    BOLZ_INVALID_FLOW_CODOMAIN = 13,
+    BOLZ_INVALID_FLOW_DOMAIN = 14,
+    BOLZ_EXCESSIVE_NON_ZERO_LAYER = 15,
+    BOLZ_EXCESSIVE_ZERO_LAYER = 16,
+    BOLZ_INVALID_MEASUREMENT_SPEC = 17,
+    BOLZ_INCONSISTENT_FLOW_ORDER = 18,
+    BOLZ_INCONSISTENT_FLOW_PLANE = 19,
+    BOLZ_RESULT_TOO_LONG = 20
+};
+
+/* A result is a refusal if its number is not 0: number * 2^32 + a * 2^16 + b. */
+#define BOLZ_NUMBER(result) ((unsigned)((result) >> 32))
+#define BOLZ_A(result) ((unsigned)((result) >> 16 & 0xFFFF))
+#define BOLZ_B(result) ((unsigned)((result) & 0xFFFF))
+
+/* A refusal's words; a and b are its nodes, b the layer in 15. */
+static inline const char *bolz_words(unsigned number)
+{
+    switch (number) {
+    case BOLZ_NO_RECORD: return "a record of the expected kind is missing";
+    case BOLZ_CUT_PAYLOAD: return "a record ends before its payload does";
+    case BOLZ_WRONG_LENGTH: return "a record's length does not suit its kind";
+    case BOLZ_WRONG_OPENING: return "the count of nodes or the mode is not allowed";
+    case BOLZ_NODE_TOO_LARGE: return "a node's number is not below the count of nodes";
+    case BOLZ_NOT_ASCENDING: return "nodes or edges are not strictly ascending";
+    case BOLZ_WRONG_MEASUREMENT: return "a measurement is not allowed";
+    case BOLZ_BYTES_LEFT: return "bytes are left after the last record";
+    case BOLZ_NOT_ONE_MEMBER: return "an entry of a causal flow has not exactly one member";
+    case BOLZ_MODE_NOT_SEARCHED: return "there is no search for this mode";
+    case BOLZ_WRONG_SHAPE: return "a buffer, or the shape of the matrix, is not right";
+    case BOLZ_NO_SUCH_EQUATION: return "there is no right side of this number";
+    case BOLZ_INVALID_FLOW_CODOMAIN: return "an input is in the set of node a";
+    case BOLZ_INVALID_FLOW_DOMAIN: return "node a has a set and is an output, or has none and is no output";
+    case BOLZ_EXCESSIVE_NON_ZERO_LAYER: return "output a is in layer b, not in layer 0";
+    case BOLZ_EXCESSIVE_ZERO_LAYER: return "node a is in layer 0 and no output";
+    case BOLZ_INVALID_MEASUREMENT_SPEC: return "node a has an entry and no measurement";
+    case BOLZ_INCONSISTENT_FLOW_ORDER: return "node a needs node b to be later";
+    case BOLZ_INCONSISTENT_FLOW_PLANE: return "the set of node a does not suit the measurements";
+    case BOLZ_RESULT_TOO_LONG: return "the result does not fit the buffer";
+    default: return "unknown";
+    }
+}
+
+/* The finder: a job file in, a flow file or 0013 ('no flow') out. The count of bytes written, or a refusal. */
+uint64_t bolz_find(const uint8_t *file, size_t file_len, uint8_t *work, size_t work_len, uint8_t *out, size_t out_len);
+
+/* The verifier: a job file followed by a flow file in, 0014 ('accepted') out. The count of bytes written, or a refusal. */
+uint64_t bolz_verify(const uint8_t *file, size_t file_len, uint8_t *out, size_t out_len);
+
+/* The solver: matrix of rows times 16 bytes, cols coefficients and then `sides` right sides in each row; it is eliminated in place.
+   1: right side `side` has a solution, which is in `bits`; 0: it has none; or a refusal. */
+uint64_t bolz_solve(uint8_t *matrix, size_t matrix_len, uint8_t *bits, size_t bits_len, size_t rows, size_t cols, size_t sides, size_t side);
+
+#ifdef __cplusplus
+}
+#endif
+#endif
