@@ -3,7 +3,6 @@ use crate::build::put;
 use check::same;
 use finder::WORK_BYTES;
 use records::common::Numbers;
-use records::common::Refused;
 use records::common::numbers_of;
 use solver::gf2_linalg::ROW_BYTES;
 use solver::gf2_linalg::Solved;
@@ -11,6 +10,7 @@ use solver::gf2_linalg::solve_in_place;
 use tables::Reply;
 use tables::find::find;
 use tables::verify;
+use trial::holds;
 
 // What every lent byte holds before a call.
 const FILL: u8 = 0xA5;
@@ -34,24 +34,7 @@ pub const UNSOLVABLE: u8 = 0;
 const ACCEPTED: [u8; 6] = [0, 0, 0, 0, 0x14, 0];
 
 fn all_are(bytes: &[u8], x: u8) -> bool {
-    let mut i = 0;
-    while i < bytes.len() {
-        if bytes[i] != x {
-            return false;
-        }
-        i += 1;
-    }
-    true
-}
-
-// The result at the front, and behind it what was there.
-fn holds(buffer: &[u8], result: &[u8]) -> bool {
-    let n = result.len();
-    let len = buffer.len();
-    if len < n {
-        return false;
-    }
-    same(&buffer[0..n], result) && all_are(&buffer[n..len], FILL)
+    holds(bytes, b"", x)
 }
 
 fn numbers_are(m: Numbers, number: u8, a: u8, b: u8) -> bool {
@@ -98,7 +81,7 @@ fn find_in(
     if !replied(reply, result.len(), number, 0, 0) {
         return false;
     }
-    holds(outs, result)
+    holds(outs, result, FILL)
         && all_are(&works[0..work_len], left_in_work(number))
         && all_are(&works[work_len..most], FILL)
 }
@@ -133,7 +116,7 @@ fn verify_in(file: &[u8], outs: &mut [u8], out_len: usize, number: u8, a: u8, b:
         return false;
     }
     if number == ANSWER {
-        return holds(outs, &ACCEPTED);
+        return holds(outs, &ACCEPTED, FILL);
     }
     all_are(outs, FILL)
 }

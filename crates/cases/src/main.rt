@@ -246,6 +246,10 @@ fn run_solver() {
         solve_is(b"\x08", 2, 1, 0, 11, 0),
     );
     say(
+        b"columns that would wrap (11)",
+        solve_is(b"\x01", 18446744073709551615, 1, 0, 11, 0),
+    );
+    say(
         b"129 columns in all (11)",
         solve_is(b"\x01", 128, 1, 0, 11, 0),
     );
