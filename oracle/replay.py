@@ -1,0 +1,299 @@
+#!/usr/bin/env python3
+"""Makes the data of crate replay, stdin and what the program should print: python3 oracle/replay.py SAMPLE crates/replay
+
+SAMPLE is what oracle/export wrote: jobs and flows with the original's answers. Behind them stands a table, made here from document 01
+alone, that reaches every refusal at each record where it can occur, on both sides of its boundary; and one entry that is wrong on purpose.
+An entry: kind, number, a, b, then two bytes each, lowest first: length of work buffer, of result buffer, of query, of result; then
+query and result. Number 0 is an answer. Kinds: f finder, v verifier, s solver, r the original's verdict (18 stands for 18 or 19)."""
+import struct
+import sys
+
+WORK = 2048
+OUT = 16780
+CAUSAL, PLANES, PAULI = 1, 2, 3
+XY, YZ, XZ, X, Y, Z = 1, 2, 3, 4, 5, 6
+ACCEPTED = b"\0\0\0\0\x14\0"
+NO_FLOW = b"\0\0\0\0\x13\0"
+
+
+def entry(kind, query, result=b"", number=0, a=0, b=0, work=WORK, out=OUT):
+    lengths = struct.pack("<HHHH", work, out, len(query), len(result))
+    return bytes([ord(kind), number, a, b]) + lengths + query + result
+
+
+def record(kind, payload):
+    return struct.pack("<IH", len(payload), kind) + bytes(payload)
+
+
+def job_records(n, mode, edges=(), inputs=(), outputs=(), measured=()):
+    return [record(1, [n, mode]), record(2, sum(edges, ())), record(3, inputs), record(4, outputs), record(5, measured)]
+
+
+def flow_records(layers, sets):
+    entries = b"".join(bytes([u, len(members), *members]) for u, members in sets)
+    return [record(0x11, layers), record(0x12, entries)]
+
+
+def job(*words, **more):
+    return b"".join(job_records(*words, **more))
+
+
+def flow(layers, *sets):
+    return b"".join(flow_records(layers, sets))
+
+
+# ---- The original's answers.
+
+def original(sample):
+    at = 0
+    while at < len(sample):
+        kind, size = chr(sample[at]), struct.unpack_from("<I", sample, at + 1)[0]
+        query = sample[at + 5:at + 5 + size]
+        at += 5 + size
+        size = struct.unpack_from("<I", sample, at)[0]
+        answer = sample[at + 4:at + 4 + size]
+        at += 4 + size
+        yield entry("f", query, answer) if kind == "f" else entry("r", query, number=answer[0])
+
+
+# ---- Reading: a job of three nodes, its flow, and each record changed at its boundary.
+
+PATH = job_records(3, PLANES, [(0, 1), (1, 2)], [0], [2], [XY, XY, 0])
+PATH_FLOW = flow_records([2, 1, 0], [(0, [1]), (1, [2])])
+
+
+def read(records, number, flow=PATH_FLOW):
+    """Both calls read these five records of a job: the same refusal, or none."""
+    query = b"".join(records)
+    yield entry("f", query, b"".join(flow) if number == 0 else b"", number)
+    both = query + b"".join(flow)
+    yield entry("v", both, ACCEPTED if number == 0 else b"", number)
+
+
+def read_flow(records, number, job=PATH):
+    yield entry("v", b"".join(job + records), ACCEPTED if number == 0 else b"", number)
+
+
+def changed(records, at, new):
+    return records[:at] + [new] + records[at + 1:]
+
+
+def heads():
+    """1 and 2: five bytes of a head, another kind, a payload that is one byte short, a length that is too large."""
+    whole = PATH + PATH_FLOW
+    for at, part in enumerate(whole):
+        before = b"".join(whole[:at])
+        for number, query in [
+            (1, before + part[:5]),
+            (1, before),
+            (1, before + part[:4] + bytes([part[4] + 0x20]) + part[5:] + b"".join(whole[at + 1:])),
+            (2, before + part[:-1]),
+            (2, before + b"\xff\xff\xff\xff" + part[4:] + b"".join(whole[at + 1:])),
+        ]:
+            yield entry("v", query, number=number)
+            if at < len(PATH):
+                yield entry("f", query, number=number)
+
+
+def payloads():
+    """3 to 7, record by record, each beside a payload that passes."""
+    big = list(range(128))
+    yield from read(PATH, 0)
+    yield from read(changed(PATH, 0, record(1, [3])), 3)
+    yield from read(changed(PATH, 0, record(1, [3, PLANES, 0])), 3)
+    yield from read(job_records(128, PLANES, outputs=big, measured=[0] * 128), 0, flow_records([0] * 128, []))
+    yield from read(job_records(129, PLANES, outputs=big, measured=[0] * 129), 4)
+    yield from read(changed(PATH, 0, record(1, [3, 0])), 4)
+    yield from read(changed(PATH, 0, record(1, [3, 4])), 4)
+    for edges, number in [([0, 1, 1], 3), ([0, 3], 5), ([3, 4], 5), ([1, 2, 0, 3], 5), ([1, 1], 6), ([2, 1], 6),
+                          ([0, 1, 0, 1], 6), ([1, 2, 0, 1], 6), ([0, 2, 0, 1], 6)]:
+        yield from read(changed(PATH, 1, record(2, edges)), number)
+    for at in (2, 3):
+        for nodes, number in [([3], 5), ([2, 3], 5), ([3, 0], 5), ([1, 1], 6), ([2, 0], 6)]:
+            yield from read(changed(PATH, at, record(at + 1, nodes)), number)
+    for measured, number in [([XY, XY], 3), ([XY, XY, 0, 0], 3), ([0, XY, 0], 7), ([XY, XY, XY], 7), ([XY, XZ + 1, 0], 7)]:
+        yield from read(changed(PATH, 4, record(5, measured)), number)
+    yield from read(job_records(3, PAULI, [(0, 1), (1, 2)], [0], [2], [XY, Z + 1, 0]), 7)
+    for measured, number in [([XY, 0], 0), ([XY + 1, 0], 7)]:
+        causal = job_records(2, CAUSAL, [(0, 1)], [0], [1], measured)
+        yield from read_flow(flow_records([1, 0], [(0, [1])]), number, causal)
+
+
+def flows():
+    """3, 5, 6, 8 and 9 of a flow file."""
+    yield from read_flow(PATH_FLOW, 0)
+    for layers in ([2, 1], [2, 1, 0, 0]):
+        yield from read_flow(changed(PATH_FLOW, 0, record(0x11, layers)), 3)
+    for sets, number in [([0], 3), ([0, 1], 3), ([0, 1, 1, 1], 3), ([0, 2, 1, 1, 1], 3), ([3, 1, 1], 5), ([0, 1, 3], 5),
+                         ([1, 1, 2, 3, 1, 1], 5), ([0, 2, 1, 1], 6), ([0, 2, 2, 1], 6), ([1, 1, 2, 0, 1, 1], 6), ([0, 1, 1, 0, 1, 1], 6)]:
+        yield from read_flow(changed(PATH_FLOW, 1, record(0x12, sets)), number)
+    yield entry("v", b"".join(PATH + PATH_FLOW) + b"\0", number=8)
+    yield entry("f", b"".join(PATH) + b"\0", number=8)
+    causal = job_records(2, CAUSAL, [(0, 1)], [0], [1], [XY, 0])
+    for sets, number in [([(0, [1])], 0), ([(0, [])], 9), ([(0, [0, 1])], 9)]:
+        yield from read_flow(flow_records([1, 0], sets), number, causal)
+
+
+# ---- The finder's own questions, and the writer's.
+
+def finder():
+    edge = job(2, PLANES, [(0, 1)], [0], [1], [XY, 0])
+    found = flow([1, 0], (0, [1]))
+    none = job(1, PLANES, measured=[YZ])
+    for mode, number in [(CAUSAL, 10), (PLANES, 0), (PAULI, 0)]:
+        query = job(2, mode, [(0, 1)], [0], [1], [XY, 0])
+        yield entry("f", query, b"" if number else found, number)
+    for work, number in [(0, 11), (WORK - 1, 11), (WORK, 0), (WORK + 1, 11)]:
+        yield entry("f", edge, b"" if number else found, number, work=work)
+    for query, result in [(edge, found), (none, NO_FLOW)]:
+        yield entry("f", query, result, out=len(result))
+        yield entry("f", query, number=20, out=len(result) - 1)
+        yield entry("f", query, number=20, out=0)
+    yield entry("v", edge + found, ACCEPTED, out=6)
+    yield entry("v", edge + found, number=20, out=5)
+    yield entry("v", edge + found, number=20, out=0)
+
+
+# ---- The verifier's questions on the flow.
+
+def verdict(job, flow, number=0, a=0, b=0):
+    return entry("v", job + flow, b"" if number else ACCEPTED, number, a, b)
+
+
+def verifier():
+    path = b"".join(PATH)
+    # 13: an input in another node's set; in its own it may be
+    own = job(2, PLANES, [(0, 1)], [0], [1], [YZ, 0])
+    yield verdict(own, flow([1, 0], (0, [0])))
+    two = job(3, PLANES, [(0, 1), (0, 2)], [1], [1, 2], [XY, 0, 0])
+    yield verdict(two, flow([1, 0, 0], (0, [2])))
+    yield verdict(two, flow([1, 0, 0], (0, [1])), 13, 0)
+    # 14: a set missing, empty, or at an output
+    yield verdict(path, flow([2, 1, 0], (0, [1])), 14, 1)
+    yield verdict(path, flow([2, 1, 0], (0, []), (1, [2])), 14, 0)
+    yield verdict(path, flow([2, 1, 0], (0, [1]), (1, [2]), (2, [1])), 14, 2)
+    # 15 and 16: layers of outputs and of the others, in one pass by node
+    yield verdict(path, flow([2, 1, 1], (0, [1]), (1, [2])), 15, 2, 1)
+    yield verdict(path, flow([2, 1, 255], (0, [1]), (1, [2])), 15, 2, 255)
+    yield verdict(path, flow([2, 0, 1], (0, [1]), (1, [2])), 16, 1)
+    yield verdict(path, flow([0, 1, 0], (0, [1]), (1, [2])), 16, 0)
+    causal = job(2, CAUSAL, [(0, 1)], [0], [1], [XY, 0])
+    yield verdict(causal, flow([0, 0], (0, [1])), 16, 0)
+    alone = job(2, PAULI, [], [], [1], [Z, 0])
+    yield verdict(alone, flow([0, 0], (0, [0])))
+    # 17: an entry, though an empty one, at an output
+    yield verdict(path, flow([2, 1, 0], (0, [1]), (1, [2]), (2, [])), 17, 2)
+    xpath = job(3, PAULI, [(0, 1), (1, 2)], [0], [2], [XY, X, 0])
+    yield verdict(xpath, flow([1, 1, 0], (0, [1]), (1, [2]), (2, [])), 17, 2)
+    yield from order()
+    yield from planes()
+    yield from causal_order()
+
+
+def order():
+    """18: a member, or a node of Odd, that is not later, and that X, Y or Z does not excuse."""
+    path = b"".join(PATH)
+    yield verdict(path, flow([2, 1, 0], (0, [1]), (1, [2])))
+    yield verdict(path, flow([1, 1, 0], (0, [1]), (1, [2])), 18, 0, 1)
+    triangle = job(3, PLANES, [(0, 1), (0, 2), (1, 2)], [], [2], [XY, XY, 0])
+    yield verdict(triangle, flow([1, 1, 0], (0, [2]), (1, [2])), 18, 0, 1)
+    yield verdict(triangle, flow([2, 1, 0], (0, [2]), (1, [2])), 18, 1, 0)
+    for second, number in [(X, 0), (XY, 18)]:
+        mixed = job(3, PAULI, [(0, 1), (1, 2)], [0], [2], [XY, second, 0])
+        yield verdict(mixed, flow([1, 1, 0], (0, [1]), (1, [2])), number, 0, 1 if number else 0)
+    for second, number in [(Z, 0), (XY, 18)]:
+        mixed = job(4, PAULI, [(0, 2), (1, 2), (1, 3)], [], [2, 3], [XY, second, 0, 0])
+        sets = [(0, [2]), (1, [1] if second == Z else [3])]
+        yield verdict(mixed, flow([1, 1, 0, 0], *sets), number, 0, 1 if number else 0)
+
+
+def planes():
+    """19: a node's own measurement, all six, by whether it is in its set and in Odd; and a Y node in just one of the two."""
+    for m, inside, odd in [(XY, 0, 1), (YZ, 1, 0), (XZ, 1, 1), (X, 0, 1), (X, 1, 1), (Y, 0, 1), (Y, 1, 0), (Z, 1, 0), (Z, 1, 1),
+                           (XY, 1, 1), (XY, 1, 0), (YZ, 0, 1), (YZ, 1, 1), (XZ, 0, 1), (XZ, 1, 0), (X, 1, 0), (Y, 1, 1), (Z, 0, 1)]:
+        holds = {XY: not inside and odd, YZ: inside and not odd, XZ: inside and odd, X: odd, Y: inside != odd, Z: inside}[m]
+        edge = job(2, PAULI if m > XZ else PLANES, [(0, 1)], [], [1], [m, 0])
+        members = [0] * inside + [1] * odd
+        yield verdict(edge, flow([1, 0], (0, members)), 0 if holds else 19, 0)
+    # node 1, measured in Y and no later than 0, is in the set of 0 and not in its Odd; a common neighbour puts it in both
+    y = job(4, PAULI, [(0, 1), (1, 2), (1, 3)], [], [2, 3], [XY, Y, 0, 0])
+    yield verdict(y, flow([1, 1, 0, 0], (0, [1]), (1, [2])), 19, 0)
+    yield verdict(y, flow([1, 1, 0, 0], (0, [1, 3]), (1, [2])))
+    yield verdict(y, flow([2, 1, 0, 0], (0, [1]), (1, [2])))
+
+
+def causal_order():
+    """18 of mode 1: f(i) later, its neighbours later, the two adjacent."""
+    path = job(3, CAUSAL, [(0, 1), (1, 2)], [0], [2], [XY, XY, 0])
+    yield verdict(path, flow([2, 1, 0], (0, [1]), (1, [2])))
+    yield verdict(path, flow([1, 1, 0], (0, [1]), (1, [2])), 18, 0, 1)
+    apart = job(3, CAUSAL, [(1, 2)], [], [2], [XY, XY, 0])
+    yield verdict(apart, flow([1, 1, 0], (0, [2]), (1, [2])), 18, 0, 1)
+    yield verdict(apart, flow([2, 1, 0], (0, [2]), (1, [2])), 18, 0, 2)
+    itself = job(2, CAUSAL, [(0, 1)], [0], [1], [XY, 0])
+    yield verdict(itself, flow([1, 0], (0, [0])), 18, 0, 0)
+
+
+# ---- The solver: 11 and 12.
+
+def solve(rows, cols, sides, side, matrix, number=0, bits=b"", out=16):
+    query = struct.pack("<HHHH", rows, cols, sides, side) + matrix
+    return entry("s", query, bits, number, out=out)
+
+
+def row(*bits):
+    return sum(1 << bit for bit in bits).to_bytes(16, "little")
+
+
+def solver():
+    first = row(0)
+    yield solve(1, 2, 1, 0, row(0, 1, 2), 0, first)
+    yield solve(1, 1, 1, 0, row(1), 0)
+    yield solve(2, 2, 1, 0, row(1, 2) + row(0, 1), 0, row(0, 1))
+    yield solve(0, 1, 1, 0, b"", 11)
+    yield solve(1, 0, 1, 0, row(0), 11)
+    yield solve(1, 1, 0, 0, row(0), 11)
+    yield solve(1, 127, 1, 0, row(0, 127), 0, first)
+    yield solve(1, 128, 1, 0, row(0), 11)
+    yield solve(1, 1, 127, 126, row(0, 127), 0, first)
+    yield solve(1, 1, 128, 0, row(0), 11)
+    yield solve(128, 1, 1, 0, row(0, 1) * 128, 0, first)
+    yield solve(129, 1, 1, 0, row(0, 1) * 129, 11)
+    yield solve(1, 1, 1, 0, row(0, 1)[:15], 11)
+    yield solve(1, 1, 1, 0, row(0, 1) + b"\0", 11)
+    yield solve(1, 1, 1, 0, row(0, 1), 11, out=15)
+    yield solve(1, 1, 1, 0, row(0, 1), 11, out=17)
+    yield solve(1, 1, 1, 0, row(0, 1, 2), 11)
+    yield solve(1, 1, 1, 0, row(0, 1, 127), 11)
+    yield solve(1, 1, 2, 1, row(0, 1), 0, row())
+    yield solve(1, 1, 2, 2, row(0, 1), 12)
+    yield solve(1, 1, 1, 65535, row(0, 1), 12)
+
+
+def expected(entries, wrong):
+    """What the program prints: the wrong entry, and how many of each number are as stored."""
+    lines = [f"entry {wrong}: DIFFERENT"]
+    for number in range(21):
+        count = sum(e[1] == number for at, e in enumerate(entries) if at != wrong)
+        lines.append(f"number {number}: {count} as stored")
+    lines.append(f"entries: {len(entries)}")
+    return "\n".join(lines) + "\n"
+
+
+def main():
+    sample, folder = sys.argv[1:]
+    with open(sample, "rb") as file:
+        entries = list(original(file.read()))
+    # wrong on purpose: case A with its node in layer 2
+    wrong = len(entries)
+    entries.append(entry("f", job(2, PLANES, [(0, 1)], [0], [1], [XY, 0]), flow([2, 0], (0, [1]))))
+    for part in (heads, payloads, flows, finder, verifier, solver):
+        entries.extend(part())
+    with open(f"{folder}/stdin", "wb") as file:
+        file.write(b"".join(entries))
+    with open(f"{folder}/stdout", "w") as file:
+        file.write(expected(entries, wrong))
+
+
+if __name__ == "__main__":
+    main()
