@@ -38,10 +38,12 @@ front-put bytes out h =
     sets-eq bytes out 0 (omega arith) ∙ ap (λ (k : ℕ). bytes ++ drop k out) (zero-add (length bytes))
 
 pub front-short : (bytes out : List ℕ) → length out < length bytes → _≡_ {A = Written} (record { count = 0; out = out }) (putFirst bytes out)
+unfolding putFirst
 front-short bytes out h = rw (lt-leb (length bytes) (length out) h) refl
 
 pub front-done : (bytes before out : List ℕ) (i : ℕ) → i ≡ length bytes → length bytes ≤ length before → sets out i (drop i bytes) ≡ sets before 0 bytes
     → _≡_ {A = Written} (record { count = i; out = out }) (putFirst bytes before)
+unfolding putFirst
 front-done bytes before out i e h p =
     ap₂ (λ (k : ℕ) (l : List ℕ). record { count = k; out = l }) e
     (sym (ap (sets out i) (drop-of-length-le bytes {i = i} (omega arith))) ∙ p ∙ front-put bytes before h)

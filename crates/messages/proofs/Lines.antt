@@ -1,12 +1,12 @@
 -- What holds of every line, and a worked example.
 use Prim.Native.Nat.{ℕ, _≤_}
 use Prim.Native.String.{String}
-use mathlib.Core.Path.{_≡_, refl}
+use mathlib.Core.Path.{_≡_, refl, sym, subst}
 use mathlib.Core.Bool.{Bool, true, false, cond, _&&_, false≢true}
 use mathlib.Core.List.{List, [], _∷_, _++_}
 use native.Mathlib.Omega.{arith}
 use borrow.Author.Tests.{le-leb, leb-true}
-use lib.Dec.{eqb}
+use lib.Dec.{eqb, leb}
 use lib.ListN.{length, drop}
 use Rattle.messages.specs.Message.{questions, unknown, wordsIn, codes, inDecimal, spelled, filled, template, line, lineRoom, roomFor, Written, putFirst}
 use Rattle.messages.proofs.Filling.{filled-most}
@@ -48,4 +48,14 @@ line-fits number a b = omega (arith, filled-most number a b words, leb-true (len
 -- so a buffer with that room always gets its line
 pub line-written : (number a b : ℕ) (out : List ℕ) → lineRoom ≤ length out
     → putFirst (line number a b) out ≡ record { count = length (line number a b); out = line number a b ++ drop (length (line number a b)) out }
+unfolding putFirst
 line-written number a b out h = rw (le-leb (length (line number a b)) (length out) (omega (arith, line-fits number a b))) refl
+
+-- what is counted lies in the buffer
+pub written-few : (bytes out : List ℕ) (w : Written) → w ≡ putFirst bytes out → w .count ≤ length out
+unfolding putFirst
+written-few bytes out w e = subst (λ (w : Written). w .count ≤ length out) (sym e) (by (leb (length bytes) (length out)) refl)
+  where
+    by : (t : Bool) → leb (length bytes) (length out) ≡ t → cond {A = Written} t (record { count = length bytes; out = bytes ++ drop (length bytes) out }) (record { count = 0; out = out }) .count ≤ length out
+    by true e = leb-true (length bytes) (length out) e
+    by false e = omega arith

@@ -94,7 +94,7 @@ pub record Written : Type 0 where
   pub out : List ℕ
 
 -- bytes at the front of a buffer, where they fit
-abbrev pub putFirst : (bytes out : List ℕ) → Written
+unfoldable pub putFirst : (bytes out : List ℕ) → Written
 putFirst bytes out =
     cond (leb (length bytes) (length out))
     (record { count = length bytes; out = bytes ++ drop (length bytes) out })
