@@ -54,7 +54,7 @@ either : (t : Bool) (x y u w : List ℕ) → length x ≤ length u → length y 
 either true x y u w p q = p
 either false x y u w p q = q
 
-pub decimal-most : (n : ℕ) → length (inDecimal n) ≤ length (inDecimal 255)
+decimal-most : (n : ℕ) → length (inDecimal n) ≤ length (inDecimal 255)
 unfolding inDecimal
 decimal-most n = of (ltb n 10) (ltb n 100)
   where
