@@ -1,0 +1,107 @@
+-- The line that tells a refusal to a person, from its number, a and b alone.
+use Prim.Native.Nat.{ℕ, _+_, _/_, _%_}
+use Prim.Native.Char.{code}
+use Prim.Native.String.{String, [] as none, _∷_ as _then_}
+use mathlib.Core.Bool.{Bool, cond}
+use mathlib.Core.List.{List, [], _∷_, _++_}
+use lib.Dec.{eqb, ltb, leb}
+use lib.ListN.{length, drop}
+use Rattle.messages.specs.declared.Piece.{Piece}
+use Rattle.messages.specs.declared.Piece.the-variants.{One, Two, Three}
+
+-- Document 01's questions, each as a 'no' to it is told: A stands for a, B for b. Number, a and b are all that is known, so the words of 14 and 19
+-- name both causes. 18 is in mode 1 also asked where the two nodes are not adjacent, which its words do not say.
+abbrev pub questions : List (ℕ × String)
+questions =
+    (1, "the next record is missing or of another kind")
+    ∷ (2, "the payload of a record is cut off")
+    ∷ (3, "a record's length does not suit its kind")
+    ∷ (4, "the number of nodes or the mode is not allowed")
+    ∷ (5, "a node is not below the number of nodes")
+    ∷ (6, "nodes or edges are not strictly ascending")
+    ∷ (7, "a measurement byte is not allowed")
+    ∷ (8, "bytes are left after the last record")
+    ∷ (9, "a causal entry does not have exactly one member")
+    ∷ (10, "only modes 2 and 3 have a search")
+    ∷ (11, "a lent buffer or matrix has the wrong shape")
+    ∷ (12, "there is no right side of the equation's number")
+    ∷ (13, "the set of node A holds an input other than A")
+    ∷ (14, "node A has a set and is an output, or neither")
+    ∷ (15, "output A is in layer B, not in layer 0")
+    ∷ (16, "node A is no output and is in layer 0")
+    ∷ (17, "node A has an entry and no measurement")
+    ∷ (18, "node A needs node B to be later")
+    ∷ (19, "node A's set does not suit its or a Y measurement")
+    ∷ (20, "the result does not fit the lent buffer")
+    ∷ []
+
+abbrev pub unknown : String
+unknown = "unknown question"
+
+unfoldable pub wordsIn : List (ℕ × String) → ℕ → String
+wordsIn [] number = unknown
+wordsIn (q ∷ qs) number = cond (eqb number (q .0)) (q .1) (wordsIn qs number)
+
+-- the bytes of a text
+unfoldable pub codes : String → List ℕ
+codes none = []
+codes (c then s) = code c ∷ codes s
+
+abbrev pub digit : ℕ → ℕ
+digit d = code "0" + d
+
+-- a byte in decimal, without zeros in front
+unfoldable pub inDecimal : ℕ → List ℕ
+inDecimal n =
+    cond (ltb n 10) (digit n ∷ [])
+    (cond (ltb n 100) (digit (n / 10) ∷ digit (n % 10) ∷ [])
+    (digit (n / 100) ∷ digit (n / 10 % 10) ∷ digit (n % 10) ∷ []))
+
+-- a letter of a template: N, A and B stand for the numbers, any other for itself
+unfoldable pub spelled : (number a b : ℕ) → ℕ → List ℕ
+spelled number a b c =
+    cond (eqb c (code "N")) (inDecimal number)
+    (cond (eqb c (code "A")) (inDecimal a)
+    (cond (eqb c (code "B")) (inDecimal b)
+    (c ∷ [])))
+
+unfoldable pub filled : (number a b : ℕ) → List ℕ → List ℕ
+filled number a b [] = []
+filled number a b (c ∷ cs) = spelled number a b c ++ filled number a b cs
+
+-- what every line begins with
+abbrev pub beginning : String
+beginning = "refused N: "
+
+-- the template of a whole line
+abbrev pub template : (words : List ℕ) → List ℕ
+template words = codes beginning ++ (words ++ code "\n" ∷ [])
+
+abbrev pub line : (number a b : ℕ) → List ℕ
+line number a b = filled number a b (template (codes (wordsIn questions number)))
+
+-- a buffer of so many bytes has room for every line
+abbrev pub lineRoom : ℕ
+lineRoom = 65
+
+-- has it room for a line of these words, with numbers of three digits?
+abbrev pub roomFor : (words : List ℕ) → Bool
+roomFor words = leb (length (filled 255 255 255 (template words))) lineRoom
+
+-- a buffer after writing, and how many bytes were written
+pub record Written : Type 0 where
+  pub count : ℕ
+  pub out : List ℕ
+
+-- bytes at the front of a buffer, where they fit
+unfoldable pub putFirst : (bytes out : List ℕ) → Written
+putFirst bytes out =
+    cond (leb (length bytes) (length out))
+    (record { count = length bytes; out = bytes ++ drop (length bytes) out })
+    (record { count = 0; out = out })
+
+-- the bytes of a piece of the code
+abbrev pub bytesOf : Piece → List ℕ
+bytesOf (One x) = x ∷ []
+bytesOf (Two x y) = x ∷ y ∷ []
+bytesOf (Three x y z) = x ∷ y ∷ z ∷ []
