@@ -46,31 +46,31 @@ enum bolz_refusal {
 #define BOLZ_A(result) ((unsigned)((result) >> 16 & 0xFFFF))
 #define BOLZ_B(result) ((unsigned)((result) & 0xFFFF))
 
-/* A refusal's words; a and b are its nodes, b the layer in 15. */
+/* A refusal's words, the same as the programs write: A stands for a, B for b. */
 static inline const char *bolz_words(unsigned number)
 {
     switch (number) {
-    case BOLZ_NO_RECORD: return "a record of the expected kind is missing";
-    case BOLZ_CUT_PAYLOAD: return "a record ends before its payload does";
+    case BOLZ_NO_RECORD: return "the next record is missing or of another kind";
+    case BOLZ_CUT_PAYLOAD: return "the payload of a record is cut off";
     case BOLZ_WRONG_LENGTH: return "a record's length does not suit its kind";
-    case BOLZ_WRONG_OPENING: return "the count of nodes or the mode is not allowed";
-    case BOLZ_NODE_TOO_LARGE: return "a node's number is not below the count of nodes";
+    case BOLZ_WRONG_OPENING: return "the number of nodes or the mode is not allowed";
+    case BOLZ_NODE_TOO_LARGE: return "a node is not below the number of nodes";
     case BOLZ_NOT_ASCENDING: return "nodes or edges are not strictly ascending";
-    case BOLZ_WRONG_MEASUREMENT: return "a measurement is not allowed";
+    case BOLZ_WRONG_MEASUREMENT: return "a measurement byte is not allowed";
     case BOLZ_BYTES_LEFT: return "bytes are left after the last record";
-    case BOLZ_NOT_ONE_MEMBER: return "an entry of a causal flow has not exactly one member";
-    case BOLZ_MODE_NOT_SEARCHED: return "there is no search for this mode";
-    case BOLZ_WRONG_SHAPE: return "a buffer, or the shape of the matrix, is not right";
-    case BOLZ_NO_SUCH_EQUATION: return "there is no right side of this number";
-    case BOLZ_INVALID_FLOW_CODOMAIN: return "an input is in the set of node a";
-    case BOLZ_INVALID_FLOW_DOMAIN: return "node a has a set and is an output, or has none and is no output";
-    case BOLZ_EXCESSIVE_NON_ZERO_LAYER: return "output a is in layer b, not in layer 0";
-    case BOLZ_EXCESSIVE_ZERO_LAYER: return "node a is in layer 0 and no output";
-    case BOLZ_INVALID_MEASUREMENT_SPEC: return "node a has an entry and no measurement";
-    case BOLZ_INCONSISTENT_FLOW_ORDER: return "node a needs node b to be later";
-    case BOLZ_INCONSISTENT_FLOW_PLANE: return "the set of node a does not suit the measurements";
-    case BOLZ_RESULT_TOO_LONG: return "the result does not fit the buffer";
-    default: return "unknown";
+    case BOLZ_NOT_ONE_MEMBER: return "a causal entry does not have exactly one member";
+    case BOLZ_MODE_NOT_SEARCHED: return "only modes 2 and 3 have a search";
+    case BOLZ_WRONG_SHAPE: return "a lent buffer or matrix has the wrong shape";
+    case BOLZ_NO_SUCH_EQUATION: return "there is no right side of the equation's number";
+    case BOLZ_INVALID_FLOW_CODOMAIN: return "the set of node A holds an input other than A";
+    case BOLZ_INVALID_FLOW_DOMAIN: return "node A has a set and is an output, or neither";
+    case BOLZ_EXCESSIVE_NON_ZERO_LAYER: return "output A is in layer B, not in layer 0";
+    case BOLZ_EXCESSIVE_ZERO_LAYER: return "node A is no output and is in layer 0";
+    case BOLZ_INVALID_MEASUREMENT_SPEC: return "node A has an entry and no measurement";
+    case BOLZ_INCONSISTENT_FLOW_ORDER: return "node A needs node B to be later";
+    case BOLZ_INCONSISTENT_FLOW_PLANE: return "node A's set does not suit its or a Y measurement";
+    case BOLZ_RESULT_TOO_LONG: return "the result does not fit the lent buffer";
+    default: return "unknown question";
     }
 }
 
