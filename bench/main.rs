@@ -1,0 +1,159 @@
+//! The proved library against the original, in one process, from job bytes to flow file bytes.
+
+use harness::families::{ALL_PLANES, ALL_SIX, circuit, grid, measure, path, scattered, some_nodes};
+use harness::jobs::{Job, PAULI, PLANES, X, XY, Y};
+use harness::ours::{self, Answer, OUT_BYTES, WORK_BYTES};
+use harness::random::Random;
+use harness::theirs;
+use std::hint::black_box;
+use std::time::{Duration, Instant};
+
+const SIZES: [usize; 4] = [16, 32, 64, 128];
+const SEED: u64 = 1;
+/// Random families take the mean of so many jobs.
+const JOBS: usize = 8;
+const RUNS: usize = 5;
+/// A run repeats its jobs until so much time has passed.
+const SHORTEST_RUN: Duration = Duration::from_millis(50);
+
+/// The rows of a square or half-square grid.
+fn grid_of(n: usize, mode: u8) -> Job {
+    let rows = if n < 64 { 4 } else { 8 };
+    grid(rows, n / rows, mode)
+}
+
+/// Random graphs with few or many outputs and inputs.
+fn random_jobs(n: usize, mode: u8, part: usize, whole: usize) -> Vec<Job> {
+    let mut random = Random::new(SEED);
+    let one = |i: usize| {
+        let mut job = scattered(n, mode, part, whole, &mut random);
+        let outputs = n * (i % 4 + 1) / 5;
+        job.outputs.extend(some_nodes(n, outputs, &mut random));
+        job.inputs.extend(some_nodes(n, n / 8, &mut random));
+        measure(&mut job, if mode == PLANES { &ALL_PLANES } else { &ALL_SIX }, &mut random);
+        job
+    };
+    (0..JOBS).map(one).collect()
+}
+
+fn circuits(n: usize, mode: u8, from: &[u8]) -> Vec<Job> {
+    let mut random = Random::new(SEED);
+    let one = |_| {
+        let mut job = circuit(n, n / 8, 3, mode, &mut random);
+        measure(&mut job, from, &mut random);
+        job
+    };
+    (0..JOBS).map(one).collect()
+}
+
+fn measured(mut job: Job, from: &[u8]) -> Vec<Job> {
+    measure(&mut job, from, &mut Random::new(SEED));
+    vec![job]
+}
+
+const FAMILIES: [&str; 11] = [
+    "planes, path",
+    "planes, grid",
+    "planes, circuits",
+    "planes, random sparse",
+    "planes, random dense",
+    "Pauli, path of XY",
+    "Pauli, path of X and XY",
+    "Pauli, grid of X and XY",
+    "Pauli, circuits of X, Y, XY",
+    "Pauli, random sparse",
+    "Pauli, random dense",
+];
+
+fn jobs_of(family: usize, n: usize) -> Vec<Job> {
+    match family {
+        0 => vec![path(n, PLANES)],
+        1 => vec![grid_of(n, PLANES)],
+        2 => circuits(n, PLANES, &[XY]),
+        3 => random_jobs(n, PLANES, 3, n),
+        4 => random_jobs(n, PLANES, 1, 2),
+        5 => vec![path(n, PAULI)],
+        6 => measured(path(n, PAULI), &[X, XY]),
+        7 => measured(grid_of(n, PAULI), &[X, XY]),
+        8 => circuits(n, PAULI, &[X, Y, XY]),
+        9 => random_jobs(n, PAULI, 3, n),
+        _ => random_jobs(n, PAULI, 1, 2),
+    }
+}
+
+struct Sides {
+    work: Vec<u8>,
+    out: Vec<u8>,
+    theirs: Vec<u8>,
+}
+
+impl Sides {
+    fn find_ours(&mut self, file: &[u8]) -> usize {
+        match ours::find(black_box(file), &mut self.work, &mut self.out) {
+            Answer::Value(count) => count,
+            refused => panic!("a job was refused: {refused:?}"),
+        }
+    }
+
+    fn find_theirs(&mut self, file: &[u8]) -> usize {
+        theirs::find(black_box(file), &mut self.theirs);
+        self.theirs.len()
+    }
+
+    /// How many of the jobs have a flow; both sides must write the same bytes.
+    fn agree(&mut self, files: &[Vec<u8>]) -> usize {
+        let mut flows = 0;
+        for file in files {
+            let count = self.find_ours(file);
+            self.find_theirs(file);
+            assert_eq!(self.out[..count], self.theirs[..], "the two sides differ");
+            flows += usize::from(self.theirs[4] == 0x11);
+        }
+        flows
+    }
+}
+
+/// Microseconds for one job, over as many rounds as fill a run.
+fn time(files: &[Vec<u8>], mut call: impl FnMut(&[u8]) -> usize) -> f64 {
+    let start = Instant::now();
+    let mut rounds = 0;
+    while start.elapsed() < SHORTEST_RUN {
+        for file in files {
+            black_box(call(file));
+        }
+        rounds += 1;
+    }
+    start.elapsed().as_secs_f64() * 1e6 / (rounds * files.len()) as f64
+}
+
+fn median(mut times: Vec<f64>) -> f64 {
+    times.sort_by(f64::total_cmp);
+    times[times.len() / 2]
+}
+
+fn growth(before: Option<f64>, now: f64) -> String {
+    before.map_or("-".to_string(), |b| format!("{:.1}", now / b))
+}
+
+fn main() {
+    let mut sides = Sides { work: vec![0; WORK_BYTES], out: vec![0; OUT_BYTES], theirs: Vec::new() };
+    println!("| family | n | flows | ours µs | Rust µs | Rust / ours | ours grows by | Rust grows by |");
+    println!("|---|---|---|---|---|---|---|---|");
+    for (family, name) in FAMILIES.iter().enumerate() {
+        let mut before = (None, None);
+        for n in SIZES {
+            let files: Vec<Vec<u8>> = jobs_of(family, n).iter().map(Job::bytes).collect();
+            let flows = sides.agree(&files);
+            let (mut a, mut b) = (Vec::new(), Vec::new());
+            for _ in 0..RUNS {
+                a.push(time(&files, |file| sides.find_ours(file)));
+                b.push(time(&files, |file| sides.find_theirs(file)));
+            }
+            let (a, b) = (median(a), median(b));
+            let (ga, gb) = (growth(before.0, a), growth(before.1, b));
+            let of = files.len();
+            println!("| {name} | {n} | {flows} of {of} | {a:.1} | {b:.1} | {:.2} | {ga} | {gb} |", b / a);
+            before = (Some(a), Some(b));
+        }
+    }
+}

@@ -1,0 +1,10 @@
+//! What the oracle and the benchmark share: jobs, the same call on both sides, and the comparisons.
+
+pub mod families;
+pub mod finders;
+pub mod jobs;
+pub mod many;
+pub mod ours;
+pub mod random;
+pub mod tally;
+pub mod theirs;
