@@ -6,15 +6,14 @@ use harness::ours::{self, Answer, OUT_BYTES, WORK_BYTES};
 use harness::random::Random;
 use harness::theirs;
 use std::hint::black_box;
-use std::time::{Duration, Instant};
 
 const SIZES: [usize; 4] = [16, 32, 64, 128];
 const SEED: u64 = 1;
 /// Random families take the mean of so many jobs.
 const JOBS: usize = 8;
 const RUNS: usize = 5;
-/// A run repeats its jobs until so much time has passed.
-const SHORTEST_RUN: Duration = Duration::from_millis(50);
+/// A run repeats its jobs until so many microseconds have passed.
+const SHORTEST_RUN: f64 = 50_000.0;
 
 /// The rows of a square or half-square grid.
 fn grid_of(n: usize, mode: u8) -> Job {
@@ -113,17 +112,25 @@ impl Sides {
     }
 }
 
+/// Microseconds that this thread has run: other work on the machine does not count.
+fn clock() -> f64 {
+    let mut now = libc::timespec { tv_sec: 0, tv_nsec: 0 };
+    // SAFETY: the call writes to the place that it is lent.
+    assert_eq!(unsafe { libc::clock_gettime(libc::CLOCK_THREAD_CPUTIME_ID, &mut now) }, 0, "no clock");
+    now.tv_sec as f64 * 1e6 + now.tv_nsec as f64 / 1e3
+}
+
 /// Microseconds for one job, over as many rounds as fill a run.
 fn time(files: &[Vec<u8>], mut call: impl FnMut(&[u8]) -> usize) -> f64 {
-    let start = Instant::now();
+    let start = clock();
     let mut rounds = 0;
-    while start.elapsed() < SHORTEST_RUN {
+    while clock() < start + SHORTEST_RUN {
         for file in files {
             black_box(call(file));
         }
         rounds += 1;
     }
-    start.elapsed().as_secs_f64() * 1e6 / (rounds * files.len()) as f64
+    (clock() - start) / (rounds * files.len()) as f64
 }
 
 fn median(mut times: Vec<f64>) -> f64 {
