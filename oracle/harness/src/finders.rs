@@ -111,3 +111,15 @@ pub fn largest(tally: &mut Tally, random: &mut Random, rounds: usize) {
         }
     }
 }
+
+/// More nodes than 128: the original answers, ours refuses with 4.
+pub fn too_many(tally: &mut Tally, random: &mut Random, count: usize) {
+    for i in 0..count {
+        let n = families::HIGHEST + 1 + random.below(20);
+        let job = families::path(n, [PLANES, PAULI][i % 2]);
+        let (mine, other) = (find_ours(&job.bytes()), find_theirs(&job.bytes()));
+        let same = mine == Err(Answer::Refused(4, 0, 0)) && other.is_some();
+        let answer = if other.is_some() { "answer" } else { "panic" };
+        tally.add("finder, more than 128 nodes (ours: 4)", answer, same, || format!("{n} nodes, ours {mine:?}"));
+    }
+}

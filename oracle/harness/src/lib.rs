@@ -2,9 +2,12 @@
 
 pub mod families;
 pub mod finders;
+pub mod flows;
 pub mod jobs;
 pub mod many;
 pub mod ours;
 pub mod random;
+pub mod solving;
 pub mod tally;
 pub mod theirs;
+pub mod verifiers;

@@ -77,13 +77,19 @@ fn write(found: Option<(Sets, Layer)>, out: &mut Vec<u8>) {
     put_record(out, 0x0012, &entries);
 }
 
-/// The finder of modes 2 and 3, from the bytes of a valid job to a flow file or 0013.
+/// The causal flow with sets of one node each.
+fn find_causal(job: Job) -> Option<(Sets, Layer)> {
+    let (f, layers) = flow::find(job.graph, job.inputs, job.outputs)?;
+    Some((f.into_iter().map(|(u, v)| (u, Nodes::from_iter([v]))).collect(), layers))
+}
+
+/// The finder of the job's mode, from the bytes of a valid job to a flow file or 0013.
 pub fn find(file: &[u8], out: &mut Vec<u8>) {
     let job = read(&payloads(file));
-    let found = if job.mode == PLANES {
-        gflow::find(job.graph, job.inputs, job.outputs, table(job.measured, plane))
-    } else {
-        pflow::find(job.graph, job.inputs, job.outputs, table(job.measured, pauli))
+    let found = match job.mode {
+        CAUSAL => find_causal(job),
+        PLANES => gflow::find(job.graph, job.inputs, job.outputs, table(job.measured, plane)),
+        _ => pflow::find(job.graph, job.inputs, job.outputs, table(job.measured, pauli)),
     };
     write(found, out);
 }
@@ -98,22 +104,22 @@ fn sets_of(mut bytes: &[u8]) -> Sets {
     sets
 }
 
-/// Document 01's number for the original's error.
-fn number(error: &FlowValidationError) -> u8 {
-    match error {
-        FlowValidationError::InvalidFlowCodomain { .. } => 13,
-        FlowValidationError::InvalidFlowDomain { .. } => 14,
-        FlowValidationError::ExcessiveNonZeroLayer { .. } => 15,
-        FlowValidationError::ExcessiveZeroLayer { .. } => 16,
-        FlowValidationError::InvalidMeasurementSpec { .. } => 17,
-        FlowValidationError::InconsistentFlowOrder { .. } => 18,
-        FlowValidationError::InconsistentFlowPlane { .. } => 19,
-        FlowValidationError::InconsistentFlowPPlane { .. } => 19,
+/// Document 01's number for the original's error, with a and b.
+fn numbers(error: &FlowValidationError) -> (u8, usize, usize) {
+    use FlowValidationError::*;
+    match *error {
+        InvalidFlowCodomain { node } => (13, node, 0),
+        InvalidFlowDomain { node } => (14, node, 0),
+        ExcessiveNonZeroLayer { node, layer } => (15, node, layer),
+        ExcessiveZeroLayer { node } => (16, node, 0),
+        InvalidMeasurementSpec { node } => (17, node, 0),
+        InconsistentFlowOrder { nodes } => (18, nodes.0, nodes.1),
+        InconsistentFlowPlane { node, .. } | InconsistentFlowPPlane { node, .. } => (19, node, 0),
     }
 }
 
-/// The verifier of the job's mode, on a job and a flow file: 0 where it accepts, else the number of its refusal.
-pub fn verify(file: &[u8]) -> u8 {
+/// The verifier of the job's mode, on a job and a flow file: 0 where it accepts, else the number of its refusal, a and b.
+pub fn verify(file: &[u8]) -> (u8, usize, usize) {
     let records = payloads(file);
     let job = read(&records);
     let layers: Layer = records[5].iter().map(|&l| l as usize).collect();
@@ -127,7 +133,7 @@ pub fn verify(file: &[u8]) -> u8 {
         _ => pflow::verify((sets, layers), job.graph, job.inputs, job.outputs, table(job.measured, pauli)),
     };
     match verdict {
-        Ok(()) => 0,
-        Err(error) => number(error.value.downcast_ref().expect("the original's own error")),
+        Ok(()) => (0, 0, 0),
+        Err(error) => numbers(error.value.downcast_ref().expect("the original's own error")),
     }
 }
