@@ -1,7 +1,7 @@
 //! The finders of modes 2 and 3, byte for byte.
 
 use crate::families::{self, allowed};
-use crate::jobs::{Job, PAULI, PLANES};
+use crate::jobs::{Flow, Job, PAULI, PLANES};
 use crate::many::{self, KINDS};
 use crate::ours::{self, Answer, OUT_BYTES, WORK_BYTES};
 use crate::random::Random;
@@ -10,7 +10,6 @@ use crate::theirs;
 
 /// All jobs of up to so many nodes are compared.
 const SMALL: usize = 3;
-const NO_FLOW: u8 = 0x13;
 
 /// The bytes that ours writes, or the refusal.
 pub fn find_ours(file: &[u8]) -> Result<Vec<u8>, Answer> {
@@ -31,17 +30,24 @@ pub fn find_theirs(file: &[u8]) -> Option<Vec<u8>> {
     std::panic::catch_unwind(call).ok()
 }
 
+/// How deep the original's answer is.
+fn depth(answer: Option<&[u8]>) -> &'static str {
+    let Some(bytes) = answer else { return "panic" };
+    let Some(flow) = Flow::read(bytes) else { return "no flow" };
+    match flow.layers.iter().max() {
+        _ if flow.sets.is_empty() => "nothing to measure",
+        None | Some(0..=1) => "flow to layer 1",
+        Some(2..=9) => "flow to layer 2-9",
+        Some(_) => "flow to layer 10 or more",
+    }
+}
+
 /// Compares one job; gives the original's answer.
 pub fn compare(tally: &mut Tally, family: &str, job: &Job) -> Option<Vec<u8>> {
     let file = job.bytes();
     let (mine, other) = (find_ours(&file), find_theirs(&file));
-    let answer = match &other {
-        None => "panic",
-        Some(bytes) if bytes[4] == NO_FLOW => "no flow",
-        Some(_) => "flow",
-    };
     let same = matches!((&mine, &other), (Ok(a), Some(b)) if a == b);
-    tally.add(family, answer, same, || {
+    tally.add(family, depth(other.as_deref()), same, || {
         format!("job {} ours {:?} original {:?}", hex(&file), mine.as_ref().map(|b| hex(b)), other.as_ref().map(|b| hex(b)))
     });
     other

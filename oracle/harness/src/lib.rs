@@ -3,6 +3,7 @@
 pub mod families;
 pub mod finders;
 pub mod flows;
+pub mod grown;
 pub mod jobs;
 pub mod many;
 pub mod ours;

@@ -1,11 +1,13 @@
 //! Random jobs of every kind.
 
 use crate::families::{self, HIGHEST, allowed, some_nodes};
-use crate::jobs::{CAUSAL, Job, X, XY, XZ, Y, YZ, Z};
+use crate::grown::grown;
+use crate::jobs::{Job, X, XY, XZ, Y, YZ, Z};
 use crate::random::Random;
 use std::collections::BTreeSet;
 
-pub const KINDS: [&str; 9] = ["dense", "sparse", "path", "grid", "tree", "star", "islands", "isolated", "circuit"];
+pub const KINDS: [&str; 10] =
+    ["dense", "sparse", "path", "grid", "tree", "star", "islands", "isolated", "circuit", "grown"];
 
 /// Mostly small, some large.
 fn size(random: &mut Random) -> usize {
@@ -78,9 +80,8 @@ fn graph(kind: &str, n: usize, mode: u8, random: &mut Random) -> Job {
 fn ends(set: &mut BTreeSet<u8>, n: usize, random: &mut Random) {
     let count = match random.below(8) {
         0..=2 if !set.is_empty() => return,
-        3 => 0,
-        4 => n,
-        5 => n / 2,
+        3 => n * random.below(2),
+        4 | 5 => n / 2,
         6 => n * 3 / 4,
         _ => random.below(n / 3 + 1),
     };
@@ -113,19 +114,24 @@ fn renumber(job: &Job, random: &mut Random) -> Job {
     }
     new.inputs = job.inputs.iter().map(|&u| to[u as usize]).collect();
     new.outputs = job.outputs.iter().map(|&u| to[u as usize]).collect();
+    for u in 0..job.n {
+        new.measured[to[u] as usize] = job.measured[u];
+    }
     new
 }
 
 pub fn job_of(kind: &str, mode: u8, n: usize, random: &mut Random) -> Job {
+    if kind == "grown" {
+        let job = grown(n, mode, random);
+        return renumber(&job, random);
+    }
     let mut job = graph(kind, n, mode, random);
     let n = job.n;
     ends(&mut job.inputs, n, random);
     ends(&mut job.outputs, n, random);
+    measure(&mut job, random);
     if random.chance(1, 2) {
-        job = renumber(&job, random);
-    }
-    if mode != CAUSAL {
-        measure(&mut job, random);
+        return renumber(&job, random);
     }
     job
 }

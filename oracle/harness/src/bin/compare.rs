@@ -6,10 +6,10 @@ use harness::{finders, solving, verifiers};
 use std::process::ExitCode;
 
 const SEED: u64 = 20260101;
-const JOBS: usize = 18_000;
-const LARGEST_ROUNDS: usize = 10;
-const VERDICTS: usize = 13_500;
-const MATRICES: usize = 5_000;
+const JOBS: usize = 40_000;
+const LARGEST_ROUNDS: usize = 20;
+const VERDICTS: usize = 24_000;
+const MATRICES: usize = 10_000;
 const WRONG_SHAPES: usize = 100;
 const TOO_MANY: usize = 4;
 
