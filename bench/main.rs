@@ -2,6 +2,7 @@
 
 use harness::families::{ALL_PLANES, ALL_SIX, circuit, grid, measure, path, scattered, some_nodes};
 use harness::jobs::{Job, PAULI, PLANES, X, XY, Y};
+use harness::many::{self, KINDS};
 use harness::ours::{self, Answer, OUT_BYTES, WORK_BYTES};
 use harness::random::Random;
 use harness::theirs;
@@ -14,6 +15,9 @@ const JOBS: usize = 8;
 const RUNS: usize = 5;
 /// A run repeats its jobs until so many microseconds have passed.
 const SHORTEST_RUN: f64 = 50_000.0;
+/// So many random jobs of each kind are timed one by one, in shorter runs.
+const SINGLE_JOBS: usize = 10;
+const SHORTEST_SINGLE: f64 = 1_000.0;
 
 /// The rows of a square or half-square grid.
 fn grid_of(n: usize, mode: u8) -> Job {
@@ -121,10 +125,10 @@ fn clock() -> f64 {
 }
 
 /// Microseconds for one job, over as many rounds as fill a run.
-fn time(files: &[Vec<u8>], mut call: impl FnMut(&[u8]) -> usize) -> f64 {
+fn time(files: &[Vec<u8>], shortest: f64, mut call: impl FnMut(&[u8]) -> usize) -> f64 {
     let start = clock();
     let mut rounds = 0;
-    while clock() < start + SHORTEST_RUN {
+    while clock() < start + shortest {
         for file in files {
             black_box(call(file));
         }
@@ -142,25 +146,66 @@ fn growth(before: Option<f64>, now: f64) -> String {
     before.map_or("-".to_string(), |b| format!("{:.1}", now / b))
 }
 
-fn main() {
-    let mut sides = Sides { work: vec![0; WORK_BYTES], out: vec![0; OUT_BYTES], theirs: Vec::new() };
-    println!("| family | n | flows | ours µs | Rust µs | Rust / ours | ours grows by | Rust grows by |");
-    println!("|---|---|---|---|---|---|---|---|");
-    for (family, name) in FAMILIES.iter().enumerate() {
-        let mut before = (None, None);
-        for n in SIZES {
-            let files: Vec<Vec<u8>> = jobs_of(family, n).iter().map(Job::bytes).collect();
-            let flows = sides.agree(&files);
-            let (mut a, mut b) = (Vec::new(), Vec::new());
-            for _ in 0..RUNS {
-                a.push(time(&files, |file| sides.find_ours(file)));
-                b.push(time(&files, |file| sides.find_theirs(file)));
+struct Times {
+    ours: f64,
+    rust: f64,
+    before: f64,
+}
+
+impl Sides {
+    /// The medians of ours, of the original, and of making the original's arguments; the runs in turn.
+    fn times(&mut self, files: &[Vec<u8>], shortest: f64) -> Times {
+        let (mut ours, mut rust, mut before) = (Vec::new(), Vec::new(), Vec::new());
+        for _ in 0..RUNS {
+            ours.push(time(files, shortest, |file| self.find_ours(file)));
+            rust.push(time(files, shortest, |file| self.find_theirs(file)));
+            before.push(time(files, shortest, |file| theirs::prepare(black_box(file))));
+        }
+        Times { ours: median(ours), rust: median(rust), before: median(before) }
+    }
+
+    fn print_families(&mut self) {
+        println!("| family | n | flows | ours µs | Rust µs | Rust / ours | without reading | ours grows by | Rust grows by |");
+        println!("|---|---|---|---|---|---|---|---|---|");
+        for (family, name) in FAMILIES.iter().enumerate() {
+            let mut before = (None, None);
+            for n in SIZES {
+                let files: Vec<Vec<u8>> = jobs_of(family, n).iter().map(Job::bytes).collect();
+                let flows = self.agree(&files);
+                let t = self.times(&files, SHORTEST_RUN);
+                let (a, b) = (growth(before.0, t.ours), growth(before.1, t.rust));
+                // The original without the making of its arguments, against ours with its reading.
+                let (of, all, search) = (files.len(), t.rust / t.ours, (t.rust - t.before) / t.ours);
+                print!("| {name} | {n} | {flows} of {of} | {:.1} | {:.1} ", t.ours, t.rust);
+                println!("| {all:.2} | {search:.2} | {a} | {b} |");
+                before = (Some(t.ours), Some(t.rust));
             }
-            let (a, b) = (median(a), median(b));
-            let (ga, gb) = (growth(before.0, a), growth(before.1, b));
-            let of = files.len();
-            println!("| {name} | {n} | {flows} of {of} | {a:.1} | {b:.1} | {:.2} | {ga} | {gb} |", b / a);
-            before = (Some(a), Some(b));
         }
     }
+
+    /// Single random jobs of every kind: the least and the middle ratio.
+    fn print_single(&mut self) {
+        println!("| mode | n | random jobs | least Rust / ours | its kind | median |");
+        println!("|---|---|---|---|---|---|");
+        let mut random = Random::new(SEED);
+        for (mode, n) in [PLANES, PAULI].into_iter().flat_map(|mode| SIZES.map(|n| (mode, n))) {
+            let mut ratios = Vec::new();
+            for kind in KINDS.iter().cycle().take(SINGLE_JOBS * KINDS.len()) {
+                let files = [many::job_of(kind, mode, n, &mut random).bytes()];
+                self.agree(&files);
+                let t = self.times(&files, SHORTEST_SINGLE);
+                ratios.push((t.rust / t.ours, kind));
+            }
+            ratios.sort_by(|x, y| x.0.total_cmp(&y.0));
+            let (least, kind) = ratios[0];
+            println!("| {mode} | {n} | {} | {least:.2} | {kind} | {:.2} |", ratios.len(), ratios[ratios.len() / 2].0);
+        }
+    }
+}
+
+fn main() {
+    let mut sides = Sides { work: vec![0; WORK_BYTES], out: vec![0; OUT_BYTES], theirs: Vec::new() };
+    sides.print_families();
+    println!();
+    sides.print_single();
 }

@@ -5,9 +5,21 @@ use crate::jobs::{CAUSAL, Flow, Job};
 use crate::random::Random;
 use std::collections::{BTreeMap, BTreeSet};
 
-/// The original's flow of a job.
+/// The original's flow of a job. Where a causal flow has a choice, the original's follows hash order; here the least is taken.
 pub fn found(job: &Job) -> Option<Flow> {
-    Flow::read(&find_theirs(&job.bytes())?)
+    let mut flow = Flow::read(&find_theirs(&job.bytes())?)?;
+    if job.mode == CAUSAL {
+        let least = |&u: &u8| (u, BTreeSet::from_iter((0..job.n as u8).find(|&v| corrects(job, &flow.layers, u, v))));
+        flow.sets = flow.sets.keys().map(least).collect();
+    }
+    Some(flow)
+}
+
+/// Whether f(u) = v suits the layers: v is no input, later, and a neighbour of u, and its other neighbours are later than u.
+fn corrects(job: &Job, layers: &[u8], u: u8, v: u8) -> bool {
+    let later = |w: u8| layers[w as usize] < layers[u as usize];
+    let near = |a: u8, b: u8| job.edges.contains(&(a.min(b), a.max(b)));
+    !job.inputs.contains(&v) && later(v) && near(u, v) && (0..job.n as u8).all(|w| w == u || !near(v, w) || later(w))
 }
 
 pub const DAMAGES: [&str; 9] = [

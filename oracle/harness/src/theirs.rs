@@ -77,6 +77,14 @@ fn write(found: Option<(Sets, Layer)>, out: &mut Vec<u8>) {
     put_record(out, 0x0012, &entries);
 }
 
+/// Only what the harness does before the original is called in mode 2 or 3: its graph, sets and measurements are made of the bytes.
+pub fn prepare(file: &[u8]) -> usize {
+    let records = payloads(file);
+    let job = read(&records);
+    let measured = if job.mode == PLANES { table(job.measured, plane).len() } else { table(job.measured, pauli).len() };
+    job.graph.len() + measured
+}
+
 /// The causal flow with sets of one node each.
 fn find_causal(job: Job) -> Option<(Sets, Layer)> {
     let (f, layers) = flow::find(job.graph, job.inputs, job.outputs)?;
