@@ -6,8 +6,7 @@ use crate::jobs::{Job, X, XY, XZ, Y, YZ, Z};
 use crate::random::Random;
 use std::collections::BTreeSet;
 
-pub const KINDS: [&str; 10] =
-    ["dense", "sparse", "path", "grid", "tree", "star", "islands", "isolated", "circuit", "grown"];
+pub const KINDS: [&str; 10] = ["dense", "sparse", "path", "grid", "tree", "star", "islands", "isolated", "circuit", "grown"];
 
 /// Mostly small, some large.
 fn size(random: &mut Random) -> usize {

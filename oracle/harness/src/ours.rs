@@ -37,9 +37,7 @@ fn decoded(code: u64) -> Answer {
 
 pub fn find(file: &[u8], work: &mut [u8], out: &mut [u8]) -> Answer {
     // SAFETY: each pointer goes with its slice's length.
-    decoded(unsafe {
-        bolz_find(file.as_ptr(), file.len(), work.as_mut_ptr(), work.len(), out.as_mut_ptr(), out.len())
-    })
+    decoded(unsafe { bolz_find(file.as_ptr(), file.len(), work.as_mut_ptr(), work.len(), out.as_mut_ptr(), out.len()) })
 }
 
 pub fn verify(file: &[u8], out: &mut [u8]) -> Answer {

@@ -3,9 +3,9 @@
 use crate::jobs::{CAUSAL, PLANES, X, XY, XZ, Y, YZ, Z, payloads, put_record};
 use hashbrown::HashMap;
 use original::common::{FlowValidationError, Graph, Layer, Nodes};
+use original::flow;
 use original::gflow::{self, Plane};
 use original::pflow::{self, PPlane};
-use original::flow;
 
 type Sets = HashMap<usize, Nodes>;
 

@@ -19,7 +19,8 @@ const BY_CHANCE: usize = 5;
 const CLOSELY: usize = 5;
 const RUNS: usize = 2000;
 
-/// With several faults the original's choice of 18 or 19 and of nodes follows hash order; only 15 and 16 are found in the order of the nodes.
+/// With several faults the original's choice of 18 or 19 and of nodes follows hash order; only 15 and 16 are found in the order of
+/// the nodes.
 fn same(mine: Answer, other: (u8, usize, usize)) -> bool {
     match (mine, other) {
         (Answer::Value(_), (0, _, _)) => true,

@@ -1,6 +1,6 @@
-//! Writes a sample of the original's answers to the file that is named. Each entry: 'f' or 'v', the length of the query (4 bytes, little-endian), the
-//! query (a job; or a job and a flow file), the length of the answer, the answer (a flow file or 0013; or one byte: 0 accepted, else the
-//! refusal's number, 18 also for 19).
+//! Writes a sample of the original's answers to the file that is named. Each entry: 'f' or 'v', the length of the query (4 bytes,
+//! little-endian), the query (a job; or a job and a flow file), the length of the answer, the answer (a flow file or 0013; or one
+//! byte: 0 accepted, else the refusal's number, 18 also for 19).
 
 use harness::families::{circuit, grid, measure, path};
 use harness::finders::{all_jobs, find_theirs};
