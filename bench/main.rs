@@ -54,7 +54,7 @@ fn measured(mut job: Job, from: &[u8]) -> Vec<Job> {
     vec![job]
 }
 
-const FAMILIES: [&str; 11] = [
+const FAMILIES: [&str; 12] = [
     "planes, path",
     "planes, grid",
     "planes, circuits",
@@ -64,6 +64,7 @@ const FAMILIES: [&str; 11] = [
     "Pauli, path of X and XY",
     "Pauli, grid of X and XY",
     "Pauli, circuits of X, Y, XY",
+    "Pauli, circuits of X and Y",
     "Pauli, random sparse",
     "Pauli, random dense",
 ];
@@ -79,7 +80,8 @@ fn jobs_of(family: usize, n: usize) -> Vec<Job> {
         6 => measured(path(n, PAULI), &[X, XY]),
         7 => measured(grid_of(n, PAULI), &[X, XY]),
         8 => circuits(n, PAULI, &[X, Y, XY]),
-        9 => random_jobs(n, PAULI, 3, n),
+        9 => circuits(n, PAULI, &[X, Y]),
+        10 => random_jobs(n, PAULI, 3, n),
         _ => random_jobs(n, PAULI, 1, 2),
     }
 }
