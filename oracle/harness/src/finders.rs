@@ -42,15 +42,16 @@ fn depth(answer: Option<&[u8]>) -> &'static str {
     }
 }
 
-/// Compares one job; gives the original's answer.
-pub fn compare(tally: &mut Tally, family: &str, job: &Job) -> Option<Vec<u8>> {
+fn compare(tally: &mut Tally, family: &str, job: &Job) {
     let file = job.bytes();
     let (mine, other) = (find_ours(&file), find_theirs(&file));
     let same = matches!((&mine, &other), (Ok(a), Some(b)) if a == b);
     tally.add(family, depth(other.as_deref()), same, || {
         format!("job {} ours {:?} original {:?}", hex(&file), mine.as_ref().map(|b| hex(b)), other.as_ref().map(|b| hex(b)))
     });
-    other
+    if let Some(flow) = other.as_deref().and_then(Flow::read) {
+        flow.sets.keys().for_each(|&u| tally.add_node(job.measured[u as usize]));
+    }
 }
 
 /// The subset of 0..n whose members are the bits of `bits`.
@@ -90,9 +91,7 @@ fn all_measurements(job: &mut Job, each: &mut impl FnMut(&Job)) {
 pub fn all_small(tally: &mut Tally) {
     for mode in [PLANES, PAULI] {
         for n in 0..=SMALL {
-            all_jobs(n, mode, |job| {
-                compare(tally, &format!("finder, mode {mode}, all jobs of {n} nodes"), job);
-            });
+            all_jobs(n, mode, |job| compare(tally, &format!("finder, mode {mode}, all jobs of {n} nodes"), job));
         }
     }
 }

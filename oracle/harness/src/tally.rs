@@ -15,6 +15,8 @@ struct Row {
 #[derive(Default)]
 pub struct Tally {
     rows: BTreeMap<String, Row>,
+    /// How many nodes of each measurement the found flows have.
+    measured: [usize; 7],
     differences: Vec<String>,
 }
 
@@ -37,6 +39,11 @@ impl Tally {
         }
     }
 
+    /// A flow was found that has an entry for a node of this measurement.
+    pub fn add_node(&mut self, measurement: u8) {
+        self.measured[measurement as usize] += 1;
+    }
+
     /// Prints the table; true where nothing differs.
     pub fn report(&self) -> bool {
         println!("| compared | cases | differences | the original's answers |");
@@ -45,9 +52,10 @@ impl Tally {
             let answers: Vec<String> = row.answers.iter().map(|(a, count)| format!("{a}: {count}")).collect();
             println!("| {family} | {} | {} | {} |", row.compared, row.different, answers.join(", "));
         }
+        println!("\nnodes in the found flows: XY, YZ, XZ, X, Y, Z: {:?}", &self.measured[1..]);
         let compared: usize = self.rows.values().map(|row| row.compared).sum();
         let different: usize = self.rows.values().map(|row| row.different).sum();
-        println!("\n{compared} compared, {different} different");
+        println!("{compared} compared, {different} different");
         for difference in &self.differences {
             println!("{difference}");
         }

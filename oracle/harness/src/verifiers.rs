@@ -38,7 +38,7 @@ fn is_named(mine: Answer, file: &[u8]) -> bool {
     number == 14 || (0..RUNS).any(|_| theirs::verify(file) == (number, a as usize, b as usize))
 }
 
-pub fn label(number: u8) -> String {
+fn label(number: u8) -> String {
     match number {
         0 => "accepted".to_string(),
         18 | 19 => "18 or 19".to_string(),
@@ -46,15 +46,13 @@ pub fn label(number: u8) -> String {
     }
 }
 
-/// Compares one verdict; gives the original's number.
-pub fn compare(tally: &mut Tally, family: &str, job: &Job, flow: &Flow) -> Option<u8> {
+fn compare(tally: &mut Tally, family: &str, job: &Job, flow: &Flow) {
     let file = [job.bytes(), flow.bytes()].concat();
     let mine = ours::verify(&file, &mut [0; 6]);
     let other = std::panic::catch_unwind(|| theirs::verify(&file)).ok();
     let answer = other.map_or("panic".to_string(), |o| label(o.0));
     let agree = other.is_some_and(|o| same(mine, o)) && (job.n > CLOSELY || is_named(mine, &file));
     tally.add(family, &answer, agree, || format!("file {} ours {mine:?} original {other:?}", hex(&file)));
-    other.map(|o| o.0)
 }
 
 pub fn all_small(tally: &mut Tally) {
@@ -62,9 +60,7 @@ pub fn all_small(tally: &mut Tally) {
         for n in 0..=SMALL {
             let family = format!("verifier, mode {mode}, all flows of all jobs of {n} nodes");
             all_jobs(n, mode, |job| {
-                all_flows(n, mode, HIGHEST_LAYER, |flow| {
-                    compare(tally, &family, job, flow);
-                });
+                all_flows(n, mode, HIGHEST_LAYER, |flow| compare(tally, &family, job, flow));
             });
         }
     }
