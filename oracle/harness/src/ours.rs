@@ -1,0 +1,52 @@
+//! The proved library, called as C calls it.
+
+pub const WORK_BYTES: usize = 2048;
+/// Room for any result.
+pub const OUT_BYTES: usize = 16780;
+
+unsafe extern "C" {
+    fn bolz_find(file: *const u8, len: usize, work: *mut u8, work_len: usize, out: *mut u8, out_len: usize) -> u64;
+    fn bolz_verify(file: *const u8, len: usize, out: *mut u8, out_len: usize) -> u64;
+    fn bolz_solve(
+        matrix: *mut u8,
+        matrix_len: usize,
+        bits: *mut u8,
+        bits_len: usize,
+        rows: usize,
+        cols: usize,
+        sides: usize,
+        side: usize,
+    ) -> u64;
+}
+
+#[derive(Clone, Copy, PartialEq, Eq, Debug)]
+pub enum Answer {
+    /// Bytes written; for the solver 1 solvable, 0 not.
+    Value(usize),
+    /// Number, a, b.
+    Refused(u8, u8, u8),
+}
+
+fn decoded(code: u64) -> Answer {
+    let number = (code >> 32) as u8;
+    if number == 0 {
+        return Answer::Value(code as usize);
+    }
+    Answer::Refused(number, (code >> 16) as u8, code as u8)
+}
+
+pub fn find(file: &[u8], work: &mut [u8], out: &mut [u8]) -> Answer {
+    // SAFETY: each pointer goes with its slice's length.
+    decoded(unsafe { bolz_find(file.as_ptr(), file.len(), work.as_mut_ptr(), work.len(), out.as_mut_ptr(), out.len()) })
+}
+
+pub fn verify(file: &[u8], out: &mut [u8]) -> Answer {
+    // SAFETY: each pointer goes with its slice's length.
+    decoded(unsafe { bolz_verify(file.as_ptr(), file.len(), out.as_mut_ptr(), out.len()) })
+}
+
+pub fn solve(matrix: &mut [u8], bits: &mut [u8], rows: usize, cols: usize, sides: usize, side: usize) -> Answer {
+    let (m, b) = (matrix.as_mut_ptr(), bits.as_mut_ptr());
+    // SAFETY: each pointer goes with its slice's length.
+    decoded(unsafe { bolz_solve(m, matrix.len(), b, bits.len(), rows, cols, sides, side) })
+}

@@ -1,0 +1,155 @@
+//! The solver on random matrices of every shape, and where the original panics.
+
+use crate::ours::{self, Answer};
+use crate::random::Random;
+use crate::tally::{Tally, hex};
+use fixedbitset::FixedBitSet;
+use original::internal::gf2_linalg::GF2Solver;
+
+const ROW_BYTES: usize = 16;
+const MOST: usize = 128;
+/// So many right sides of a matrix are solved.
+const SIDES_TRIED: usize = 6;
+/// What the out bits hold before a call.
+const OLD_BITS: [u8; ROW_BYTES] = [0xA5; ROW_BYTES];
+
+#[derive(Clone, Copy, Debug)]
+struct Shape {
+    rows: usize,
+    cols: usize,
+    sides: usize,
+}
+
+fn bit(bytes: &[u8], i: usize) -> bool {
+    bytes[i / 8] >> (i % 8) & 1 == 1
+}
+
+/// Random rows of the shape's width; where `rank` is small, all are sums of so many.
+fn matrix(shape: Shape, random: &mut Random) -> Vec<u8> {
+    let density = 1 + random.below(8);
+    let rank = 1 + random.below(shape.rows);
+    let mut bytes = vec![0; shape.rows * ROW_BYTES];
+    for row in 0..shape.rows {
+        let (done, rest) = bytes.split_at_mut(row * ROW_BYTES);
+        if row >= rank && random.chance(7, 8) {
+            let from = random.below(rank) * ROW_BYTES;
+            rest[..ROW_BYTES].copy_from_slice(&done[from..from + ROW_BYTES]);
+            continue;
+        }
+        for i in 0..shape.cols + shape.sides {
+            rest[i / 8] |= u8::from(random.chance(density, 16)) << (i % 8);
+        }
+    }
+    bytes
+}
+
+fn rows_of(bytes: &[u8], width: usize) -> Vec<FixedBitSet> {
+    let row = |bytes: &[u8]| {
+        let mut set = FixedBitSet::with_capacity(width);
+        (0..width).for_each(|i| set.set(i, bit(bytes, i)));
+        set
+    };
+    bytes.chunks(ROW_BYTES).map(row).collect()
+}
+
+fn bytes_of(bits: &FixedBitSet) -> [u8; ROW_BYTES] {
+    let mut bytes = [0; ROW_BYTES];
+    bits.ones().for_each(|i| bytes[i / 8] |= 1 << (i % 8));
+    bytes
+}
+
+/// Whether the bits solve the side's equations in the matrix as it was given.
+fn solves(matrix: &[u8], shape: Shape, side: usize, bits: &[u8]) -> bool {
+    let holds = |row: &[u8]| {
+        let sum = (0..shape.cols).filter(|&c| bit(row, c) && bit(bits, c)).count() % 2 == 1;
+        sum == bit(row, shape.cols + side)
+    };
+    matrix.chunks(ROW_BYTES).all(holds)
+}
+
+/// Ours is as the original's; a solution is one; without one the out bits are the old ones.
+fn agrees(given: &[u8], shape: Shape, side: usize, mine: (Answer, [u8; ROW_BYTES]), other: Option<[u8; ROW_BYTES]>) -> bool {
+    match (mine, other) {
+        ((Answer::Value(1), bits), Some(theirs)) => bits == theirs && solves(given, shape, side, &bits),
+        ((Answer::Value(0), bits), None) => bits == OLD_BITS,
+        _ => false,
+    }
+}
+
+fn solve_ours(matrix: &mut [u8], shape: Shape, side: usize) -> (Answer, [u8; ROW_BYTES]) {
+    let mut bits = OLD_BITS;
+    let answer = ours::solve(matrix, &mut bits, shape.rows, shape.cols, shape.sides, side);
+    (answer, bits)
+}
+
+/// Some right sides of one matrix, each on the matrix as given and on the one that the calls before it left.
+fn compare(tally: &mut Tally, shape: Shape, given: &[u8], random: &mut Random) {
+    let mut storage = rows_of(given, shape.cols + shape.sides);
+    let mut theirs = GF2Solver::attach(storage.as_mut_slice(), shape.sides);
+    let mut used = given.to_vec();
+    for _ in 0..SIDES_TRIED.min(shape.sides) {
+        let side = random.below(shape.sides);
+        let mut out = FixedBitSet::with_capacity(shape.cols);
+        let other = theirs.solve_in_place(&mut out, side).then(|| bytes_of(&out));
+        let fresh = solve_ours(&mut given.to_vec(), shape, side);
+        let again = solve_ours(&mut used, shape, side);
+        let same = fresh == again && agrees(given, shape, side, fresh, other);
+        let answer = if other.is_some() { "solvable" } else { "not" };
+        tally.add("solver, random matrices", answer, same, || {
+            format!("{shape:?} side {side} matrix {} ours {fresh:?} again {again:?} original {other:?}", hex(given))
+        });
+    }
+}
+
+fn random_shape(random: &mut Random) -> Shape {
+    let most = if random.chance(1, 2) { 12 } else { MOST };
+    let cols = 1 + random.below(most - 1);
+    Shape { rows: 1 + random.below(most), cols, sides: 1 + random.below(most - cols) }
+}
+
+pub fn random_ones(tally: &mut Tally, random: &mut Random, count: usize) {
+    for _ in 0..count {
+        let shape = random_shape(random);
+        let given = matrix(shape, random);
+        compare(tally, shape, &given, random);
+    }
+}
+
+/// The original's solver on zeros of the shape; none where it panics.
+fn tried_theirs(shape: Shape, out_bits: usize, side: usize) -> Option<bool> {
+    let call = || {
+        let mut storage = vec![FixedBitSet::with_capacity(shape.cols + shape.sides); shape.rows];
+        let mut out = FixedBitSet::with_capacity(out_bits);
+        GF2Solver::attach(storage.as_mut_slice(), shape.sides).solve_in_place(&mut out, side)
+    };
+    std::panic::catch_unwind(call).ok()
+}
+
+fn tried_ours(shape: Shape, out_bytes: usize, side: usize) -> Answer {
+    let (mut matrix, mut bits) = (vec![0; shape.rows * ROW_BYTES], vec![0; out_bytes]);
+    ours::solve(&mut matrix, &mut bits, shape.rows, shape.cols, shape.sides, side)
+}
+
+/// Calls of a wrong shape: where the original panics ours refuses; what is above 128 only ours refuses.
+pub fn wrong_shapes(tally: &mut Tally, random: &mut Random, count: usize) {
+    for _ in 0..count {
+        let good = random_shape(random);
+        let (cols, sides) = (good.cols, good.sides);
+        let cases = [
+            ("no row", Shape { rows: 0, ..good }, cols, ROW_BYTES, 0, 11),
+            ("no right side", Shape { sides: 0, ..good }, cols, ROW_BYTES, 0, 11),
+            ("no column", Shape { cols: 0, ..good }, 0, ROW_BYTES, 0, 11),
+            ("out bits of a wrong length", good, cols + 1, ROW_BYTES + 1, 0, 11),
+            ("no such equation", good, cols, ROW_BYTES, sides + random.below(3), 12),
+            ("more than 128 rows", Shape { rows: MOST + 1, ..good }, cols, ROW_BYTES, 0, 11),
+            ("more than 128 columns in all", Shape { sides: MOST + 1 - cols, ..good }, cols, ROW_BYTES, 0, 11),
+        ];
+        for (name, shape, out_bits, out_bytes, side, number) in cases {
+            let (mine, other) = (tried_ours(shape, out_bytes, side), tried_theirs(shape, out_bits, side));
+            let same = mine == Answer::Refused(number, 0, 0) && other.is_none() != name.starts_with("more");
+            let answer = if other.is_none() { "panic" } else { "answer" };
+            let family = format!("solver, {name} (ours: {number})");
+            tally.add(&family, answer, same, || format!("{shape:?} side {side} ours {mine:?} original {other:?}"));
+        }
+    }
+}

@@ -1,0 +1,64 @@
+//! Counts of what was compared, and the first differences.
+
+use std::collections::BTreeMap;
+
+/// So many differences are shown whole.
+const SHOWN: usize = 10;
+
+#[derive(Default)]
+struct Row {
+    compared: usize,
+    different: usize,
+    answers: BTreeMap<String, usize>,
+}
+
+#[derive(Default)]
+pub struct Tally {
+    rows: BTreeMap<String, Row>,
+    /// How many nodes of each measurement the found flows have.
+    measured: [usize; 7],
+    differences: Vec<String>,
+}
+
+pub fn hex(bytes: &[u8]) -> String {
+    bytes.iter().map(|b| format!("{b:02x}")).collect()
+}
+
+impl Tally {
+    /// One comparison of a family: what the original answered, and whether ours agrees; `detail` is for people.
+    pub fn add(&mut self, family: &str, answer: &str, same: bool, detail: impl FnOnce() -> String) {
+        let row = self.rows.entry(family.to_string()).or_default();
+        row.compared += 1;
+        *row.answers.entry(answer.to_string()).or_default() += 1;
+        if same {
+            return;
+        }
+        row.different += 1;
+        if self.differences.len() < SHOWN {
+            self.differences.push(format!("{family}: {}", detail()));
+        }
+    }
+
+    /// A flow was found that has an entry for a node of this measurement.
+    pub fn add_node(&mut self, measurement: u8) {
+        self.measured[measurement as usize] += 1;
+    }
+
+    /// Prints the table; true where nothing differs.
+    pub fn report(&self) -> bool {
+        println!("| compared | cases | differences | the original's answers |");
+        println!("|---|---|---|---|");
+        for (family, row) in &self.rows {
+            let answers: Vec<String> = row.answers.iter().map(|(a, count)| format!("{a}: {count}")).collect();
+            println!("| {family} | {} | {} | {} |", row.compared, row.different, answers.join(", "));
+        }
+        println!("\nnodes in the found flows: XY, YZ, XZ, X, Y, Z: {:?}", &self.measured[1..]);
+        let compared: usize = self.rows.values().map(|row| row.compared).sum();
+        let different: usize = self.rows.values().map(|row| row.different).sum();
+        println!("{compared} compared, {different} different");
+        for difference in &self.differences {
+            println!("{difference}");
+        }
+        different == 0
+    }
+}

@@ -1,0 +1,92 @@
+//! The verifiers of modes 1, 2 and 3: accepting or not, and 13 to 17 by number.
+
+use crate::finders::all_jobs;
+use crate::flows::{DAMAGES, all_flows, by_chance, damaged, found};
+use crate::jobs::{CAUSAL, Flow, Job, PAULI, PLANES};
+use crate::many::{self, KINDS};
+use crate::ours::{self, Answer};
+use crate::random::Random;
+use crate::tally::{Tally, hex};
+use crate::theirs;
+
+const MODES: [u8; 3] = [CAUSAL, PLANES, PAULI];
+/// All flows for all jobs of up to so many nodes are compared, with layers up to `HIGHEST_LAYER`.
+const SMALL: usize = 2;
+const HIGHEST_LAYER: usize = 2;
+/// Flows by chance are made for jobs of up to so many nodes.
+const BY_CHANCE: usize = 5;
+/// For up to so many nodes a and b are compared too, with those of any of so many runs of the original.
+const CLOSELY: usize = 5;
+const RUNS: usize = 2000;
+
+/// With several faults the original's choice of 18 or 19 and of nodes follows hash order; only 15 and 16 are found in the order of
+/// the nodes.
+fn same(mine: Answer, other: (u8, usize, usize)) -> bool {
+    match (mine, other) {
+        (Answer::Value(_), (0, _, _)) => true,
+        (Answer::Refused(18 | 19, _, _), (18 | 19, _, _)) => true,
+        (Answer::Refused(x @ (15 | 16), a, b), (y, c, d)) => x == y && a as usize == c && b as usize == d,
+        (Answer::Refused(x @ (13 | 14 | 17), _, _), (y, _, _)) => x == y,
+        _ => false,
+    }
+}
+
+/// Whether the original gives our number, a and b in some run: its sets are hashed anew in each. Of 14 only the number is asked,
+/// since the original looks at the nodes with a wrong set first and at those without one then.
+fn is_named(mine: Answer, file: &[u8]) -> bool {
+    let Answer::Refused(number, a, b) = mine else { return true };
+    number == 14 || (0..RUNS).any(|_| theirs::verify(file) == (number, a as usize, b as usize))
+}
+
+fn label(number: u8) -> String {
+    match number {
+        0 => "accepted".to_string(),
+        18 | 19 => "18 or 19".to_string(),
+        other => other.to_string(),
+    }
+}
+
+fn compare(tally: &mut Tally, family: &str, job: &Job, flow: &Flow) {
+    let file = [job.bytes(), flow.bytes()].concat();
+    let mine = ours::verify(&file, &mut [0; 6]);
+    let other = std::panic::catch_unwind(|| theirs::verify(&file)).ok();
+    let answer = other.map_or("panic".to_string(), |o| label(o.0));
+    let agree = other.is_some_and(|o| same(mine, o)) && (job.n > CLOSELY || is_named(mine, &file));
+    tally.add(family, &answer, agree, || format!("file {} ours {mine:?} original {other:?}", hex(&file)));
+}
+
+pub fn all_small(tally: &mut Tally) {
+    for mode in MODES {
+        for n in 0..=SMALL {
+            let family = format!("verifier, mode {mode}, all flows of all jobs of {n} nodes");
+            all_jobs(n, mode, |job| {
+                all_flows(n, mode, HIGHEST_LAYER, |flow| compare(tally, &family, job, flow));
+            });
+        }
+    }
+}
+
+/// A job's flow as found, and with each kind of damage.
+fn around_found(tally: &mut Tally, job: &Job, random: &mut Random) {
+    let Some(whole) = found(job) else { return };
+    let mode = job.mode;
+    compare(tally, &format!("verifier, mode {mode}, found flows"), job, &whole);
+    for kind in DAMAGES {
+        if let Some(flow) = damaged(kind, job, &whole, random) {
+            compare(tally, &format!("verifier, mode {mode}, {kind}"), job, &flow);
+        }
+    }
+}
+
+pub fn random_ones(tally: &mut Tally, random: &mut Random, count: usize) {
+    for i in 0..count {
+        let kind = KINDS[i % KINDS.len()];
+        let mode = MODES[i / KINDS.len() % MODES.len()];
+        let job = many::job(kind, mode, random);
+        around_found(tally, &job, random);
+        let n = 1 + random.below(BY_CHANCE);
+        let small = many::job_of(kind, mode, n, random);
+        let flow = by_chance(&small, random);
+        compare(tally, &format!("verifier, mode {mode}, flows by chance"), &small, &flow);
+    }
+}
