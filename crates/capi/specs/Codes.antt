@@ -28,8 +28,8 @@ coded o = record { code = answerCode (o .answer); work = o .work; out = o .out }
 abbrev pub solvedCode : Solved → ℕ
 solvedCode Solvable = 1
 solvedCode Unsolvable = 0
-solvedCode WrongShape = refusalCode (refusal 11)
-solvedCode NoSuchEquation = refusalCode (refusal 12)
+solvedCode WrongShape = refusalCode (refusal (Solver.solverNumber WrongShape))
+solvedCode NoSuchEquation = refusalCode (refusal (Solver.solverNumber NoSuchEquation))
 
 pub record CodedBits : Type 0 where
   pub code : ℕ

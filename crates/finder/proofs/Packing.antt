@@ -30,19 +30,14 @@ use Rattle.solver.specs.declared.gf2_linalg.Solved.the-variants.{Solvable, Unso
 use Rattle.solver.proofs.Packed.{spread-answer}
 use Rattle.solver.proofs.Reduced.{plain, read-off}
 use Rattle.solver.proofs.WorkMatrix.{byte-at, bit-digits}
-use Rattle.flows.specs.Branch.{Context, inSet, inOdd, systemAt, sideAt, withNode, tryBranch}
-use Rattle.finder.specs.Finder.{jobIn, workBytes}
+use Rattle.flows.specs.Branch.{inSet, inOdd, systemAt, sideAt, withNode, tryBranch}
+use Rattle.finder.specs.Finder.{workBytes}
 use Rattle.finder.specs.Views.{contextOf, graphJob, rowsOf, columnsOf, Within, RowsApart, SidesApart, byRank, block, columnBit, sideBit, Added, coefficients, sideIn, sidesIn, gathered, rowsIn, answerIn, Opened}
 use Rattle.finder.specs.declared.Sets.{Sets}
-use Rattle.flows.proofs.Tries.{SameContext, branch-ext}
 use Rattle.flows.proofs.Sizes.{count-disjoint, rows-count}
 use Rattle.finder.proofs.Filling.{zeros-entry}
 
 -- ---- for the callers: a try asks only for the nodes and the graph of a job, and for the sets below n
-pub tried-in : (n : ℕ) (g : List ℕ) (inputs outputs : NodeSet) (measured : List ℕ) (s : Sets) (c : Context) (u b : ℕ)
-    → SameContext (jobIn n g inputs outputs measured) (contextOf s) c
-    → tryBranch (graphJob n g) (contextOf s) u b ≡ tryBranch (jobIn n g inputs outputs measured) c u b
-tried-in n g inputs outputs measured s c u b e = branch-ext (jobIn n g inputs outputs measured) (contextOf s) c e u b
 
 -- ---- members
 pub member-lt : (s : NodeSet) (v : ℕ) → T (member s v) → v < capacity

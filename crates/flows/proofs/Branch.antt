@@ -1,18 +1,18 @@
 -- One try of a branch: it gives a set exactly where some set fits, and the set that it gives fits.
-use Prim.Native.Nat.{ℕ, zero, suc, _+_, _-_, _≤_, _<_}
-use mathlib.Core.Path.{_≡_, refl, sym, ap, _∙_, fun-ext}
+use Prim.Native.Nat.{ℕ, _+_, _-_, _≤_, _<_}
+use mathlib.Core.Path.{_≡_, refl, sym, ap, _∙_}
 use mathlib.Core.Bool.{Bool, true, false, cond, not, _&&_, _||_}
-use mathlib.Core.Logic.{_⊎_, inl, inr, _≢_}
-use mathlib.Core.Option.{Option, none, some, Option·some-injective, Option·none-ne-some}
+use mathlib.Core.Logic.{_⊎_, inl, inr}
+use mathlib.Core.Option.{Option, none, some}
 use native.Mathlib.Omega.{arith}
 use native.Mathlib.Nat.{add-sub-cancel-left}
-use lib.Dec.{T, eqb, ltb, eqb→eq, ltb→lt, nltb→le, lt→ltb}
+use lib.Dec.{T, eqb, ltb, eqb→eq, ltb→lt, nltb→le}
 use Rattle.nodes.specs.Bit.{_⊕_}
 use Rattle.nodes.specs.Row.{parity}
-use Rattle.nodes.proofs.Logic.{is-true, is-false, from-true, dec, and-l, and-r, and-in, or-out, not-in, not-out, eqb-no, eqb-yes, and-none, and-all, and-comm, or-none, ⊕-comm, ⊕-twice, ⊕-self, ⊕-none, ⊕-&&}
+use Rattle.nodes.proofs.Logic.{is-true, is-false, from-true, dec, and-l, and-r, or-out, not-in, not-out, eqb-no, eqb-yes, and-none, and-all, and-comm, or-none, ⊕-none, ⊕-&&}
 use Rattle.nodes.proofs.Row.{parity-ext, parity-⊕, parity-one, ltb-yes, ltb-no}
-use Rattle.solver.specs.System.{System, Solves, Answer, solve, isSome}
-use Rattle.solver.proofs.System.{Right, solve-right, solvable-some, solve-answer}
+use Rattle.solver.specs.System.{Solves, Answer, solve, isSome}
+use Rattle.solver.proofs.System.{solvable-some}
 use Rattle.flows.specs.Job.{Job, odd}
 use Rattle.flows.specs.Branch.{Context, inSet, inOdd, entryAt, systemAt, sideAt, withNode, tryBranch}
 
@@ -193,7 +193,3 @@ module _ (j : Job) where
 
             own : (v : ℕ) → T (c .lower v) → x v ≡ x v || inSet b && eqb v u
             own v t = rw (not-u v t, and-none (inSet b), or-none (x v))
-
-        -- the set without u is the answer itself
-        pub whole-without : (λ k. whole k && not (eqb k u)) ≡ x
-        whole-without = fun-ext (λ k. put-out (x k) (inSet b) (eqb k u) (λ t. rw (eqb→eq k u t) x-u))

@@ -1,7 +1,7 @@
 -- The conditions on one node's set, from which nodes are later. They stay right where more nodes are later.
 use Prim.Native.Nat.{ℕ, _<_}
 use mathlib.Core.Path.{_≡_}
-use mathlib.Core.Bool.{Bool, true, false, _&&_}
+use mathlib.Core.Bool.{Bool, _&&_}
 use mathlib.Core.Logic.{_⊎_, inl, inr}
 use lib.Dec.{T, eqb}
 use Rattle.nodes.proofs.Count.{Within}

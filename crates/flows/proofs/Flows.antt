@@ -1,16 +1,16 @@
 -- Both searches, as one: what they find is right, each set by the first solvable branch of its round, and no right layering
 -- has a node earlier.
-use Prim.Native.Nat.{ℕ, zero, suc, _+_, _-_, _≤_, _<_, zero-le}
+use Prim.Native.Nat.{ℕ, _+_, _-_, _≤_, _<_, zero-le}
 use mathlib.Core.Path.{_≡_, refl, sym, ap, _∙_, subst}
-use mathlib.Core.Bool.{Bool, true, false, cond, not, _&&_, _||_, false≢true}
+use mathlib.Core.Bool.{Bool, true, false, cond, not, false≢true}
 use mathlib.Core.Logic.{_⊎_, inl, inr, _≢_}
 use mathlib.Core.Option.{Option, none, some, Option·some-injective, Option·none-ne-some}
-use mathlib.Core.List.{List, [], _∷_}
+use mathlib.Core.List.{[]}
 use native.Mathlib.Omega.{arith}
-use native.Mathlib.Nat.{not-suc-le-zero, lt-suc-self, le-refl, le-of-suc-le-suc}
-use lib.Dec.{T, eqb, ltb, ltb→lt, lt→ltb, nltb→le}
-use Rattle.nodes.specs.Row.{anyBelow, allBelow, count}
-use Rattle.nodes.proofs.Logic.{is-true, is-false, from-true, from-false, dec, and-l, and-r, and-in, or-l, or-r, or-out, not-in, not-out, and-none}
+use native.Mathlib.Nat.{not-suc-le-zero, le-refl}
+use lib.Dec.{T, ltb}
+use Rattle.nodes.specs.Row.{anyBelow, allBelow}
+use Rattle.nodes.proofs.Logic.{is-true, is-false, dec, and-l, and-r, or-r, or-out, not-out, and-none}
 use Rattle.nodes.proofs.Row.{any-none, any-ext, all-in, all-out, ltb-no}
 use Rattle.nodes.proofs.Count.{count-le}
 use Rattle.solver.specs.System.{isSome}
@@ -21,7 +21,7 @@ use Rattle.flows.specs.Planes as Planes
 use Rattle.flows.specs.Paulis as Paulis
 use Rattle.flows.proofs.Conditions.{Ok, more-later}
 use Rattle.flows.proofs.Tries.{contextAt, noColumnAt, tryAt, planes-context, SameContext, node-ext, FirstOf, try-first, try-sound, try-complete}
-use Rattle.flows.proofs.Search.{never, Ended, rounds-end, rounds-pass, fresh-open, Tried, Searched, step, searched-start, searched, Early, Earliest, step-early, earliest}
+use Rattle.flows.proofs.Search.{never, Ended, rounds-end, rounds-pass, fresh-open, Searched, step, searched-start, searched, Early, step-early, earliest}
 use Rattle.flows.proofs.Premise.{premiseAt, Gone, all-gone, column-left}
 
 abbrev pub findAt : Job → Bool → Option Progress

@@ -1,12 +1,12 @@
 -- What joins the premises to 'no column': a node with a right set has a column, so it is never passed over or given up.
-use Prim.Native.Nat.{ℕ, zero, suc, _+_, _≤_, _<_}
+use Prim.Native.Nat.{ℕ, _≤_, _<_}
 use mathlib.Core.Path.{_≡_, refl, sym, ap, _∙_}
-use mathlib.Core.Bool.{Bool, true, false, cond, not, _&&_, _||_}
-use mathlib.Core.Logic.{_⊎_, inl, inr, _≢_}
+use mathlib.Core.Bool.{Bool, true, false, not, _&&_, _||_}
+use mathlib.Core.Logic.{_⊎_, inl, inr}
 use native.Mathlib.Omega.{arith}
-use lib.Dec.{T, eqb, leb, eqb→eq, eqb-refl, leb→le}
+use lib.Dec.{T, eqb, leb, eqb→eq, leb→le}
 use Rattle.nodes.specs.Row.{anyBelow, allBelow, count}
-use Rattle.nodes.proofs.Logic.{is-true, is-false, dec, and-l, and-r, and-in, or-l, or-r, or-out, not-in, not-out}
+use Rattle.nodes.proofs.Logic.{dec, and-l, and-r, and-in, or-l, or-r, or-out, not-in, not-out}
 use Rattle.nodes.proofs.Row.{any-in, any-out, all-out}
 use Rattle.nodes.proofs.Count.{rank-sur}
 use Rattle.flows.specs.Job.{Job, odd, isXorY, isYorZ, planeYZ}

@@ -1,17 +1,16 @@
 -- A search depends on the nodes below n only: progress that agrees there goes on to agree.
 use Prim.Native.Nat.{ℕ, zero, suc, _+_, _<_}
 use mathlib.Core.Path.{_≡_, refl, sym, ap, ap₂, _∙_}
-use mathlib.Core.Bool.{Bool, true, false, cond, not, _&&_, _||_}
+use mathlib.Core.Bool.{Bool, true, false, cond, not, _||_}
 use mathlib.Core.Option.{Option}
 use lib.Dec.{T}
-use Rattle.nodes.specs.Row.{anyBelow, allBelow}
+use Rattle.nodes.specs.Row.{anyBelow}
 use Rattle.nodes.proofs.Row.{any-ext, all-ext}
-use Rattle.solver.specs.System.{isSome}
 use Rattle.flows.specs.Job.{Job}
-use Rattle.flows.specs.Search.{Progress, orNone, solvedNow, round, rounds}
+use Rattle.flows.specs.Search.{Progress, solvedNow, round, rounds}
 use Rattle.flows.specs.Planes as Planes
 use Rattle.flows.specs.Paulis as Paulis
-use Rattle.flows.proofs.Tries.{SameContext, node-ext}
+use Rattle.flows.proofs.Tries.{node-ext}
 use Rattle.flows.proofs.Flows.{try-ext}
 
 pub record SameProgress (n : ℕ) (s t : Progress) : Type 0 where
@@ -65,11 +64,3 @@ planes-stops-ext j s t h =
 
 pub paulis-try-ext : (j : Job) (gone gone′ : ℕ → Bool) → ((v : ℕ) → v < j .nodes → gone v ≡ gone′ v) → (u : ℕ) → u < j .nodes → Paulis.try j gone u ≡ Paulis.try j gone′ u
 paulis-try-ext j gone gone′ e u l = try-ext j true gone gone′ e u
-
-pub planes-agree : (j : Job) (k r : ℕ) (s t : Progress) → SameProgress (j .nodes) s t
-    → SameProgress (j .nodes) (rounds (Planes.stops j) (Planes.try j) (j .nodes) k r s) (rounds (Planes.stops j) (Planes.try j) (j .nodes) k r t)
-planes-agree j = rounds-agree (Planes.stops j) (Planes.try j) (j .nodes) (planes-stops-ext j) (planes-try-ext j)
-
-pub paulis-agree : (j : Job) (k r : ℕ) (s t : Progress) → SameProgress (j .nodes) s t
-    → SameProgress (j .nodes) (rounds (λ s. false) (Paulis.try j) (j .nodes) k r s) (rounds (λ s. false) (Paulis.try j) (j .nodes) k r t)
-paulis-agree j = rounds-agree (λ s. false) (Paulis.try j) (j .nodes) (λ s t h. refl) (paulis-try-ext j)

@@ -1,17 +1,16 @@
 -- The search by rounds: it ends by its own rule, what it solves was solved by a try at its layer, and no layering is earlier.
-use Prim.Native.Nat.{ℕ, zero, suc, _+_, _≤_, _<_, zero-le}
+use Prim.Native.Nat.{ℕ, zero, suc, _+_, _≤_, _<_}
 use mathlib.Core.Path.{_≡_, refl, sym, ap, ap₂, _∙_, fun-ext}
-use mathlib.Core.Bool.{Bool, true, false, cond, not, _&&_, _||_}
-use mathlib.Core.Logic.{_⊎_, inl, inr, _≢_}
-use mathlib.Core.Option.{Option, none, some, Option·some-injective, Option·none-ne-some}
+use mathlib.Core.Bool.{Bool, false, cond, not, _&&_, _||_}
+use mathlib.Core.Logic.{_⊎_, inl, inr}
+use mathlib.Core.Option.{Option, none, some}
 use native.Mathlib.Omega.{arith}
 use native.Mathlib.Nat.{not-suc-le-zero, le-step, lt-suc-self, le-of-suc-le-suc}
-use native.Mathlib.Numerals.{add-one}
 use lib.Dec.{T, ltb, ltb→lt, lt→ltb}
-use Rattle.nodes.specs.Row.{anyBelow, allBelow, count}
-use Rattle.nodes.proofs.Logic.{is-true, is-false, from-true, from-false, dec, and-l, and-r, and-in, or-l, or-r, or-out, or-none, not-in, not-out, cond-t, cond-f, beq-eq, le-or-lt, and-none}
-use Rattle.nodes.proofs.Row.{any-in, any-out, any-none, ltb-yes, ltb-no}
-use Rattle.nodes.proofs.Count.{Within, count-le, count-pos, grows}
+use Rattle.nodes.specs.Row.{anyBelow, count}
+use Rattle.nodes.proofs.Logic.{is-true, is-false, from-false, dec, and-l, and-r, and-in, or-l, or-r, or-out, not-in, not-out, cond-t, cond-f, beq-eq, le-or-lt, and-none}
+use Rattle.nodes.proofs.Row.{any-in, any-out, any-none, ltb-no}
+use Rattle.nodes.proofs.Count.{Within, count-pos, grows}
 use Rattle.solver.specs.System.{isSome}
 use Rattle.flows.specs.Search.{Progress, noNode, orNone, start, solvedNow, round, rounds}
 

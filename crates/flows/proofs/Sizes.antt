@@ -1,20 +1,20 @@
 -- Rows and columns fit the work matrix: a job of n nodes never makes more than n rows, nor more than n columns and right
 -- sides together. So a solver for n rows and n columns never refuses a finder.
 use Prim.Native.Nat.{ℕ, zero, suc, _+_, _-_, _≤_, _<_, zero-le}
-use mathlib.Core.Path.{_≡_, refl, sym, ap, ap₂, _∙_, subst}
+use mathlib.Core.Path.{_≡_, sym, ap₂, _∙_, subst}
 use mathlib.Core.Bool.{Bool, true, false, cond, not, _&&_, _||_}
 use mathlib.Core.Logic.{_⊎_, inl, inr}
 use native.Mathlib.Omega.{arith}
 use native.Mathlib.Nat.{le-step, lt-suc-self, add-sub-cancel-left}
-use lib.Dec.{T, eqb, ltb, eqb-refl}
+use lib.Dec.{T, eqb, eqb-refl}
 use Rattle.nodes.specs.Row.{count}
-use Rattle.nodes.proofs.Logic.{is-true, is-false, dec, and-l, and-r, or-l, or-r, or-out, not-out}
+use Rattle.nodes.proofs.Logic.{and-l, and-r, or-l, or-r, or-out, not-out}
 use Rattle.nodes.proofs.Row.{ltb-yes, ltb-no}
-use Rattle.nodes.proofs.Count.{count-ext, count-at, count-not, count-split, count-pos}
+use Rattle.nodes.proofs.Count.{count-ext, count-split, count-pos}
 use Rattle.flows.specs.Job.{Job, isXorY, isYorZ, pauliY}
 use Rattle.flows.specs.Branch.{Context, systemAt}
 use Rattle.flows.specs.Planes as Planes
-use Rattle.flows.proofs.Tries.{contextAt, no-column-u}
+use Rattle.flows.proofs.Tries.{contextAt}
 
 -- two sets without a common member
 pub count-disjoint : (n : ℕ) (a b : ℕ → Bool) → ((k : ℕ) → k < n → T (a k) → T (b k) → ⊥) → count n a + count n b ≤ n

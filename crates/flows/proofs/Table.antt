@@ -1,18 +1,17 @@
 -- The rule of the table of branches: row m lists, in the order XY, YZ, XZ, exactly the branches whose pair 'in its set,
 -- in Odd' passes m's own measurement. It is tested over the whole table at once.
-use Prim.Native.Nat.{ℕ, zero, suc, _≤_, _<_}
-use mathlib.Core.Path.{_≡_, refl, sym, ap, _∙_}
+use Prim.Native.Nat.{ℕ, _<_}
+use mathlib.Core.Path.{_≡_, refl}
 use mathlib.Core.Bool.{Bool, true, false, cond, not, _&&_, _||_}
 use mathlib.Core.Logic.{_⊎_, inl, inr}
 use mathlib.Core.List.{List, [], _∷_}
-use native.Mathlib.Omega.{arith}
-use lib.Dec.{T, eqb, eqb→eq, eqb-refl}
+use lib.Dec.{T, eqb, eqb→eq}
 use Rattle.nodes.specs.Bit.{_⊕_}
 use Rattle.nodes.specs.Row.{allBelow}
-use Rattle.nodes.proofs.Logic.{and-l, and-r, or-l, or-r, or-out, not-out, dec, is-true, is-false}
+use Rattle.nodes.proofs.Logic.{and-l, and-r, or-out, not-out}
 use Rattle.nodes.proofs.Row.{all-out}
 use Rattle.flows.specs.Job.{own, isYorZ, planeXY, planeYZ, planeXZ}
-use Rattle.flows.specs.Branch.{branchTable, branches, inSet, inOdd}
+use Rattle.flows.specs.Branch.{branches, inSet, inOdd}
 
 -- the elements that pass
 unfoldable pub keep : (ℕ → Bool) → List ℕ → List ℕ

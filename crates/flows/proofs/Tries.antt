@@ -1,20 +1,19 @@
 -- The tries of both searches: one context for planes and Paulis. What a try gives is right, and what is right is found.
-use Prim.Native.Nat.{ℕ, zero, suc, _+_, _-_, _≤_, _<_}
+use Prim.Native.Nat.{ℕ, _+_, _-_, _≤_, _<_}
 use mathlib.Core.Path.{_≡_, refl, sym, ap, _∙_, subst, fun-ext}
 use mathlib.Core.Bool.{Bool, true, false, cond, not, _&&_, _||_}
-use mathlib.Core.Logic.{_⊎_, inl, inr, _≢_}
+use mathlib.Core.Logic.{_⊎_, inl, inr}
 use mathlib.Core.Option.{Option, none, some, Option·some-injective, Option·none-ne-some}
 use mathlib.Core.List.{List, [], _∷_, _++_}
 use native.Mathlib.Omega.{arith}
 use lib.Dec.{T, eqb, ltb, eqb→eq, eqb-refl, ltb→lt, nltb→le}
-use Rattle.nodes.specs.Row.{parity, anyBelow}
-use Rattle.nodes.proofs.Logic.{is-true, is-false, from-true, dec, and-l, and-r, and-in, or-l, or-r, or-out, not-in, not-out, eqb-no, eqb-yes, and-none, and-all, or-none, cond-t, cond-f, beq-eq}
-use Rattle.nodes.proofs.Row.{parity-none, any-in, any-out, any-ext}
+use Rattle.nodes.specs.Row.{anyBelow}
+use Rattle.nodes.proofs.Logic.{is-true, is-false, dec, and-l, and-r, and-in, or-l, or-r, or-out, not-in, not-out, eqb-yes, and-all, or-none}
+use Rattle.nodes.proofs.Row.{parity-none, any-in, any-out}
 use Rattle.solver.specs.System.{Answer, solve, isSome, firstOf}
 use Rattle.solver.proofs.System.{solve-answer, Agree, solve-ext}
-use Rattle.flows.specs.Job.{Job, odd, own, isXorY, isYorZ, planeXY, planeYZ, planeXZ, pauliX, pauliY, pauliZ}
+use Rattle.flows.specs.Job.{Job, odd, own, isXorY, isYorZ, pauliY}
 use Rattle.flows.specs.Branch.{Context, inSet, inOdd, branches, systemAt, sideAt, withNode, tryBranch, firstSolvable, tryNode}
-use Rattle.flows.specs.Search.{noNode}
 use Rattle.flows.specs.Planes as Planes
 use Rattle.flows.specs.Paulis as Paulis
 use Rattle.flows.proofs.Branch.{Fits, fits-some, some-fits}
@@ -34,9 +33,6 @@ noColumnAt j pauli gone u = not (anyBelow (j .nodes) (contextAt j pauli gone u .
 
 abbrev pub tryAt : Job → Bool → (ℕ → Bool) → ℕ → Option (ℕ → Bool)
 tryAt j pauli gone u = let tried = tryNode j (contextAt j pauli gone u) u in cond (noColumnAt j pauli gone u) none tried
-
-pub paulis-try : (j : Job) → Paulis.try j ≡ tryAt j true
-paulis-try j = refl
 
 -- for a node that is not gone, the planes' context is this one
 pub planes-context : (j : Job) (gone : ℕ → Bool) (u : ℕ) → (T (gone u) → ⊥) → contextAt j false gone u ≡ Planes.context j gone

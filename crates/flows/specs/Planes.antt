@@ -1,6 +1,6 @@
 -- The search for planes (`find` of gflow.rs).
 use Prim.Native.Nat.{ℕ}
-use mathlib.Core.Bool.{Bool, true, false, not, _&&_, _||_}
+use mathlib.Core.Bool.{Bool, not, _&&_, _||_}
 use mathlib.Core.Option.{Option}
 use Rattle.nodes.specs.Row.{anyBelow, allBelow}
 use Rattle.flows.specs.Job.{Job}

@@ -1,5 +1,4 @@
 -- The premises of demand 3: under them a node that could be solved without a column is never passed over or given up.
-use Prim.Native.Nat.{ℕ}
 use mathlib.Core.Bool.{Bool, not, _&&_, _||_}
 use lib.Dec.{eqb, leb}
 use Rattle.nodes.specs.Row.{anyBelow, allBelow, count}

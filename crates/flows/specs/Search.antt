@@ -1,6 +1,6 @@
 -- The search by rounds, over any way to try a node. All nodes of a round meet the sets as they stood when it began.
 use Prim.Native.Nat.{ℕ, zero, suc, _+_}
-use mathlib.Core.Bool.{Bool, true, false, cond, not, _&&_, _||_}
+use mathlib.Core.Bool.{Bool, false, cond, not, _&&_, _||_}
 use mathlib.Core.Option.{Option, none, some}
 use Rattle.nodes.specs.Row.{anyBelow, allBelow}
 use Rattle.solver.specs.System.{isSome}

@@ -51,8 +51,6 @@ pub bit-xor : (a b k : ℕ) → bit (bitXor a b) k ≡ bit a k ⊕ bit b k
 bit-xor = bit-op bitXor _⊕_ xor-shr xor-mod (two-digits (λ (x y : ℕ). isOne (bitXor x y) ≡ isOne x ⊕ isOne y) refl refl refl refl)
 
 -- ---- the place k, shifted down and masked
-pub bit-shr-and : (n k : ℕ) → bitAnd (n / 2 ^ k) 1 ≡ n / 2 ^ k % 2
-bit-shr-and n k = and-mask (n / 2 ^ k) 1
 
 pub bit-zero : (k : ℕ) → bit 0 k ≡ false
 unfolding bit

@@ -123,13 +123,6 @@ grows (suc n) s t w = go (s n) (t n) refl refl (w n (lt-suc-self n)) (grows n s 
     go false false p q h (inl l) = inl l
     go false false p q h (inr (e, k)) = inr (e, within-suc n t s k (λ z. absurd (rw q at z)))
 
-pub count-within : (n : ℕ) (s t : ℕ → Bool) → Within n s t → count n s ≤ count n t
-count-within n s t w = go (grows n s t w)
-  where
-    go : (count n s < count n t) ⊎ ((count n s ≡ count n t) × Within n t s) → count n s ≤ count n t
-    go (inl h) = omega arith
-    go (inr (e, k)) = omega arith
-
 -- ---- ranks
 -- a member's rank is below the ranks of larger ones
 pub rank-lt : (k n : ℕ) (c : ℕ → Bool) → k < n → T (c k) → count k c < count n c
@@ -158,17 +151,6 @@ rank-sur (suc n) c i h = go (dec (c n)) (rank-sur n c i)
         by : (i ≡ count n c) ⊎ (i < count n c) → (v : ℕ) × (v < suc n) × T (c v) × (count v c ≡ i)
         by (inl e) = (n, lt-suc-self n, t, sym e)
         by (inr l) = let (v, m, t, e) = ih l in (v, le-step m, t, e)
-
--- a smaller rank is a smaller number
-pub rank-lt-out : (v w : ℕ) (c : ℕ → Bool) → count v c < count w c → v < w
-rank-lt-out v w c h = go (le-or-lt w v)
-  where
-    apart : (x y : ℕ) → x < y → y ≤ x → ⊥
-    apart x y p q = omega arith
-
-    go : (w ≤ v) ⊎ (v < w) → v < w
-    go (inl l) = absurd (apart (count v c) (count w c) h (count-mono w v c l))
-    go (inr l) = l
 
 -- a sum over the members is a sum over their ranks
 pub rank-sum : (n : ℕ) (c g : ℕ → Bool) → parity n (λ k. c k && g (count k c)) ≡ parity (count n c) g

@@ -1,24 +1,20 @@
 -- The machine's counts of a word's digits, and one digit of one word of a list.
 use mathlib.Core.Path.{_≡_, refl, sym, ap, ap₂, _∙_, subst}
 use mathlib.Core.Bool.{Bool, false, cond, not, _&&_}
-use mathlib.Core.List.{List}
 use Prim.Native.Nat.{ℕ, zero, suc, _+_, _-_, _/_, _%_, _^_, _<_}
 use native.Mathlib.Nat.{mod-lt, le-dest, zero-lt-suc}
 use native.Mathlib.Omega.{arith}
-use native.Mathlib.Decide.{ℕ-discrete}
 use lib.Arith.{lt-one}
-use lib.Bits.{bitAnd, bitXor, and-shr, and-self}
-use lib.Dec.{T, eqb, eqb→eq, eqb·suc-suc, eqb·suc-zero}
-use lib.ListN.{getD, set, length}
+use lib.Bits.{bitAnd, and-shr, and-self}
+use lib.Dec.{T, eqb, eqb·suc-suc, eqb·suc-zero}
 use lib.Pow.{split, shr-lt, pow-pos, field, mod-mod-pow}
-use lib.Seq.{getD-set-same, getD-set-other}
 use lib.Count.{ones, ones-cat, trailingZeros, under}
-use Rattle.nodes.specs.Bit.{_⊕_, bit, isOne}
+use Rattle.nodes.specs.Bit.{bit, isOne}
 use Rattle.nodes.specs.Row.{count, lowestFrom, lowest}
-use Rattle.nodes.proofs.Logic.{eqb-no, eqb-yes, beq-eq, and-l, and-r, and-all, ⊕-none}
+use Rattle.nodes.proofs.Logic.{and-all}
 use Rattle.nodes.proofs.Count.{count-ext}
 use Rattle.nodes.proofs.Members.{lowest-ext, lowest-suc}
-use Rattle.nodes.proofs.Bit.{bit-half, bit-low, bit-zero, bit-and, bit-xor, bit-pow, one-digit}
+use Rattle.nodes.proofs.Bit.{bit-half, bit-low, bit-zero, bit-and, one-digit}
 
 -- the digits below w are not changed by a mask of w digits
 pub bit-mod : (n w k : ℕ) → k < w → bit (n % 2 ^ w) k ≡ bit n k
@@ -86,31 +82,5 @@ bit-drop (suc w) n (suc k) h =
     high (suc d) e l ih = let z : (n - 1) / 2 ≡ n / 2 = omega arith in rw (e, z, and-self (n / 2), eqb·suc-zero k) (sym (and-all (bit (n / 2) k)))
 
 -- ---- one digit of one word of a list is changed: what each digit of each word is then
-pub flip-digit : (l : List ℕ) (q r : ℕ) → q < length l → (q' r' : ℕ)
-    → bit (getD (set l q (bitXor (getD l q 0) (2 ^ r))) q' 0) r' ≡ bit (getD l q' 0) r' ⊕ (eqb q' q && eqb r' r)
-flip-digit l q r h q' r' = by (ℕ-discrete q' q)
-  where
-    by : Dec (q' ≡ q) → bit (getD (set l q (bitXor (getD l q 0) (2 ^ r))) q' 0) r' ≡ bit (getD l q' 0) r' ⊕ (eqb q' q && eqb r' r)
-    by (yes e) =
-        ap (λ (k : ℕ). bit (getD (set l q (bitXor (getD l q 0) (2 ^ r))) k 0) r') e
-        ∙ ap (λ (x : ℕ). bit x r') (getD-set-same l q (bitXor (getD l q 0) (2 ^ r)) 0 h)
-        ∙ bit-xor (getD l q 0) (2 ^ r) r'
-        ∙ ap₂ _⊕_ (ap (λ (k : ℕ). bit (getD l k 0) r') (sym e)) (bit-pow r r' ∙ ap (λ (b : Bool). b && eqb r' r) (sym (ap (λ (x : ℕ). eqb x q) e ∙ eqb-yes q)))
-    by (no n) =
-        ap (λ (x : ℕ). bit x r') (getD-set-other l q q' (bitXor (getD l q 0) (2 ^ r)) 0 n)
-        ∙ sym (⊕-none (bit (getD l q' 0) r'))
-        ∙ ap (λ (b : Bool). bit (getD l q' 0) r' ⊕ (b && eqb r' r)) (sym (eqb-no q' q n))
 
 -- ---- two tests at once
-pub both-eq : (a b c d : ℕ) → T (eqb a b && eqb c d) → (a ≡ b) × (c ≡ d)
-both-eq a b c d t = (eqb→eq a b (and-l (eqb a b) (eqb c d) t), eqb→eq c d (and-r (eqb a b) (eqb c d) t))
-
-pub eq-both : (a b c d : ℕ) → a ≡ b → c ≡ d → T (eqb a b && eqb c d)
-eq-both a b c d p q = rw (p, q, eqb-yes b, eqb-yes d) tt
-
-pub same-tests : (a b c d a' b' c' d' : ℕ) → (a ≡ b → c ≡ d → (a' ≡ b') × (c' ≡ d')) → (a' ≡ b' → c' ≡ d' → (a ≡ b) × (c ≡ d))
-    → eqb a b && eqb c d ≡ eqb a' b' && eqb c' d'
-same-tests a b c d a' b' c' d' f g =
-    beq-eq (eqb a b && eqb c d) (eqb a' b' && eqb c' d')
-    (λ t. let p = both-eq a b c d t in let q = f (p .0) (p .1) in eq-both a' b' c' d' (q .0) (q .1))
-    (λ t. let p = both-eq a' b' c' d' t in let q = g (p .0) (p .1) in eq-both a b c d (q .0) (q .1))

@@ -60,15 +60,6 @@ pub not-out : (b : Bool) → T (not b) → T b → ⊥
 not-out true f t = f
 not-out false f t = t
 
--- `not a || b` is an implication
-pub imp-out : (a b : Bool) → T (not a || b) → T a → T b
-imp-out true b t s = t
-imp-out false b t s = absurd s
-
-pub imp-in : (a b : Bool) → (T a → T b) → T (not a || b)
-imp-in true b f = f tt
-imp-in false b f = tt
-
 -- r answers that a does not hold, and the code goes on where r is not so
 pub unless-in : (r a : Bool) → r ≡ not a → not r ≡ true → T a
 unless-in r true e f = tt
@@ -170,10 +161,6 @@ pub not-or : (a b : Bool) → not (a || b) ≡ not a && not b
 not-or true b = refl
 not-or false b = refl
 
-pub not-and : (a b : Bool) → not (a && b) ≡ not a || not b
-not-and true b = refl
-not-and false b = refl
-
 pub ⊕-none : (a : Bool) → a ⊕ false ≡ a
 ⊕-none true = refl
 ⊕-none false = refl
@@ -197,11 +184,6 @@ not-⊕ false b = refl
 pub ⊕-assoc : (a b c : Bool) → (a ⊕ b) ⊕ c ≡ a ⊕ (b ⊕ c)
 ⊕-assoc true b c = not-⊕ b c
 ⊕-assoc false b c = refl
-
--- what is added twice is as if it were not added
-pub ⊕-twice : (a b : Bool) → a ⊕ (a ⊕ b) ≡ b
-⊕-twice true b = not-not b
-⊕-twice false b = refl
 
 pub ⊕-swap : (a b c d : Bool) → a ⊕ b ⊕ (c ⊕ d) ≡ a ⊕ c ⊕ (b ⊕ d)
 ⊕-swap a b c d = ⊕-assoc a b (c ⊕ d) ∙ ap (λ (x : Bool). a ⊕ x) (sym (⊕-assoc b c d) ∙ ap (λ (x : Bool). x ⊕ d) (⊕-comm b c) ∙ ⊕-assoc c b d) ∙ sym (⊕-assoc a c (b ⊕ d))

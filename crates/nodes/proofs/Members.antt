@@ -1,17 +1,17 @@
 -- The least member of a set, and its members as a list.
 use Prim.Native.Nat.{ℕ, zero, suc, _+_, _-_, _≤_, _<_}
-use mathlib.Core.Path.{_≡_, refl, sym, ap, ap₂, _∙_, subst}
-use mathlib.Core.Bool.{Bool, true, false, cond, _&&_}
+use mathlib.Core.Path.{_≡_, refl, sym, ap, ap₂, _∙_}
+use mathlib.Core.Bool.{Bool, true, false, cond}
 use mathlib.Core.List.{List, [], _∷_, _++_, append-nil}
 use mathlib.Core.Logic.{_⊎_, inl, inr}
 use native.Mathlib.Omega.{arith}
 use native.Mathlib.Nat.{not-suc-le-zero, le-step, lt-suc-self, eq-or-lt-of-le, le-of-suc-le-suc, le-refl, add-zero, zero-add}
 use lib.Dec.{T, ltb, ltb→lt}
 use lib.ListN.{length, getD, length-append, List·getD-append}
-use Rattle.nodes.specs.Row.{parity, count, anyBelow, lowestFrom, lowest, membersFrom, members}
+use Rattle.nodes.specs.Row.{count, anyBelow, lowestFrom, lowest, membersFrom, members}
 use Rattle.nodes.proofs.Logic.{is-true, is-false, from-true, from-false, both-ways, dec, le-or-lt, lt-or-ge}
-use Rattle.nodes.proofs.Row.{parity-ext, any-in, any-none, ltb-yes, ltb-no}
-use Rattle.nodes.proofs.Count.{count-at, count-not, rank-lt, rank-sur, rank-lt-out, rank-sum}
+use Rattle.nodes.proofs.Row.{any-in, any-none, ltb-yes, ltb-no}
+use Rattle.nodes.proofs.Count.{count-at, count-not, rank-lt}
 
 -- ---- the least member
 pub from-ge : (k n : ℕ) (s : ℕ → Bool) → k ≤ lowestFrom k n s
@@ -87,14 +87,6 @@ lowest-here n s h = from-here 0 n s (omega arith)
 pub lowest-unique : (n : ℕ) (s : ℕ → Bool) (r : ℕ) → r ≤ n → ((k : ℕ) → k < r → s k ≡ false) → (r < n → s r ≡ true) → lowest n s ≡ r
 lowest-unique n s r b f g = from-unique 0 n s r (omega arith) (omega arith) (λ j u v. f j v) (λ l. g (omega arith))
 
--- no member is before it
-pub lowest-min : (n : ℕ) (s : ℕ → Bool) (k : ℕ) → T (s k) → lowest n s ≤ k
-lowest-min n s k t = go (le-or-lt (lowest n s) k)
-  where
-    go : (lowest n s ≤ k) ⊎ (k < lowest n s) → lowest n s ≤ k
-    go (inl h) = h
-    go (inr h) = absurd (from-false (s k) (lowest-none n s k h) t)
-
 pub lowest-ext : (n : ℕ) (s t : ℕ → Bool) → ((k : ℕ) → k < n → s k ≡ t k) → lowest n s ≡ lowest n t
 lowest-ext n s t h =
     let b = lowest-le n t in
@@ -135,9 +127,6 @@ lowest-suc n s = ap (λ (x : ℕ). cond (s 0) 0 x) (from-suc 0 n s)
 -- the first m have the least, or none of them is in s
 pub lowest-front : (m n : ℕ) (s : ℕ → Bool) → lowest m s < m → lowest (m + n) s ≡ lowest m s
 lowest-front m n s h = lowest-unique (m + n) s (lowest m s) (omega arith) (lowest-none m s) (λ l. lowest-here m s h)
-
-pub lowest-past : (n w : ℕ) (s : ℕ → Bool) → n ≤ w → lowest n s < n → lowest w s ≡ lowest n s
-lowest-past n w s h l = let e : w ≡ n + (w - n) = omega arith in ap (λ (x : ℕ). lowest x s) e ∙ lowest-front n (w - n) s l
 
 pub lowest-back : (m n : ℕ) (s : ℕ → Bool) → ((k : ℕ) → k < m → s k ≡ false) → lowest (m + n) s ≡ m + lowest n (λ k. s (m + k))
 lowest-back m n s f =
@@ -207,36 +196,12 @@ members-at (suc n) s d v h t = go (eq-or-lt-of-le (le-of-suc-le-suc h)) (dec (s 
         ∙ List·getD-append (members n s) (n ∷ []) d (count v s) (omega (arith, members-length n s, rank-lt v n s l t)) ∙ ih l t
     go (inr l) (inr f) ih = ap (λ (l : List ℕ). getD l (count v s) d) (members-out n s f) ∙ ih l t
 
--- each element is a member, below n, and stands at its rank
-pub members-each : (n : ℕ) (s : ℕ → Bool) (d i : ℕ) → i < count n s → (getD (members n s) i d < n) × T (s (getD (members n s) i d)) × (count (getD (members n s) i d) s ≡ i)
-members-each n s d i h = go (rank-sur n s i h)
-  where
-    go : (v : ℕ) × (v < n) × T (s v) × (count v s ≡ i) → (getD (members n s) i d < n) × T (s (getD (members n s) i d)) × (count (getD (members n s) i d) s ≡ i)
-    go (v, l, t, e) = subst (λ (x : ℕ). (x < n) × T (s x) × (count x s ≡ i)) (sym (members-at n s d v l t) ∙ ap (λ (k : ℕ). getD (members n s) k d) e) (l, t, e)
-
-pub members-ascend : (n : ℕ) (s : ℕ → Bool) (d i j : ℕ) → i < j → j < count n s → getD (members n s) i d < getD (members n s) j d
-members-ascend n s d i j l h =
-    let a : count (getD (members n s) i d) s ≡ i = members-each n s d i (omega arith) .2 in
-    let b : count (getD (members n s) j d) s ≡ j = members-each n s d j h .2 in
-    rank-lt-out (getD (members n s) i d) (getD (members n s) j d) s (omega arith)
-
 pub members-ext : (n : ℕ) (s t : ℕ → Bool) → ((k : ℕ) → k < n → s k ≡ t k) → members n s ≡ members n t
 unfolding membersFrom
 members-ext zero s t h = refl
 members-ext (suc n) s t h =
     members-snoc n s ∙ ap₂ (λ (l : List ℕ) (b : Bool). l ++ cond b (n ∷ []) []) (members-ext n s t (λ k l. h k (le-step l))) (h n (lt-suc-self n))
     ∙ sym (members-snoc n t)
-
--- a sum over a set is a sum over the list of its members
-pub members-parity : (n : ℕ) (s f : ℕ → Bool) (d : ℕ) → parity n (λ k. s k && f k) ≡ parity (length (members n s)) (λ i. f (getD (members n s) i d))
-members-parity n s f d =
-    parity-ext n (λ k. s k && f k) (λ k. s k && f (getD (members n s) (count k s) d)) (λ k l. go k l (dec (s k)))
-    ∙ rank-sum n s (λ i. f (getD (members n s) i d))
-    ∙ ap (λ (m : ℕ). parity m (λ i. f (getD (members n s) i d))) (sym (members-length n s))
-  where
-    go : (k : ℕ) → k < n → T (s k) ⊎ (T (s k) → ⊥) → s k && f k ≡ s k && f (getD (members n s) (count k s) d)
-    go k l (inl t) = ap (λ (x : ℕ). s k && f x) (sym (members-at n s d k l t))
-    go k l (inr q) = ap (λ (b : Bool). b && f k) (is-false (s k) q) ∙ sym (ap (λ (b : Bool). b && f (getD (members n s) (count k s) d)) (is-false (s k) q))
 
 -- a set with nothing from n on has its list within n
 pub members-past : (n w : ℕ) (s : ℕ → Bool) → n ≤ w → ((k : ℕ) → n ≤ k → s k ≡ false) → members w s ≡ members n s

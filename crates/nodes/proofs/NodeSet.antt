@@ -13,7 +13,7 @@ use lib.ListN.{getD, set, length, replicate, List·getD-eq-default}
 use lib.Pow.{pow-pos, pow-lt}
 use lib.Seq.{getD-set-same, getD-set-other}
 use Rattle.nodes.specs.Bit.{_⊕_, bit}
-use Rattle.nodes.specs.NodeSet.{wordBits, memberOf, wordsOf, member}
+use Rattle.nodes.specs.NodeSet.{wordBits, memberOf, wordsOf}
 use Rattle.nodes.specs.declared.utils.NodeSet.{NodeSet}
 use Rattle.nodes.proofs.Logic.{is-true, is-false, beq-eq, lt-or-ge, and-l, and-r, and-in, eqb-no, eqb-yes, and-none, and-all, or-none}
 use Rattle.nodes.proofs.Row.{ltb-yes, ltb-no}
@@ -211,9 +211,3 @@ words-ext (u ∷ us) (v ∷ vs) e hu hv f =
     ap₂ (λ (x : ℕ) (xs : List ℕ). x ∷ xs)
     (bit-ext wordBits u v (hu 0) (hv 0) (λ k l. sym (member-head u us k l) ∙ f k (omega arith) ∙ member-head v vs k l))
     (words-ext us vs (omega arith) (words-tail u us hu) (words-tail v vs hv) (λ k l. sym (member-tail u us k) ∙ f (wordBits + k) (omega arith) ∙ member-tail v vs k))
-
--- so two sets with the same members are one
-pub set-ext : (s t : NodeSet) → Words (wordsOf s) → Words (wordsOf t) → member s ≡ member t → s ≡ t
-set-ext s t hs ht e =
-    let w = words-ext (wordsOf s) (wordsOf t) refl hs ht (λ u l. ap (λ (f : ℕ → Bool). f u) e) in
-    ap₂ (λ (l h : ℕ). record { low = l; high = h }) (ap (λ (ws : List ℕ). getD ws 0 0) w) (ap (λ (ws : List ℕ). getD ws 1 0) w)

@@ -9,9 +9,9 @@ use native.Mathlib.Nat.{not-suc-le-zero, eq-or-lt-of-le, le-of-suc-le-suc, le-re
 use native.Mathlib.Omega.{arith}
 use lib.Dec.{T, eqb}
 use Rattle.nodes.specs.Bit.{_⊕_}
-use Rattle.nodes.specs.Row.{parity, anyBelow, allBelow, count, lowestFrom, lowest, membersFrom, members}
+use Rattle.nodes.specs.Row.{parity, anyBelow, count, lowestFrom, lowest, membersFrom, members}
 use Rattle.nodes.proofs.Logic.{is-true, beq-eq, and-l, and-r, and-in, or-l, or-r, or-out, eqb-no, eqb-yes, and-none, and-all, ⊕-none}
-use Rattle.nodes.proofs.Row.{parity-ext, parity-⊕, parity-one, any-in, any-out, all-in, all-out}
+use Rattle.nodes.proofs.Row.{parity-ext, parity-⊕, parity-one, any-in, any-out}
 use Rattle.nodes.proofs.Count.{count-ext}
 use Rattle.nodes.proofs.Members.{lowest-some, lowest-member}
 
@@ -80,25 +80,6 @@ any-remove n s f v h t =
     out (inr a) =
         let (k, l, b) = any-out n (λ k. removed s v k && f k) a in
         any-in n (λ k. s k && f k) k l (and-in (s k) (f k) (and-l (s k) (not (eqb k v)) (and-l (removed s v k) (f k) b)) (and-r (removed s v k) (f k) b))
-
-pub all-remove : (n : ℕ) (s f : ℕ → Bool) (v : ℕ) → v < n → T (s v) → allBelow n (λ k. not (s k) || f k) ≡ f v && allBelow n (λ k. not (removed s v k) || f k)
-all-remove n s f v h t =
-    beq-eq (allBelow n (λ k. not (s k) || f k)) (f v && allBelow n (λ k. not (removed s v k) || f k))
-    (λ a. and-in (f v) (allBelow n (λ k. not (removed s v k) || f k)) (here (all-out n (λ k. not (s k) || f k) a v h))
-    (all-in n (λ k. not (removed s v k) || f k) (λ k l. less (s k) (not (eqb k v)) (f k) (all-out n (λ k. not (s k) || f k) a k l))))
-    (λ a. all-in n (λ k. not (s k) || f k) (λ k l. more k (ℕ-discrete k v) (and-l (f v) (allBelow n (λ k. not (removed s v k) || f k)) a) (all-out n (λ k. not (removed s v k) || f k) (and-r (f v) (allBelow n (λ k. not (removed s v k) || f k)) a) k l)))
-  where
-    here : T (not (s v) || f v) → T (f v)
-    here a = rw (is-true (s v) t) at a
-
-    less : (a b c : Bool) → T (not a || c) → T (not (a && b) || c)
-    less true true c h = h
-    less true false c h = tt
-    less false b c h = tt
-
-    more : (k : ℕ) → Dec (k ≡ v) → T (f v) → T (not (removed s v k) || f k) → T (not (s k) || f k)
-    more k (yes e) a b = or-r (not (s k)) (f k) (rw e a)
-    more k (no d) a b = rw (eqb-no k v d, and-all (s k)) at b
 
 -- ---- the list of the members: the least, and then those of the rest
 from-ext : (k n : ℕ) (s t : ℕ → Bool) → ((j : ℕ) → k ≤ j → s j ≡ t j) → membersFrom k n s ≡ membersFrom k n t

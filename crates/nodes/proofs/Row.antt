@@ -8,7 +8,7 @@ use native.Mathlib.Nat.{le-of-suc-le-suc, not-suc-le-zero, le-step, lt-suc-self,
 use lib.Dec.{T, eqb, ltb, ltb→lt, lt→ltb}
 use Rattle.nodes.specs.Bit.{_⊕_}
 use Rattle.nodes.specs.Row.{parity, dot, anyBelow, allBelow}
-use Rattle.nodes.proofs.Logic.{is-true, is-false, from-false, lt-or-ge, and-l, and-r, and-in, or-l, or-r, or-out, eqb-no, eqb-yes, and-none, and-all, and-comm, and-assoc, and-turn, or-none, or-turn, ⊕-none, ⊕-swap, &&-⊕, ⊕-&&}
+use Rattle.nodes.proofs.Logic.{is-true, is-false, from-false, lt-or-ge, and-l, and-r, and-in, or-l, or-r, or-out, eqb-no, eqb-yes, and-none, and-all, and-comm, and-turn, or-none, or-turn, ⊕-none, ⊕-swap, &&-⊕, ⊕-&&}
 
 -- equal below n: the parity is equal
 pub parity-ext : (n : ℕ) (f g : ℕ → Bool) → ((k : ℕ) → k < n → f k ≡ g k) → parity n f ≡ parity n g
@@ -92,15 +92,6 @@ dot-comm n a x = parity-ext n (λ k. a k && x k) (λ k. x k && a k) (λ k l. and
 
 pub dot-ext : (n : ℕ) (a b x y : ℕ → Bool) → ((k : ℕ) → k < n → a k ≡ b k) → ((k : ℕ) → k < n → x k ≡ y k) → dot n a x ≡ dot n b y
 dot-ext n a b x y p q = parity-ext n (λ k. a k && x k) (λ k. b k && y k) (λ k l. ap₂ _&&_ (p k l) (q k l))
-
--- a sum of rows, chosen by c
-pub dot-sum : (m n : ℕ) (c : ℕ → Bool) (e : ℕ → ℕ → Bool) (x : ℕ → Bool) → dot n (λ k. parity m (λ i. c i && e i k)) x ≡ parity m (λ i. c i && dot n (e i) x)
-dot-sum m n c e x =
-    parity-ext n (λ k. parity m (λ i. c i && e i k) && x k) (λ k. parity m (λ i. c i && (e i k && x k)))
-    (λ k l. and-comm (parity m (λ i. c i && e i k)) (x k) ∙ sym (parity-and m (x k) (λ i. c i && e i k))
-    ∙ parity-ext m (λ i. x k && (c i && e i k)) (λ i. c i && (e i k && x k)) (λ i q. and-comm (x k) (c i && e i k) ∙ and-assoc (c i) (e i k) (x k)))
-    ∙ sym (parity-swap m n (λ i k. c i && (e i k && x k)))
-    ∙ parity-ext m (λ i. parity n (λ k. c i && (e i k && x k))) (λ i. c i && dot n (e i) x) (λ i l. parity-and n (c i) (λ k. e i k && x k))
 
 pub dot-prefix : (w j : ℕ) (a x : ℕ → Bool) → j ≤ w → dot w a (λ k. ltb k j && x k) ≡ dot j a x
 dot-prefix w j a x h =

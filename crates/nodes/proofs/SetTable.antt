@@ -1,6 +1,6 @@
 -- A table of sets: the words of one set, what a set that is put in leaves of the others, and a table of empty sets.
 use Prim.Native.Nat.{ℕ, zero, suc, _+_, _-_, _*_, _/_, _%_, _≤_, _<_}
-use mathlib.Core.Path.{_≡_, refl, sym, ap, ap₂, _∙_, fun-ext}
+use mathlib.Core.Path.{_≡_, sym, ap, ap₂, _∙_, fun-ext}
 use mathlib.Core.Bool.{Bool, false, cond, _&&_}
 use mathlib.Core.List.{List, [], _∷_, _++_, append-assoc}
 use mathlib.Core.Logic.{_≢_, _⊎_, inl, inr}
@@ -13,9 +13,8 @@ use lib.ListN.{length, getD, set, take, drop, length-append, length-take, length
 use lib.Seq.{length-take-le, take-length, take-at, drop-at, take-suc-set, getD-take, getD-drop, getD-append-add, sets-eq}
 use Rattle.nodes.specs.Bit.{_⊕_, bit}
 use Rattle.nodes.specs.Row.{parity, anyBelow, lowest}
-use Rattle.nodes.specs.NodeSet.{wordBits, capacity, memberOf, wordsOf}
+use Rattle.nodes.specs.NodeSet.{wordBits, capacity, memberOf}
 use Rattle.nodes.specs.SetTable.{setWords, setAt, putSet, zeros}
-use Rattle.nodes.specs.declared.utils.NodeSet.{NodeSet}
 use Rattle.nodes.proofs.Logic.{is-false, and-none, ⊕-assoc, lt-or-ge, le-or-lt, cond-t, cond-f, eqb-no, eqb-yes}
 use Rattle.nodes.proofs.Row.{parity-none, any-in, dot-comm}
 use Rattle.nodes.proofs.Remove.{removed, parity-lowest}
@@ -60,8 +59,6 @@ set-agree ws xs u h = fun-ext (λ v. by v (lt-or-ge v capacity))
     by v (inr l) = set-past ws u v l ∙ sym (set-past xs u v l)
 
 -- ---- a set is put in
-pub words-length : (s : NodeSet) → length (wordsOf s) ≡ setWords
-words-length s = refl
 
 module _ (ws : List ℕ) (u : ℕ) (s : List ℕ) where
   pub put-in : setWords * u + setWords ≤ length ws → putSet ws u s ≡ take (setWords * u) ws ++ (s ++ drop (setWords * u + setWords) ws)
@@ -161,10 +158,6 @@ zeros-empty n u = fun-ext (λ v. by v (lt-or-ge v capacity))
     by : (v : ℕ) → (v < capacity) ⊎ (capacity ≤ v) → setAt (zeros n) u v ≡ false
     by v (inl h) = set-in (zeros n) u v h ∙ ap (λ (x : ℕ). bit x (v % wordBits)) (zeros-at n (setWords * u + v / wordBits)) ∙ bit-zero (v % wordBits)
     by v (inr h) = set-past (zeros n) u v h
-
--- a set past the table has no member
-pub set-none : (ws : List ℕ) (u : ℕ) → length ws ≤ setWords * u → setAt ws u ≡ (λ v. false)
-set-none ws u h = set-agree ws (zeros 0) u (λ q l. List·getD-eq-default ws 0 (omega arith)) ∙ zeros-empty 0 u
 
 -- one word more is 0
 pub zeros-more : (ws : List ℕ) (i : ℕ) → i < length ws → take i ws ≡ zeros i → take (i + 1) (set ws i 0) ≡ zeros (i + 1)

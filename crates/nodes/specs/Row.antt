@@ -1,6 +1,6 @@
 -- Sets of numbers and rows of bits as functions, of any width: the width stands beside them.
 use Prim.Native.Nat.{ℕ, zero, suc, _+_}
-use mathlib.Core.Bool.{Bool, true, false, cond, not, _&&_, _||_}
+use mathlib.Core.Bool.{Bool, true, false, cond, _&&_, _||_}
 use mathlib.Core.List.{List, [], _∷_}
 use Rattle.nodes.specs.Bit.{_⊕_}
 

@@ -11,7 +11,7 @@ use borrow.Author.Tests.{leb-true, ltb-true, eqb-true, le-leb, eq-eqb, ne-eqb}
 use lib.Dec.{T, eqb, ltb, leb, eqb→eq, eqb-refl}
 use lib.ListN.{length, getD, take, drop, length-append, take-append-drop}
 use lib.Seq.{length-take-le, take-append-seam, drop-append-seam}
-use Rattle.nodes.proofs.Logic.{is-false, from-false, and-l, and-r, or-l, or-r, or-out, or-none, eqb-yes, lt-or-ge}
+use Rattle.nodes.proofs.Logic.{is-false, from-false, and-l, and-r, or-l, or-r, or-out, or-none, eqb-yes}
 use Rattle.records.specs.Answer.{Answer, gives, no}
 use Rattle.records.specs.Records.{checked, written, kindLayers, kindSets}
 use Rattle.records.specs.JobFile.{mostNodes, modeCausal, all, has, rises}
@@ -253,20 +253,6 @@ set-at low (e ∷ es) d (suc i) k a h =
     let (p, q) = and-out (leb low (e .node) && rises 0 (e .set)) (entriesRise (e .node + 1) es) a in
     let l : e .node + 1 ≤ getD es i d .node = entries-above (e .node + 1) es d i q (le-of-suc-le-suc h) in
     rw (ne-eqb (e .node) (getD es i d .node) (omega arith)) (set-at (e .node + 1) es d i k q (le-of-suc-le-suc h))
-
-pub entry-once : (low : ℕ) (es : List SetEntry) (d : SetEntry) (i j : ℕ) → entriesRise low es ≡ true → i < length es → j < length es → getD es i d .node ≡ getD es j d .node → i ≡ j
-entry-once low es d i j a h l e = by (lt-or-ge i j) (lt-or-ge j i)
-  where
-    by : (i < j) ⊎ (j ≤ i) → (j < i) ⊎ (i ≤ j) → i ≡ j
-    by (inl x) y = absurd (apart (entries-ascend low es d i j a x l))
-      where
-        apart : getD es i d .node < getD es j d .node → ⊥
-        apart z = omega arith
-    by (inr x) (inl y) = absurd (apart (entries-ascend low es d j i a y h))
-      where
-        apart : getD es j d .node < getD es i d .node → ⊥
-        apart z = omega arith
-    by (inr x) (inr y) = omega arith
 
 pub nodes-below : (n : ℕ) (es : List SetEntry) (u : ℕ) → allEntries (entryBelow n) es ≡ true → T (entryIn es u) → u < n
 unfolding allEntries entryIn

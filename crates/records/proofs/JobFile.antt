@@ -6,7 +6,7 @@ use mathlib.Core.Logic.{_⊎_, inl, inr, _↔_}
 use mathlib.Core.List.{List, [], _∷_, _++_, append-assoc}
 use native.Mathlib.Omega.{arith}
 use native.Mathlib.Nat.{not-suc-le-zero, le-of-suc-le-suc}
-use borrow.Author.Tests.{leb-true, ltb-true, eqb-true, le-leb, lt-ltb, eq-eqb, ne-eqb}
+use borrow.Author.Tests.{leb-true, ltb-true, eqb-true, le-leb, lt-ltb, eq-eqb}
 use lib.Dec.{T, eqb, ltb, leb, eqb→eq}
 use lib.ListN.{length, getD, List·getD-eq-default}
 use Rattle.nodes.proofs.Logic.{is-false, and-l, and-r, or-out, or-comm, lt-or-ge}
@@ -14,7 +14,7 @@ use Rattle.records.specs.Answer.{Answer, gives, no}
 use Rattle.records.specs.Records.{checked, written, kindOpen, kindEdges, kindInputs, kindOutputs, kindMeasurements}
 use Rattle.records.specs.JobFile.{JobFile, modeCausal, modePlanes, all, has, rises, pairsRise, highestOf, allows, allAllowed, openNo, edgesNo, nodesNo, measurementsNo, readMeasurements, readOutputs, readInputs, readEdges, readJob, joined, jobOf}
 use Rattle.records.specs.Encoding.{jobBytes, ValidJob}
-use Rattle.records.proofs.Records.{give-inj, bind-out, no-out, and-out, all-append, all-more, written-bytes, checked-passed, checked-append, checked-written, record-bytes}
+use Rattle.records.proofs.Records.{give-inj, bind-out, no-out, and-out, checked-passed, checked-append, checked-written, record-bytes}
 
 -- ---- the questions of each record, as facts
 two-bytes : (l : List ℕ) → length l ≡ 2 → l ≡ getD l 0 0 ∷ getD l 1 0 ∷ []
@@ -330,14 +330,6 @@ module _ (f : JobFile) (v : ValidJob f) where
   unfolding allows
   output-zero u h o = eqb-true (jobOf f .measured u) 0 (rw o at (byte-allowed u h))
 
-  -- the outputs are the nodes whose byte is 0
-  pub output-is-zero : (u : ℕ) → u < f .n → jobOf f .output u ≡ eqb (jobOf f .measured u) 0
-  output-is-zero u h = by (jobOf f .output u) refl
-    where
-      by : (c : Bool) → jobOf f .output u ≡ c → c ≡ eqb (jobOf f .measured u) 0
-      by true e = sym (eq-eqb (jobOf f .measured u) 0 (output-zero u h e))
-      by false e = let (a, b) = measured-range u h e in sym (ne-eqb (jobOf f .measured u) 0 (omega arith))
-
   pub measured-most : (u : ℕ) → jobOf f .measured u ≤ 6
   measured-most u = by (lt-or-ge u (f .n))
     where
@@ -348,40 +340,5 @@ module _ (f : JobFile) (v : ValidJob f) where
   pub measured-plane : f .mode ≡ modePlanes → (u : ℕ) → u < f .n → jobOf f .output u ≡ false → (1 ≤ jobOf f .measured u) × (jobOf f .measured u ≤ 3)
   measured-plane m u h o = rw m at (measured-range u h o)
 
-  pub measured-causal : f .mode ≡ modeCausal → (u : ℕ) → u < f .n → jobOf f .output u ≡ false → jobOf f .measured u ≡ 1
-  measured-causal m u h o = let (a, b) = measured-range u h o in by (f .mode) m b a
-    where
-      by : (mode : ℕ) → mode ≡ modeCausal → jobOf f .measured u ≤ highestOf mode → 1 ≤ jobOf f .measured u → jobOf f .measured u ≡ 1
-      by mode m b a = let c : jobOf f .measured u ≤ 1 = rw m at b in omega arith
-
-  pub input-below : (u : ℕ) → T (jobOf f .input u) → u < f .n
-  input-below u t = has-below (f .n) (f .inputs) u (v .inputsBelow) t
-
-  pub output-below : (u : ℕ) → T (jobOf f .output u) → u < f .n
-  output-below u t = has-below (f .n) (f .outputs) u (v .outputsBelow) t
-
-  pub edge-below : (u w : ℕ) → T (jobOf f .edge u w) → (u < f .n) × (w < f .n)
-  edge-below u w t = joined-below (f .n) (f .edges) u w (v .edgesBelow) t
-
   pub edge-loop : (u : ℕ) → jobOf f .edge u u ≡ false
   edge-loop u = no-loop 0 (f .edges) u (v .edgesRise)
-
-  -- the bytes of a valid job are below 256
-  pub job-bytes : all (λ b. ltb b 256) (jobBytes f) ≡ true
-  unfolding all
-  job-bytes =
-      let few : f .n ≤ 128 = v .few in
-      let bytes : (l : List ℕ) → all (λ u. ltb u (f .n)) l ≡ true → all (λ b. ltb b 256) l ≡ true = λ l a. all-more (λ u. ltb u (f .n)) (λ b. ltb b 256) l (λ u x. let y : u < f .n = ltb-true u (f .n) x in lt-ltb u 256 (omega arith)) a in
-      let two : all (λ b. ltb b 256) (f .n ∷ f .mode ∷ []) ≡ true = rw (lt-ltb (f .n) 256 (omega arith), lt-ltb (f .mode) 256 (omega (arith, v .modeTo))) in
-      let o : List ℕ = written kindOpen (f .n ∷ f .mode ∷ []) in
-      let oe : List ℕ = o ++ written kindEdges (f .edges) in
-      let oei : List ℕ = oe ++ written kindInputs (f .inputs) in
-      all-append (λ b. ltb b 256) (oei ++ written kindOutputs (f .outputs)) (written kindMeasurements (f .measurements))
-      (all-append (λ b. ltb b 256) oei (written kindOutputs (f .outputs))
-      (all-append (λ b. ltb b 256) oe (written kindInputs (f .inputs))
-      (all-append (λ b. ltb b 256) o (written kindEdges (f .edges))
-      (written-bytes kindOpen (f .n ∷ f .mode ∷ []) (omega arith) two)
-      (written-bytes kindEdges (f .edges) (omega arith) (bytes (f .edges) (v .edgesBelow))))
-      (written-bytes kindInputs (f .inputs) (omega arith) (bytes (f .inputs) (v .inputsBelow))))
-      (written-bytes kindOutputs (f .outputs) (omega arith) (bytes (f .outputs) (v .outputsBelow))))
-      (written-bytes kindMeasurements (f .measurements) (omega arith) (allowed-bytes (f .mode) (has (f .outputs)) 0 (f .measurements) (v .allowed)))

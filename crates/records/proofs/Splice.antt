@@ -3,8 +3,8 @@ use Prim.Native.Nat.{ℕ, zero, suc, _+_, _≤_, _<_}
 use mathlib.Core.Path.{_≡_, refl, sym, ap, ap₂, _∙_, subst}
 use mathlib.Core.List.{List, [], _∷_, _++_, append-assoc}
 use native.Mathlib.Omega.{arith}
-use lib.ListN.{length, getD, set, take, drop, length-append, length-drop, take-append-drop}
-use lib.Seq.{length-take-le, take-append-le, drop-append-le, take-append-seam, drop-append-seam, drop-drop}
+use lib.ListN.{length, set, take, drop, length-append, take-append-drop}
+use lib.Seq.{length-take-le, take-append-seam, drop-append-seam, drop-drop}
 use Rattle.records.specs.Splice.{splice}
 
 take-of : (n : ℕ) (a b : List ℕ) → length a ≡ n → take n (a ++ b) ≡ a
@@ -19,13 +19,6 @@ splice-none at l = ap (λ (k : ℕ). take at l ++ drop k l) (nothing at) ∙ tak
   where
     nothing : (at : ℕ) → at + 0 ≡ at
     nothing at = omega arith
-
-pub splice-length : (at : ℕ) (b l : List ℕ) → at + length b ≤ length l → length (splice at b l) ≡ length l
-unfolding splice
-splice-length at b l h =
-    length-append (take at l) (b ++ drop (at + length b) l)
-    ∙ ap₂ _+_ (length-take-le at l (omega arith)) (length-append b (drop (at + length b) l) ∙ ap (λ (k : ℕ). length b + k) (length-drop (at + length b) l))
-    ∙ omega arith
 
 pub splice-splice : (at : ℕ) (a b l : List ℕ) → at + length a + length b ≤ length l → splice (at + length a) b (splice at a l) ≡ splice at (a ++ b) l
 unfolding splice

@@ -5,8 +5,8 @@ use mathlib.Core.Option.{Option, none, some}
 use mathlib.Core.List.{List, [], _∷_}
 use lib.Dec.{eqb, ltb, leb}
 use lib.ListN.{length, getD, take, drop}
-use Rattle.records.specs.Answer.{Answer, gives, refuses, _>>=_, _>>_, asks, no}
-use Rattle.records.specs.Records.{Part, checked, kindLayers, kindSets}
+use Rattle.records.specs.Answer.{Answer, gives, asks, no, _>>=_, _>>_}
+use Rattle.records.specs.Records.{checked, kindLayers, kindSets}
 use Rattle.records.specs.JobFile.{all, has, rises, modeCausal}
 
 -- an entry of a sets record: node, count, members

@@ -1,12 +1,12 @@
 -- Reading a job: five records in order, each once, with questions 1 to 7.
-use Prim.Native.Nat.{ℕ, zero, suc, _+_, _*_, _%_}
-use mathlib.Core.Bool.{Bool, true, false, cond, not, _&&_, _||_}
+use Prim.Native.Nat.{ℕ, _+_, _*_, _%_}
+use mathlib.Core.Bool.{Bool, true, false, cond, _&&_, _||_}
 use mathlib.Core.List.{List, [], _∷_}
 use lib.Dec.{eqb, ltb, leb}
 use lib.ListN.{length, getD}
 use Rattle.flows.specs.Job.{Job, planeXY, planeXZ, pauliZ}
-use Rattle.records.specs.Answer.{Answer, gives, refuses, _>>=_, no}
-use Rattle.records.specs.Records.{Part, checked, kindOpen, kindEdges, kindInputs, kindOutputs, kindMeasurements}
+use Rattle.records.specs.Answer.{Answer, gives, no, _>>=_}
+use Rattle.records.specs.Records.{checked, kindOpen, kindEdges, kindInputs, kindOutputs, kindMeasurements}
 
 -- the most nodes a job may have
 abbrev pub mostNodes : ℕ

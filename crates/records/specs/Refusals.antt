@@ -1,5 +1,4 @@
 -- Document 01's number, a and b for each cause of a refusal.
-use Prim.Native.Nat.{ℕ}
 use Rattle.records.specs.Answer.{Refusal, refusal}
 use Rattle.records.specs.declared.common.Numbers.{Numbers}
 use Rattle.records.specs.declared.common.Refused.{Refused}

@@ -10,12 +10,12 @@ use lib.Dec.{T, eqb, eqb→eq, ltb}
 use Rattle.nodes.specs.Bit.{_⊕_}
 use Rattle.nodes.specs.Row.{dot, anyBelow}
 use Rattle.solver.specs.System.{Solves, Dependent, Answer, isSome, solve, pivot}
-use Rattle.solver.specs.Reduced.{lead, Reduced, readOff}
+use Rattle.solver.specs.Reduced.{lead, Reduced}
 use Rattle.nodes.proofs.Logic.{is-false, both-ways, dec, eqb-no, eqb-yes, lt-or-ge, and-none, and-all, ⊕-none, ⊕-self, ⊕-eq}
 use Rattle.nodes.proofs.Row.{parity-and, dot-⊕, dot-rows, dot-ext, dot-prefix, dot-one}
 use Rattle.nodes.proofs.Members.{lowest-ext, lowest-here, lowest-unique}
 use Rattle.solver.proofs.System.{Right, solve-is, solve-right}
-use Rattle.solver.proofs.Reduced.{plain, lead-more, read-off, pivots-lead}
+use Rattle.solver.proofs.Reduced.{plain, lead-more, pivots-lead}
 
 -- ---- the rows' common zeros, over w columns, right sides among them
 abbrev pub Zero : ℕ → ℕ → (ℕ → ℕ → Bool) → (ℕ → Bool) → Type 0
@@ -222,8 +222,5 @@ partly-reduced r n rank m p i q l g d h = go (lt-or-ge i rank)
 
 -- so the answer of the equations at the start is read off at the end, and the pivots too
 module _ (r w n rank : ℕ) (m m′ : ℕ → ℕ → Bool) (s : Same r w m m′) (p : Partly r n rank m′) (fits : n ≤ w) where
-  pub eliminated-answer : (c : ℕ) → c < w → readOff r n m′ (λ i. m′ i c) ≡ solve (plain r m) n (λ i. m i c)
-  eliminated-answer c l = read-off r n m′ (partly-reduced r n rank m′ p) (λ i. m′ i c) ∙ sym (solve-kept r w m m′ s n c fits l)
-
   pub eliminated-pivots : (k : ℕ) → k < n → anyBelow r (λ i. eqb (lead m′ n i) k) ≡ pivot (plain r m) k
   eliminated-pivots k l = sym (pivots-kept r w m m′ s k (omega arith) ∙ pivots-lead r n m′ (partly-reduced r n rank m′ p) k l)

@@ -9,13 +9,13 @@ use native.Mathlib.Omega.{arith}
 use native.Mathlib.Nat.{le-refl}
 use lib.Dec.{T, ltb, ltb→lt}
 use Rattle.nodes.specs.Row.{dot, count}
-use Rattle.solver.specs.System.{System, sum, Solves, Dependent, solve, pivot}
+use Rattle.solver.specs.System.{System, sum, Solves, Dependent, solve}
 use Rattle.solver.specs.Packed.{packedMatrix, packedSide, spread, spreadAll}
-use Rattle.nodes.proofs.Logic.{is-true, is-false, dec, and-l, and-r, beq-eq}
+use Rattle.nodes.proofs.Logic.{is-true, is-false, dec, and-l, and-r}
 use Rattle.nodes.proofs.Row.{parity-ext, ltb-yes}
 use Rattle.nodes.proofs.Count.{rank-lt, rank-sur, rank-sum, ranked, ranked-at}
 use Rattle.nodes.proofs.Members.{members-at}
-use Rattle.solver.proofs.System.{Right, solve-right, solve-is, pivot-in, pivot-out}
+use Rattle.solver.proofs.System.{Right, solve-right, solve-is}
 use Rattle.solver.proofs.Reduced.{plain}
 
 -- a matrix that has the entries of the system by rank
@@ -61,13 +61,6 @@ module _ (s : System) (n : ℕ) (m : ℕ → ℕ → Bool)
   depends-back : (k : ℕ) → k < n → T (s .column k) → Dependent small (count k (s .column)) → Dependent s k
   depends-back k l t (x, q) = (spread s n x, from-small k (λ i. s .entry i k) (λ i. m i (count k (s .column))) x (omega arith) (λ v g r. agrees v k g l r t) q)
 
-  -- a column at hand is a pivot in both or in none
-  pub spread-pivot : (k : ℕ) → k < n → T (s .column k) → pivot s k ≡ pivot (plain (count (s .rows) (s .row)) m) (count k (s .column))
-  spread-pivot k l t =
-      beq-eq (pivot s k) (pivot small (count k (s .column)))
-      (λ p. pivot-in small (count k (s .column)) tt (λ d. pivot-out s k p .1 (depends-back k l t d)))
-      (λ p. pivot-in s k t (λ d. pivot-out small (count k (s .column)) p .1 (depends k l t d)))
-
   module _ (b d : ℕ → Bool) (sides : (v : ℕ) → v < s .rows → T (s .row v) → d (count v (s .row)) ≡ b v) where
     carry : (o : Option (ℕ → Bool)) → Right small (count n (s .column)) d o → Right s n b (spreadAll s n o)
     carry none f = λ x q. f (ranked n (s .column) x) (to-small n b d x (le-refl n) sides q)
@@ -96,6 +89,3 @@ packed-side s b v l t = ap b (members-at (s .rows) (s .row) 0 v l t)
 pub packed-answer : (s : System) (n : ℕ) (b : ℕ → Bool)
     → solve s n b ≡ spreadAll s n (solve (plain (count (s .rows) (s .row)) (packedMatrix s n)) (count n (s .column)) (packedSide s b))
 packed-answer s n b = spread-answer s n (packedMatrix s n) (packed-entry s n) b (packedSide s b) (packed-side s b)
-
-pub packed-pivot : (s : System) (n k : ℕ) → k < n → T (s .column k) → pivot s k ≡ pivot (plain (count (s .rows) (s .row)) (packedMatrix s n)) (count k (s .column))
-packed-pivot s n k l t = spread-pivot s n (packedMatrix s n) (packed-entry s n) k l t

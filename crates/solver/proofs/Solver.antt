@@ -15,7 +15,7 @@ use Rattle.nodes.proofs.Row.{all-in, all-out, dot-one, ltb-no}
 use Rattle.solver.specs.System.{solve, pivot}
 use Rattle.solver.specs.Reduced.{leads, readOff}
 use Rattle.solver.specs.WorkMatrix.{entryOf, systemOf, sideOf, nothingBeyond}
-use Rattle.solver.specs.Steps.{State, eliminated}
+use Rattle.solver.specs.Steps.{eliminated}
 use Rattle.solver.specs.Solver.{rowBytes, mostRows, mostColumns, fits, bothFit, columnExists, wellShaped, Eliminated}
 use Rattle.solver.proofs.Reduced.{read-off}
 use Rattle.solver.proofs.Elimination.{Same, same-sym, solutions-kept, solve-kept, partly-reduced, eliminated-pivots}

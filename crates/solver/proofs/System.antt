@@ -278,11 +278,3 @@ module _ (s t : System) (n : ℕ) (a : Agree s t n) where
       go : (o : Option (ℕ → Bool)) → Right s n b o → Right t n c o
       go none f = λ x h. f x (solves-agree t s n (agree-sym a) n c b x (le-refl n) back h)
       go (some x) h = answer-agree b c x e h
-
-  pub pivot-ext : (k : ℕ) → k < n → pivot s k ≡ pivot t k
-  pivot-ext k l =
-      beq-eq (pivot s k) (pivot t k)
-      (λ p. let (u, f) = pivot-out s k p in
-      pivot-in t k (rw (← a .column k l) u) (λ d. f (dependent-agree t s n (agree-sym a) k l (rw (← a .column k l) u) d)))
-      (λ p. let (u, f) = pivot-out t k p in
-      pivot-in s k (rw (a .column k l) u) (λ d. f (dependent-agree s t n a k l (rw (a .column k l) u) d)))

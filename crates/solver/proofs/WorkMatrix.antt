@@ -181,17 +181,6 @@ byte-at w x q h = getD-listOf w (λ q. digits 8 (λ t. x (8 * q + t))) q h
 pub bytes-length : (w : ℕ) (x : ℕ → Bool) → length (bytesOf w x) ≡ w
 bytes-length w x = length-listOf w (λ q. digits 8 (λ t. x (8 * q + t)))
 
--- each bit below 8 * w is kept
-pub bytes-entry : (w : ℕ) (x : ℕ → Bool) (k : ℕ) → k < 8 * w → entryOf w (bytesOf w x) 0 k ≡ x k
-unfolding entryOf
-bytes-entry w x k h =
-    let z : 0 * w + k / 8 ≡ k / 8 = omega (arith, zero-mul w) in
-    let e : 8 * (k / 8) + k % 8 ≡ k = omega arith in
-    ap (λ (q : ℕ). bit (getD (bytesOf w x) q 0) (k % 8)) z
-    ∙ ap (λ (n : ℕ). bit n (k % 8)) (byte-at w x (k / 8) (omega arith))
-    ∙ bit-digits 8 (λ t. x (8 * (k / 8) + t)) (k % 8) (omega arith)
-    ∙ ap x e
-
 -- a list of w bytes with the digits of x
 pub bytes-is : (w : ℕ) (l : List ℕ) (x : ℕ → Bool) → length l ≡ w → ((q : ℕ) → q < w → getD l q 0 < 2 ^ 8)
     → ((q t : ℕ) → q < w → t < 8 → bit (getD l q 0) t ≡ x (8 * q + t)) → l ≡ bytesOf w x

@@ -1,9 +1,9 @@
 -- The work matrix: rows of bits in a list of bytes, lowest bit first. The bytes of a row, w, are a parameter.
 use Prim.Native.Nat.{ℕ, zero, suc, _+_, _*_, _/_, _%_}
-use mathlib.Core.Bool.{Bool, true, false, cond, not, _&&_, _||_}
+use mathlib.Core.Bool.{Bool, true, false, not, _||_}
 use mathlib.Core.List.{List, [], _∷_}
 use lib.Dec.{ltb}
-use lib.ListN.{length, getD}
+use lib.ListN.{getD}
 use Rattle.nodes.specs.Bit.{bit}
 use Rattle.nodes.specs.Row.{allBelow}
 use Rattle.solver.specs.System.{System}

@@ -1,43 +1,42 @@
 -- Demand 3, for both modes: the finder's flow is accepted, no accepted flow has a node earlier, and 'no flow' is said
 -- exactly where no flow is accepted.
-use Prim.Native.Nat.{ℕ, zero, suc, _+_, _≤_, _<_}
+use Prim.Native.Nat.{ℕ, _+_, _≤_, _<_}
 use mathlib.Core.Path.{_≡_, refl, sym, ap, ap₂, _∙_, subst}
 use mathlib.Core.Bool.{Bool, true, false, cond, not, _&&_, _||_}
 use mathlib.Core.Option.{Option, none, some}
-use mathlib.Core.List.{List, [], _∷_, _++_}
-use mathlib.Core.Logic.{_⊎_, inl, inr, _↔_, _≢_}
+use mathlib.Core.List.{List, [], _++_}
+use mathlib.Core.Logic.{_⊎_, inl, inr, _≢_}
 use native.Mathlib.Omega.{arith}
-use lib.Dec.{T, eqb, ltb, leb, eqb→eq, eqb-refl, ltb→lt, lt→ltb}
-use lib.ListN.{length, getD, take, drop}
+use lib.Dec.{T, eqb, ltb, leb, eqb→eq}
+use lib.ListN.{length, take, drop}
 use lib.Seq.{take-append-seam}
-use Rattle.nodes.specs.Row.{parity, anyBelow}
-use Rattle.nodes.proofs.Logic.{is-true, is-false, from-true, from-false, dec, and-l, and-r, or-out, not-in, not-out}
-use Rattle.nodes.proofs.Row.{parity-ext, any-in, any-out, any-ext}
-use Rattle.flows.specs.Job.{Job, odd, own}
+use Rattle.nodes.specs.Row.{anyBelow}
+use Rattle.nodes.proofs.Logic.{is-true, is-false, from-true, from-false, dec, and-l, or-out, not-out}
+use Rattle.nodes.proofs.Row.{parity-ext, any-out}
+use Rattle.flows.specs.Job.{Job, odd}
 use Rattle.flows.specs.Search.{Progress}
 use Rattle.flows.specs.Planes as Planes
 use Rattle.flows.specs.Paulis as Paulis
 use Rattle.flows.proofs.Conditions.{Ok}
 use Rattle.flows.proofs.Premise.{premiseAt}
-use Rattle.flows.proofs.Table.{needs-one}
 use Rattle.flows.proofs.Flows.{findAt, earlierThan, Found, found-flow, found-ok, found-earliest, firstRound}
-use Rattle.records.specs.Answer.{Refusal, Answer, gives, refuses, refusal, asks, _>>=_, _>>_}
+use Rattle.records.specs.Answer.{Answer, gives, refuses, refusal, asks, _>>_}
 use Rattle.records.specs.Records.{written, kindNoFlow}
-use Rattle.records.specs.JobFile.{JobFile, readJob, jobOf, measuredOf, modeCausal, modePlanes, modePauli}
-use Rattle.records.specs.FlowFile.{FlowFile, Flow, readFlow, flowOf, nothingLeft, oneMember}
-use Rattle.records.specs.Encoding.{ValidJob, ValidFlow, foundFlow}
+use Rattle.records.specs.JobFile.{JobFile, readJob, jobOf, modeCausal, modePlanes, modePauli}
+use Rattle.records.specs.FlowFile.{FlowFile, readFlow, flowOf, nothingLeft}
+use Rattle.records.specs.Encoding.{ValidJob, foundFlow}
 use Rattle.verdicts.specs.Verdict.{verify, checkDomain, checkInitial, checkDefinition}
-use Rattle.verdicts.specs.Calls.{Outcome, put, zeros, findOutcome, findAsks, findCall, foundBytes, search, workBytes, verifyAsks}
+use Rattle.verdicts.specs.Calls.{Outcome, put, zeros, findOutcome, findAsks, findCall, foundBytes, search, workBytes}
 use Rattle.records.specs.Writing.{flowBytes}
 use Rattle.verdicts.specs.Published.{Measured}
 use Rattle.verdicts.specs.Demand.{premise, Accepted, FlowBytes, layerIn, DemandHolds, Demand3}
 use Rattle.records.proofs.Records.{give-inj, never, bind-out, asks-out}
 use Rattle.records.proofs.JobFile.{job-asked, measured-range, measured-most, output-zero, measured-plane, edge-loop}
-use Rattle.records.proofs.FlowFile.{flow-asked, nothing-left, one-member-other}
+use Rattle.records.proofs.FlowFile.{nothing-left, one-member-other}
 use Rattle.records.proofs.Writing.{found-reads, found-valid, found-layer, found-entry, found-set, no-flow-unread}
 use Rattle.verdicts.proofs.Verdict.{Preliminary, domain-asked, initial-asked, definition-asked, verify-in, verify-preliminary, verify-nodes, node-in, node-out}
 use Rattle.verdicts.proofs.Published as Pub
-use Rattle.verdicts.proofs.Judging.{Judged, judged-in, judged-out, readable, planes}
+use Rattle.verdicts.proofs.Judging.{Judged, judged-in, judged-out, readable}
 
 -- a node's conditions depend on the nodes below n only
 pub ok-ext : (j : Job) (pauli : Bool) (later later′ set set′ : ℕ → Bool) → ((k : ℕ) → k < j .nodes → later k ≡ later′ k) → ((k : ℕ) → k < j .nodes → set k ≡ set′ k)

@@ -1,25 +1,24 @@
 -- A job followed by a flow: what the verifier asks of the two together, and what reading tells of them.
-use Prim.Native.Nat.{ℕ, zero, suc, _+_, _≤_, _<_}
-use mathlib.Core.Path.{_≡_, refl, sym, ap, _∙_, subst}
-use mathlib.Core.Bool.{Bool, true, false, cond, not, _&&_, _||_}
+use Prim.Native.Nat.{ℕ, _+_, _≤_, _<_}
+use mathlib.Core.Path.{_≡_, refl, sym, _∙_, subst}
+use mathlib.Core.Bool.{Bool, true, false}
 use mathlib.Core.Option.{Option, none, some}
-use mathlib.Core.List.{List, [], _∷_, _++_}
-use mathlib.Core.Logic.{_⊎_, inl, inr, _↔_, _≢_}
+use mathlib.Core.List.{List, [], _++_}
+use mathlib.Core.Logic.{_⊎_, inl, inr, _↔_}
 use native.Mathlib.Omega.{arith}
-use lib.Dec.{T, eqb, ltb, eqb-refl}
-use lib.ListN.{length}
+use lib.Dec.{T, eqb, eqb-refl}
 use Rattle.nodes.proofs.Logic.{is-true, is-false, eqb-comm}
 use Rattle.flows.specs.Job.{Job, planeXZ}
-use Rattle.records.specs.Answer.{Refusal, Answer, gives, refuses, _>>=_, _>>_}
+use Rattle.records.specs.Answer.{Refusal, Answer, gives, refuses, _>>_}
 use Rattle.records.specs.JobFile.{JobFile, readJob, jobOf, modeCausal, modePlanes, modePauli}
 use Rattle.records.specs.FlowFile.{FlowFile, readFlow, flowOf, nothingLeft, oneMember, entryIn, setIn}
 use Rattle.records.specs.Encoding.{ValidJob, ValidFlow}
 use Rattle.verdicts.specs.Verdict.{verify}
 use Rattle.verdicts.specs.Calls.{verdict, verifyAsks}
 use Rattle.verdicts.specs.Published.{Measured, CausalAccepted, PlanesAccepted, PaulisAccepted}
-use Rattle.records.proofs.Records.{give-inj, never, bind-out}
-use Rattle.records.proofs.JobFile.{job-asked, job-append, behind, measured-range, output-zero, measured-most, measured-plane}
-use Rattle.records.proofs.FlowFile.{flow-asked, set-entry, members-below, nodes-below, nothing-left, one-member-asked, one-member-other, one-member}
+use Rattle.records.proofs.Records.{never, bind-out}
+use Rattle.records.proofs.JobFile.{job-asked, job-append, measured-range, output-zero, measured-most, measured-plane}
+use Rattle.records.proofs.FlowFile.{flow-asked, set-entry, members-below, nothing-left, one-member-asked, one-member}
 use Rattle.verdicts.proofs.Published.{one-to-three, Readable, planes-accepts, accepts-planes, paulis-accepts, accepts-paulis, causal-accepts, accepts-causal}
 
 verdict-out : (o : Option Refusal) (b : Bool) → verdict o ≡ gives b → o ≡ none

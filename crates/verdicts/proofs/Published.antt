@@ -1,14 +1,14 @@
 -- The verifier of each mode accepts exactly the published conditions with the listed differences.
-use Prim.Native.Nat.{ℕ, zero, suc, _+_, _≤_, _<_, zero-le}
-use mathlib.Core.Path.{_≡_, refl, sym, ap, _∙_, subst}
+use Prim.Native.Nat.{ℕ, zero, suc, _≤_, _<_}
+use mathlib.Core.Path.{_≡_, refl, sym, ap, _∙_}
 use mathlib.Core.Bool.{Bool, true, false, cond, not, _&&_, _||_, true≢false, false≢true}
-use mathlib.Core.Option.{Option, none, some}
+use mathlib.Core.Option.{Option, none}
 use mathlib.Core.Logic.{_⊎_, inl, inr, _↔_, _≢_}
 use native.Mathlib.Omega.{arith}
-use lib.Dec.{T, eqb, ltb, eqb→eq, eqb-refl, ltb→lt, lt→ltb}
+use lib.Dec.{T, eqb, eqb→eq, eqb-refl, ltb→lt, lt→ltb}
 use Rattle.nodes.specs.Bit.{_⊕_}
-use Rattle.nodes.specs.Row.{anyBelow, lowest, parity}
-use Rattle.nodes.proofs.Logic.{is-true, is-false, from-true, from-false, dec, and-l, and-r, and-in, or-l, or-r, or-out, not-in, not-out, eqb-no, eqb-yes, and-none}
+use Rattle.nodes.specs.Row.{anyBelow, lowest}
+use Rattle.nodes.proofs.Logic.{is-false, dec, and-l, and-r, and-in, eqb-no, eqb-yes, and-none}
 use Rattle.nodes.proofs.Row.{any-in, any-out, parity-none}
 use Rattle.nodes.proofs.Members.{lowest-unique}
 use Rattle.flows.specs.Job.{Job, odd, own, isXorY, isYorZ, planeXY, planeYZ, planeXZ, pauliX, pauliY, pauliZ}
@@ -19,7 +19,7 @@ use Rattle.records.specs.Answer.{Refusal}
 use Rattle.records.specs.JobFile.{modeCausal, modePlanes, modePauli}
 use Rattle.records.specs.FlowFile.{Flow}
 use Rattle.verdicts.specs.Verdict as Q
-use Rattle.verdicts.specs.Verdict.{ask, _next_, each}
+use Rattle.verdicts.specs.Verdict.{_next_, each}
 use Rattle.verdicts.specs.Published.{StrictOrder, Measured, CausalFlow, PlaneConditions, PauliConditions, byLayer, NoOtherInputs, OutputsAtZero, OthersAboveZero, Domain, CausalAccepted, PlanesAccepted, PaulisAccepted}
 use Rattle.verdicts.proofs.Questions.{ask-in, ask-out, next-in, next-l, next-r, each-in, each-out, when-in, when-out, late-in, late-out}
 use Rattle.verdicts.proofs.Verdict.{Preliminary, verify-in, verify-preliminary, verify-nodes, node-in, node-out}

@@ -1,15 +1,15 @@
 -- Demand 2: each set in the finder's file is the one solution of the first solvable branch in its round.
-use Prim.Native.Nat.{ℕ, zero, suc, _+_, _≤_, _<_}
+use Prim.Native.Nat.{ℕ, _≤_, _<_}
 use mathlib.Core.Path.{_≡_, refl, sym, ap, ap₂, _∙_, subst, fun-ext}
-use mathlib.Core.Bool.{Bool, true, false, cond, not, _&&_, _||_}
+use mathlib.Core.Bool.{Bool, false, not, _&&_, _||_}
 use mathlib.Core.Option.{Option, none, some, Option·none-ne-some}
-use mathlib.Core.List.{List, [], _∷_, _++_}
+use mathlib.Core.List.{List, [], _∷_}
 use mathlib.Core.Logic.{_⊎_, inl, inr}
 use native.Mathlib.Omega.{arith}
-use lib.Dec.{T, eqb, ltb, eqb→eq, eqb-refl, ltb→lt}
+use lib.Dec.{T, eqb, ltb, eqb→eq, ltb→lt}
 use lib.ListN.{take, length}
-use Rattle.nodes.proofs.Logic.{is-true, is-false, from-false, dec, or-out, not-out, eqb-yes, and-all, lt-or-ge}
-use Rattle.solver.specs.System.{System, Solves, Answer, solve, isSome}
+use Rattle.nodes.proofs.Logic.{is-false, not-out, eqb-yes, and-all, lt-or-ge}
+use Rattle.solver.specs.System.{Solves, Answer, solve, isSome}
 use Rattle.solver.proofs.System.{solvable-some, answer-unique}
 use Rattle.flows.specs.Job.{Job}
 use Rattle.flows.specs.Branch.{Context, branches, systemAt, sideAt, inSet, withNode, tryBranch}
@@ -19,15 +19,13 @@ use Rattle.flows.proofs.Table.{listed}
 use Rattle.flows.proofs.Tries.{contextAt, tryAt, planes-context, FirstOf, try-first, branch-answer, no-column-u}
 use Rattle.flows.proofs.Flows.{findAt, earlierThan, Found, found-flow, try-ext}
 use Rattle.records.specs.Answer.{Answer as Reply, gives, refuses}
-use Rattle.records.specs.Records.{written, kindNoFlow}
 use Rattle.records.specs.JobFile.{JobFile, readJob, jobOf, modePlanes, modePauli, has}
 use Rattle.records.specs.FlowFile.{FlowFile, flowOf, readFlow}
 use Rattle.records.specs.Encoding.{foundFlow}
 use Rattle.verdicts.specs.Calls.{findCall, findAsks, findOutcome, foundBytes, zeros}
-use Rattle.records.specs.Writing.{flowBytes}
 use Rattle.verdicts.specs.Published.{Measured}
 use Rattle.verdicts.specs.Demand.{FlowBytes, layerIn}
-use Rattle.verdicts.specs.Solutions.{contextIn, systemIn, others, TheSolution, Demand2}
+use Rattle.verdicts.specs.Solutions.{contextIn, others, TheSolution, Demand2}
 use Rattle.records.proofs.Records.{give-inj, never}
 use Rattle.records.proofs.FlowFile.{members-below, nodes-below}
 use Rattle.records.proofs.Writing.{found-valid, found-layer, found-entry, found-set, no-flow-unread}

@@ -1,22 +1,21 @@
 -- What the verifier accepts: no question is answered no exactly where the conditions hold.
-use Prim.Native.Nat.{ℕ, zero, suc, _+_, _≤_, _<_, zero-le}
-use mathlib.Core.Path.{_≡_, refl, sym, ap, _∙_}
+use Prim.Native.Nat.{ℕ, _<_}
+use mathlib.Core.Path.{_≡_, refl}
 use mathlib.Core.Bool.{Bool, true, false, cond, not, _&&_, _||_, Bool·beq}
-use mathlib.Core.Option.{Option, none, some}
+use mathlib.Core.Option.{Option, none}
 use mathlib.Core.Logic.{_⊎_, inl, inr, _↔_, _≢_}
-use native.Mathlib.Omega.{arith}
 use lib.Dec.{T, eqb, ltb, eqb→eq, eqb-refl, ltb→lt, lt→ltb}
 use Rattle.nodes.specs.Bit.{_⊕_}
 use Rattle.nodes.specs.Row.{anyBelow}
-use Rattle.nodes.proofs.Logic.{is-true, is-false, from-true, from-false, dec, and-l, and-r, and-in, or-l, or-r, or-out, not-in, not-out, eqb-no}
+use Rattle.nodes.proofs.Logic.{is-true, is-false, from-true, from-false, dec, or-l, or-r, not-in, not-out, eqb-no}
 use Rattle.flows.specs.Job.{Job, odd, own, isXorY, isYorZ, pauliY}
 use Rattle.flows.proofs.Conditions.{Ok}
 use Rattle.flows.proofs.Flows.{earlierThan}
 use Rattle.records.specs.Answer.{Refusal}
-use Rattle.records.specs.JobFile.{modeCausal, modePlanes, modePauli}
+use Rattle.records.specs.JobFile.{modeCausal, modePauli}
 use Rattle.records.specs.FlowFile.{Flow}
 use Rattle.verdicts.specs.Verdict as Q
-use Rattle.verdicts.specs.Verdict.{ask, _next_, each}
+use Rattle.verdicts.specs.Verdict.{_next_, each}
 use Rattle.verdicts.specs.Published.{Measured, OutputsAtZero, OthersAboveZero}
 use Rattle.verdicts.proofs.Questions.{ask-in, ask-out, next-in, next-l, next-r, each-in, each-out, unless-in, unless-out, input-in, input-out, late-in, late-out, both-in, both-out, beq-in, beq-out}
 

@@ -1,9 +1,8 @@
 -- The papers' cases A to N in one list, of three kinds, each with every claim that it makes.
-use Prim.Native.Nat.{ℕ, zero, suc}
-use mathlib.Core.Bool.{Bool, true, false, cond, _&&_}
+use Prim.Native.Nat.{ℕ}
+use mathlib.Core.Bool.{Bool, true, false, _&&_}
 use mathlib.Core.List.{List, [], _∷_, _++_}
 use lib.Dec.{eqb}
-use lib.ListN.{length}
 use Rattle.solver.specs.WorkMatrix.{listOf}
 use Rattle.solver.specs.Solver as Solver
 use Rattle.solver.specs.declared.gf2_linalg.Solved.{Solved}

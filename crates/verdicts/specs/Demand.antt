@@ -2,12 +2,12 @@
 use Prim.Native.Nat.{ℕ, _≤_, _<_}
 use mathlib.Core.Path.{_≡_}
 use mathlib.Core.Bool.{Bool, true, cond}
-use mathlib.Core.List.{List, [], _∷_, _++_}
+use mathlib.Core.List.{List, [], _++_}
 use mathlib.Core.Logic.{_↔_, _⊎_}
 use lib.Dec.{T, eqb}
 use lib.ListN.{getD, take}
 use Rattle.flows.specs.Premise.{planesPremise, paulisPremise}
-use Rattle.records.specs.Answer.{Answer, gives}
+use Rattle.records.specs.Answer.{gives}
 use Rattle.records.specs.Records.{written, kindNoFlow}
 use Rattle.records.specs.JobFile.{JobFile, readJob, jobOf, measuredOf, modePlanes}
 use Rattle.records.specs.FlowFile.{FlowFile, readFlow}

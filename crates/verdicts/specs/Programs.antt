@@ -1,10 +1,10 @@
 -- The two programs: what each writes for the bytes of its standard input.
-use Prim.Native.Nat.{ℕ, _*_, _+_}
+use Prim.Native.Nat.{ℕ}
 use mathlib.Core.List.{List, [], _∷_}
 use lib.ListN.{take}
 use Rattle.records.specs.Answer.{Refusal, Answer, gives, refuses}
-use Rattle.records.specs.Records.{written, headBytes, kindAccepted, kindRefusal}
-use Rattle.records.specs.JobFile.{JobFile, mostNodes}
+use Rattle.records.specs.Records.{written, kindAccepted, kindRefusal}
+use Rattle.records.specs.JobFile.{JobFile}
 use Rattle.verdicts.specs.Calls.{workBytes, zeros, foundBytes, findAsks, verifyAsks}
 
 -- each judges the first 65,536 bytes

@@ -2,8 +2,8 @@
 -- `before i k` stands for i ≺ k: k is measured after i.
 use Prim.Native.Nat.{ℕ, _<_}
 use mathlib.Core.Path.{_≡_}
-use mathlib.Core.Bool.{Bool, true, false, _||_}
-use mathlib.Core.Logic.{_≢_, _⊎_, _↔_}
+use mathlib.Core.Bool.{Bool}
+use mathlib.Core.Logic.{_≢_, _↔_}
 use lib.Dec.{T, eqb}
 use Rattle.flows.specs.Job.{Job, odd, planeXY, planeYZ, planeXZ, pauliX, pauliY, pauliZ, isXorY, isYorZ}
 use Rattle.records.specs.FlowFile.{Flow}

@@ -1,16 +1,15 @@
 -- Demand 2 of the finder: each set it writes is the one solution that avoids every column equal to a sum of earlier ones.
-use Prim.Native.Nat.{ℕ, _<_}
+use Prim.Native.Nat.{ℕ}
 use mathlib.Core.Path.{_≡_}
 use mathlib.Core.Bool.{Bool, cond, not, _&&_}
 use mathlib.Core.List.{List, [], _∷_, _++_}
 use lib.Dec.{T, eqb, ltb}
 use lib.ListN.{take}
 use Rattle.solver.specs.System.{System, Solves, Answer}
-use Rattle.flows.specs.Job.{Job}
 use Rattle.flows.specs.Branch.{Context, branches, systemAt, sideAt, inSet}
 use Rattle.flows.specs.Planes as Planes
 use Rattle.flows.specs.Paulis as Paulis
-use Rattle.records.specs.Answer.{Answer as Reply, gives}
+use Rattle.records.specs.Answer.{gives}
 use Rattle.records.specs.JobFile.{JobFile, readJob, jobOf, measuredOf, modePlanes, has}
 use Rattle.records.specs.FlowFile.{FlowFile, flowOf}
 use Rattle.verdicts.specs.Calls.{findCall}

@@ -1,5 +1,4 @@
 use Prim.Native.Nat.{_-_, _≤_}
-use lib.ListN.{length}
 use borrow.Author.Needs.{needs}
 use Rattle.flow_show.proofs.show_flow.Statement.{statement}
 use Rattle.flow_show.proofs.show_flow.Tie as tie

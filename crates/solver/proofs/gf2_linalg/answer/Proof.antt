@@ -4,7 +4,7 @@ use mathlib.Core.List.{List}
 use mathlib.Core.Option.{Option}
 use Prim.Native.Nat.{ℕ}
 use Rattle.solver.proofs.Leads.{read-none, read-some}
-use Rattle.solver.specs.Solver.{rowBytes, Outcome, outcome}
+use Rattle.solver.specs.Solver.{rowBytes, outcome}
 use Rattle.solver.specs.declared.gf2_linalg.Solved.the-variants.{Solvable}
 use borrow.Author.Needs.{needs}
 use Rattle.solver.proofs.gf2_linalg.answer.Statement.{statement}

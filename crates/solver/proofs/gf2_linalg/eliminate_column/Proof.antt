@@ -4,7 +4,7 @@ use Prim.Native.Nat.{ℕ, _≤_, _-_, _+_}
 use native.Mathlib.Omega.{arith}
 use Rattle.nodes.proofs.Members.{from-ge}
 use Rattle.solver.specs.WorkMatrix.{entryOf}
-use Rattle.solver.specs.Steps.{State, clearColumn, pivotTo}
+use Rattle.solver.specs.Steps.{clearColumn, pivotTo}
 use Rattle.solver.specs.Solver.{rowBytes}
 use Rattle.solver.proofs.Turns.{column-none, column-some}
 use borrow.Author.Needs.{needs}

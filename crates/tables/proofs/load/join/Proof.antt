@@ -3,8 +3,6 @@ use mathlib.Core.Path.{ap, _∙_}
 use mathlib.Core.Bool.{Bool, _&&_, _||_}
 use borrow.Author.Needs.{needs}
 use lib.Dec.{eqb, leb}
-use lib.Dec.{eqb, leb}
-use Rattle.nodes.specs.NodeSet.{member, highest}
 use Rattle.nodes.specs.NodeSet.{member, highest}
 use Rattle.nodes.specs.SetTable.{setAt}
 use Rattle.tables.proofs.LoadingEdges.{one-more}

@@ -1,15 +1,10 @@
 use Prim.Native.Nat.{ℕ, _+_, _*_, _-_, _≤_}
-use Prim.Native.Nat.{ℕ, _+_, _*_, _-_, _≤_}
-use mathlib.Core.Path.{_≡_, refl, sym, ap, ap₂, _∙_}
 use mathlib.Core.Path.{_≡_, refl, sym, ap, ap₂, _∙_}
 use mathlib.Core.Bool.{Bool, _&&_, _||_}
 use native.Mathlib.Omega.{arith}
 use borrow.Author.Needs.{needs}
 use lib.Dec.{eqb, leb}
-use lib.Dec.{eqb, leb}
 use lib.ListN.{length, getD, drop}
-use Rattle.nodes.specs.NodeSet.{highest}
-use Rattle.nodes.specs.SetTable.{setWords, setAt}
 use Rattle.nodes.specs.NodeSet.{highest}
 use Rattle.nodes.specs.SetTable.{setWords, setAt}
 use Rattle.nodes.proofs.Logic.{or-none}
