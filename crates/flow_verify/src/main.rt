@@ -29,11 +29,11 @@ fn main() {
         Output::Wrote(k) => {
             io::write_all(STANDARD_OUTPUT, &out[..k]);
         }
-        Output::Refused(_) => {
-            io::write_all(STANDARD_OUTPUT, &out[..REFUSAL_BYTES]);
+        Output::Refused(k) => {
+            io::write_all(STANDARD_OUTPUT, &out[..k]);
             let mut line = [0u8; LINE_ROOM];
-            let k = message(out[NUMBER], out[A], out[B], &mut line);
-            io::write_all(STANDARD_ERROR, &line[..k]);
+            let len = message(out[NUMBER], out[A], out[B], &mut line);
+            io::write_all(STANDARD_ERROR, &line[..len]);
         }
         Output::NoRoom => {}
     }

@@ -6,6 +6,7 @@ use mathlib.Core.Bool.{Bool, true, false, cond, not, _&&_, _||_}
 use mathlib.Core.Logic.{_⊎_, inl, inr}
 use mathlib.Core.List.{List, [], _∷_}
 use lib.Dec.{T, eqb, eqb→eq}
+use Rattle.nodes.specs.Lists.{has, equal}
 use Rattle.nodes.specs.Bit.{_⊕_}
 use Rattle.nodes.specs.Row.{allBelow}
 use Rattle.nodes.proofs.Logic.{and-l, and-r, or-out, not-out}
@@ -20,12 +21,6 @@ keep p (b ∷ bs) = cond (p b) (b ∷ keep p bs) (keep p bs)
 
 abbrev pub ruled : ℕ → List ℕ
 ruled m = keep (λ b. own m (inSet b) (inOdd b)) (planeXY ∷ planeYZ ∷ planeXZ ∷ [])
-
-unfoldable equal : List ℕ → List ℕ → Bool
-equal [] [] = true
-equal [] (b ∷ bs) = false
-equal (a ∷ l) [] = false
-equal (a ∷ l) (b ∷ bs) = eqb a b && equal l bs
 
 equal-eq : (l bs : List ℕ) → T (equal l bs) → l ≡ bs
 unfolding equal
@@ -43,24 +38,20 @@ pub table-rule : (m : ℕ) → m < 7 → branches m ≡ ruled m
 table-rule m l = equal-eq (branches m) (ruled m) (all-out 7 (λ m. equal (branches m) (ruled m)) table-test m l)
 
 -- ---- what follows for a branch and for a pair
-unfoldable pub listed : List ℕ → ℕ → Bool
-listed [] b = false
-listed (a ∷ bs) b = eqb a b || listed bs b
-
-kept-passes : (p : ℕ → Bool) (bs : List ℕ) (b : ℕ) → T (listed (keep p bs) b) → T (p b)
-unfolding keep listed
+kept-passes : (p : ℕ → Bool) (bs : List ℕ) (b : ℕ) → T (has (keep p bs) b) → T (p b)
+unfolding keep has
 kept-passes p [] b t = absurd t
 kept-passes p (a ∷ bs) b t = go (p a) refl t (kept-passes p bs b)
   where
-    go : (c : Bool) → p a ≡ c → T (listed (cond c (a ∷ keep p bs) (keep p bs)) b) → (T (listed (keep p bs) b) → T (p b)) → T (p b)
+    go : (c : Bool) → p a ≡ c → T (has (cond c (a ∷ keep p bs) (keep p bs)) b) → (T (has (keep p bs) b) → T (p b)) → T (p b)
     go false e t ih = ih t
-    go true e t ih = by (or-out (eqb a b) (listed (keep p bs) b) t)
+    go true e t ih = by (or-out (eqb a b) (has (keep p bs) b) t)
       where
-        by : T (eqb a b) ⊎ T (listed (keep p bs) b) → T (p b)
+        by : T (eqb a b) ⊎ T (has (keep p bs) b) → T (p b)
         by (inl q) = rw (← eqb→eq a b q, e) tt
         by (inr q) = ih q
 
-pub branch-own : (m b : ℕ) → m < 7 → T (listed (branches m) b) → T (own m (inSet b) (inOdd b))
+pub branch-own : (m b : ℕ) → m < 7 → T (has (branches m) b) → T (own m (inSet b) (inOdd b))
 branch-own m b l t = kept-passes (λ b. own m (inSet b) (inOdd b)) (planeXY ∷ planeYZ ∷ planeXZ ∷ []) b (rw (table-rule m l) at t)
 
 -- the branch of a pair 'in its set, in Odd'; no measurement passes where both are false
@@ -70,10 +61,10 @@ branchOf true false = planeYZ
 branchOf false o = planeXY
 
 pairs : ℕ → Bool → Bool → Bool
-pairs m s o = not (own m s o) || listed (branches m) (branchOf s o) && (not (s ⊕ inSet (branchOf s o)) && not (o ⊕ inOdd (branchOf s o)))
+pairs m s o = not (own m s o) || has (branches m) (branchOf s o) && (not (s ⊕ inSet (branchOf s o)) && not (o ⊕ inOdd (branchOf s o)))
 
 pairs-test : T (allBelow 7 (λ m. pairs m true true && pairs m true false && pairs m false true && pairs m false false))
-unfolding allBelow pairs branches listed own
+unfolding allBelow pairs branches has own
 pairs-test = tt
 
 pairs-at : (m : ℕ) (s o : Bool) → m < 7 → T (pairs m s o)
@@ -91,9 +82,9 @@ equal-bits true false t = absurd t
 equal-bits false true t = absurd t
 equal-bits false false t = refl
 
-pub own-branch : (m : ℕ) (s o : Bool) → m < 7 → T (own m s o) → T (listed (branches m) (branchOf s o)) × (s ≡ inSet (branchOf s o)) × (o ≡ inOdd (branchOf s o))
+pub own-branch : (m : ℕ) (s o : Bool) → m < 7 → T (own m s o) → T (has (branches m) (branchOf s o)) × (s ≡ inSet (branchOf s o)) × (o ≡ inOdd (branchOf s o))
 unfolding pairs
-own-branch m s o l t = go (own m s o) (listed (branches m) (branchOf s o)) (not (s ⊕ inSet (branchOf s o))) (not (o ⊕ inOdd (branchOf s o))) (equal-bits s (inSet (branchOf s o))) (equal-bits o (inOdd (branchOf s o))) t (pairs-at m s o l)
+own-branch m s o l t = go (own m s o) (has (branches m) (branchOf s o)) (not (s ⊕ inSet (branchOf s o))) (not (o ⊕ inOdd (branchOf s o))) (equal-bits s (inSet (branchOf s o))) (equal-bits o (inOdd (branchOf s o))) t (pairs-at m s o l)
   where
     go : (a b c d : Bool) → (T c → s ≡ inSet (branchOf s o)) → (T d → o ≡ inOdd (branchOf s o)) → T a → T (not a || b && (c && d)) → T b × (s ≡ inSet (branchOf s o)) × (o ≡ inOdd (branchOf s o))
     go true true true true f g t q = (tt, f tt, g tt)

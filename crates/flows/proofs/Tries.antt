@@ -17,7 +17,8 @@ use Rattle.flows.specs.Branch.{Context, inSet, inOdd, branches, systemAt
 use Rattle.flows.specs.Planes as Planes
 use Rattle.flows.specs.Paulis as Paulis
 use Rattle.flows.proofs.Branch.{Fits, fits-some, some-fits}
-use Rattle.flows.proofs.Table.{listed, branch-own, branchOf, own-branch}
+use Rattle.nodes.specs.Lists.{has}
+use Rattle.flows.proofs.Table.{branch-own, branchOf, own-branch}
 use Rattle.flows.proofs.Conditions.{Ok}
 
 -- ---- one context: with Paulis the excused nodes are columns from the start and leave the rows
@@ -81,12 +82,12 @@ module _ (j : Job) (c d : Context) (same : SameContext j c d) (u : ℕ) where
 
 -- ---- the first solvable branch
 module _ (j : Job) (c : Context) (u : ℕ) where
-  pub first-some : (bs : List ℕ) (b : ℕ) → T (listed bs b) → T (isSome (tryBranch j c u b)) → T (isSome (firstSolvable j c u bs))
-  unfolding listed firstSolvable
+  pub first-some : (bs : List ℕ) (b : ℕ) → T (has bs b) → T (isSome (tryBranch j c u b)) → T (isSome (firstSolvable j c u bs))
+  unfolding has firstSolvable
   first-some [] b h t = absurd h
-  first-some (a ∷ bs) b h t = go (tryBranch j c u a) refl (or-out (eqb a b) (listed bs b) h) (first-some bs b)
+  first-some (a ∷ bs) b h t = go (tryBranch j c u a) refl (or-out (eqb a b) (has bs b) h) (first-some bs b)
     where
-      go : (o : Option (ℕ → Bool)) → tryBranch j c u a ≡ o → T (eqb a b) ⊎ T (listed bs b) → (T (listed bs b) → T (isSome (tryBranch j c u b)) → T (isSome (firstSolvable j c u bs)))
+      go : (o : Option (ℕ → Bool)) → tryBranch j c u a ≡ o → T (eqb a b) ⊎ T (has bs b) → (T (has bs b) → T (isSome (tryBranch j c u b)) → T (isSome (firstSolvable j c u bs)))
           → T (isSome (firstOf o (firstSolvable j c u bs)))
       go (some x) e q ih = tt
       go none e (inl q) ih = absurd (rw (← eqb→eq a b q, e) at t)
@@ -98,11 +99,11 @@ module _ (j : Job) (c : Context) (u : ℕ) where
     pub branch : ℕ
     pub later : List ℕ
     pub row : bs ≡ earlier ++ (branch ∷ later)
-    pub unsolvable : (b : ℕ) → T (listed earlier b) → tryBranch j c u b ≡ none
+    pub unsolvable : (b : ℕ) → T (has earlier b) → tryBranch j c u b ≡ none
     pub gave : tryBranch j c u branch ≡ some set
 
   pub first-of : (bs : List ℕ) (set : ℕ → Bool) → firstSolvable j c u bs ≡ some set → FirstOf bs set
-  unfolding listed firstSolvable
+  unfolding has firstSolvable
   first-of [] set e = absurd (Option·none-ne-some _ e)
   first-of (a ∷ bs) set e = go (tryBranch j c u a) refl e (first-of bs set)
     where
@@ -114,20 +115,20 @@ module _ (j : Job) (c : Context) (u : ℕ) where
             branch = f .branch;
             later = f .later;
             row = ap (λ (l : List ℕ). a ∷ l) (f .row);
-            unsolvable = λ b t. by b (or-out (eqb a b) (listed (f .earlier) b) t) (f .unsolvable b);
+            unsolvable = λ b t. by b (or-out (eqb a b) (has (f .earlier) b) t) (f .unsolvable b);
             gave = f .gave;
           }
         where
-          by : (b : ℕ) → T (eqb a b) ⊎ T (listed (ih e .earlier) b) → (T (listed (ih e .earlier) b) → tryBranch j c u b ≡ none) → tryBranch j c u b ≡ none
+          by : (b : ℕ) → T (eqb a b) ⊎ T (has (ih e .earlier) b) → (T (has (ih e .earlier) b) → tryBranch j c u b ≡ none) → tryBranch j c u b ≡ none
           by b (inl q) f = rw (← eqb→eq a b q) p
           by b (inr q) f = f q
 
 -- ---- what a try gives is right
 -- a list with b in it
-pub listed-in : (l : List ℕ) (b : ℕ) (r : List ℕ) → T (listed (l ++ (b ∷ r)) b)
-unfolding listed
-listed-in [] b r = or-l (eqb b b) (listed r b) (eqb-refl b)
-listed-in (a ∷ l) b r = or-r (eqb a b) (listed (l ++ (b ∷ r)) b) (listed-in l b r)
+pub has-in : (l : List ℕ) (b : ℕ) (r : List ℕ) → T (has (l ++ (b ∷ r)) b)
+unfolding has
+has-in [] b r = or-l (eqb b b) (has r b) (eqb-refl b)
+has-in (a ∷ l) b r = or-r (eqb a b) (has (l ++ (b ∷ r)) b) (has-in l b r)
 
 -- the answer of the solver behind a branch's set
 pub branch-answer : (j : Job) (c : Context) (u b : ℕ) (set : ℕ → Bool) → tryBranch j c u b ≡ some set
@@ -247,7 +248,7 @@ module _ (j : Job) (pauli : Bool) (gone : ℕ → Bool) (u : ℕ) where
   try-sound h m set e =
       let f = try-first set e in
       let (x, a, w) = branch-answer j here u (f .branch) set (f .gave) in
-      fits-ok (f .branch) (branch-own (j .measured u) (f .branch) m (rw (f .row) (listed-in (f .earlier) (f .branch) (f .later)))) h set
+      fits-ok (f .branch) (branch-own (j .measured u) (f .branch) m (rw (f .row) (has-in (f .earlier) (f .branch) (f .later)))) h set
       (subst (λ (z : ℕ → Bool). Fits j here u (f .branch) z) (sym w) (some-fits j here u (f .branch) h no-lower-u no-column-u x a))
 
   -- where a column is left, a node with a right set is solved

@@ -1,4 +1,5 @@
 pub mod Bit
-pub mod Row
+pub mod Lists
 pub mod NodeSet
+pub mod Row
 pub mod SetTable

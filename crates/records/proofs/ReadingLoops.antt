@@ -11,7 +11,8 @@ use lib.Dec.{eqb, leb}
 use lib.ListN.{length, getD, drop, drop-of-length-le}
 use lib.Seq.{drop-cons}
 use Rattle.nodes.specs.NodeSet.{highest}
-use Rattle.records.specs.JobFile.{all, rises, pairsRise, has, allows, allAllowed}
+use Rattle.nodes.specs.Lists.{has}
+use Rattle.records.specs.JobFile.{all, rises, pairsRise, allows, allAllowed}
 
 pub rest-none : (l : List ℕ) (i : ℕ) → length l ≤ i → drop i l ≡ []
 rest-none l i h = drop-of-length-le l h

@@ -11,7 +11,8 @@ use lib.ListN.{length, getD}
 use Rattle.nodes.specs.NodeSet.{highest}
 use Rattle.records.specs.Answer.{Answer, gives, refuses, refusal, no, passed}
 use Rattle.records.specs.Records.{Part, part, checked, kindOpen}
-use Rattle.records.specs.JobFile.{mostNodes, all, has, rises, openNo, nodesNo}
+use Rattle.nodes.specs.Lists.{has}
+use Rattle.records.specs.JobFile.{mostNodes, all, rises, openNo, nodesNo}
 use Rattle.records.specs.Refusals.{refusalOf}
 use Rattle.records.specs.Views.{bytesAt, Lies, checkedOf, partAt, partOf, Inside}
 use Rattle.records.specs.declared.common.Refused.{Refused}

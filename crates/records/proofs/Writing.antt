@@ -19,7 +19,8 @@ use Rattle.flows.specs.Job.{Job}
 use Rattle.flows.specs.Search.{Progress}
 use Rattle.records.specs.Answer.{gives}
 use Rattle.records.specs.Records.{part, checked, written, kindLayers, kindSets, kindNoFlow}
-use Rattle.records.specs.JobFile.{mostNodes, all, has, rises}
+use Rattle.nodes.specs.Lists.{has}
+use Rattle.records.specs.JobFile.{mostNodes, all, rises}
 use Rattle.records.specs.FlowFile.{SetEntry, allEntries, entryBelow, entriesRise, FlowFile, readFlow, setIn, entryIn, flowOf}
 use Rattle.records.specs.Encoding.{entryBytes, flowFileBytes, ValidFlow, entriesFor, foundFlow}
 use Rattle.records.specs.Writing.{setBytes, flowBytes, mostOutput}

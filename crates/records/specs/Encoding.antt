@@ -10,7 +10,8 @@ use Rattle.solver.specs.WorkMatrix.{listOf}
 use Rattle.flows.specs.Job.{Job}
 use Rattle.flows.specs.Search.{Progress}
 use Rattle.records.specs.Records.{written, kindOpen, kindEdges, kindInputs, kindOutputs, kindMeasurements, kindLayers, kindSets}
-use Rattle.records.specs.JobFile.{JobFile, mostNodes, modeCausal, modePauli, all, has, rises, pairsRise, allAllowed}
+use Rattle.nodes.specs.Lists.{has}
+use Rattle.records.specs.JobFile.{JobFile, mostNodes, modeCausal, modePauli, all, rises, pairsRise, allAllowed}
 use Rattle.records.specs.FlowFile.{SetEntry, FlowFile, allEntries, entryBelow, entriesRise}
 
 -- ---- jobs

@@ -4,6 +4,7 @@ use mathlib.Core.Bool.{Bool, true, false, cond, _&&_, _||_}
 use mathlib.Core.List.{List, [], _∷_}
 use lib.Dec.{eqb, ltb, leb}
 use lib.ListN.{length, getD}
+use Rattle.nodes.specs.Lists.{has}
 use Rattle.flows.specs.Job.{Job, planeXY, planeXZ, pauliZ}
 use Rattle.records.specs.Answer.{Answer, gives, no, _>>=_}
 use Rattle.records.specs.Records.{checked, kindOpen, kindEdges, kindInputs, kindOutputs, kindMeasurements}
@@ -25,11 +26,6 @@ modePauli = 3
 unfoldable pub all : (ℕ → Bool) → List ℕ → Bool
 all p [] = true
 all p (x ∷ l) = p x && all p l
-
--- u stands in the list
-unfoldable pub has : List ℕ → ℕ → Bool
-has [] u = false
-has (a ∷ l) u = eqb a u || has l u
 
 -- strictly ascending, from `low` on
 unfoldable pub rises : ℕ → List ℕ → Bool

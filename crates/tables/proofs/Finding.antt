@@ -26,7 +26,8 @@ use Rattle.finder.specs.declared.gflow.Search.the-variants.{Flow, NoFlow, Wrong
 use Rattle.finder.proofs.Below.{progress-below}
 use Rattle.records.specs.Answer.{Refusal, Answer, gives, refuses, refusal}
 use Rattle.records.specs.Records.{written, kindNoFlow}
-use Rattle.records.specs.JobFile.{JobFile, has, joined, readJob, modePlanes, modePauli, measuredOf, jobOf}
+use Rattle.nodes.specs.Lists.{has}
+use Rattle.records.specs.JobFile.{JobFile, joined, readJob, modePlanes, modePauli, measuredOf, jobOf}
 use Rattle.records.specs.Encoding.{ValidJob}
 use Rattle.records.specs.Writing.{flowBytes}
 use Rattle.tables.specs.Loading.{room}

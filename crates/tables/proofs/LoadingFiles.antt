@@ -12,7 +12,8 @@ use Rattle.nodes.specs.NodeSet.{capacity}
 use Rattle.flows.specs.Job.{Job}
 use Rattle.records.specs.Answer.{Refusal, refusal, gives, refuses}
 use Rattle.records.specs.Records.{written, kindAccepted}
-use Rattle.records.specs.JobFile.{JobFile, mostNodes, modeCausal, measuredOf, all, has, joined, readJob, jobOf}
+use Rattle.nodes.specs.Lists.{has}
+use Rattle.records.specs.JobFile.{JobFile, mostNodes, modeCausal, measuredOf, all, joined, readJob, jobOf}
 use Rattle.records.specs.FlowFile.{SetEntry, FlowFile, Flow, framed, listed, allEntries, entryBelow, readFlow, setIn, entryIn, flowOf}
 use Rattle.verdicts.specs.Verdict.{verify}
 use Rattle.verdicts.specs.Calls.{verdict, verifyAsks, put, verifyCall}

@@ -7,7 +7,8 @@ use borrow.Author.Tests.{ltb-true}
 use lib.Dec.{eqb, ltb}
 use lib.ListN.{length, getD, drop}
 use Rattle.nodes.proofs.Logic.{or-none, eqb-comm}
-use Rattle.records.specs.JobFile.{all, has}
+use Rattle.nodes.specs.Lists.{has}
+use Rattle.records.specs.JobFile.{all}
 use Rattle.records.specs.FlowFile.{SetEntry, entriesOf, framed, listed, allEntries, entryBelow, setIn, entryIn}
 use Rattle.records.specs.Views.{between}
 use Rattle.records.proofs.Records.{and-out}

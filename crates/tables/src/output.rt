@@ -24,10 +24,10 @@ pub const MOST_OUTPUT: usize = 16780;
 // The bytes of 001F.
 pub const REFUSAL_BYTES: usize = HEAD_BYTES + 3;
 
-// How many bytes were written; or the refusal whose record was; or that the buffer is too small for some output.
+// How many bytes were written: of a result, or of 001F; or that the buffer is too small for some output.
 pub enum Output {
     Wrote(usize),
-    Refused(Refused),
+    Refused(usize),
     NoRoom,
 }
 
@@ -64,7 +64,7 @@ pub fn find_bytes(input: &[u8], out: &mut [u8]) -> Output
         Reply::Wrote(k) => Output::Wrote(k),
         Reply::Refused(q) => {
             write_refusal(out, q);
-            Output::Refused(q)
+            Output::Refused(REFUSAL_BYTES)
         }
     }
 }
@@ -82,7 +82,7 @@ pub fn verify_bytes(input: &[u8], out: &mut [u8]) -> Output
         Reply::Wrote(k) => Output::Wrote(k),
         Reply::Refused(q) => {
             write_refusal(out, q);
-            Output::Refused(q)
+            Output::Refused(REFUSAL_BYTES)
         }
     }
 }

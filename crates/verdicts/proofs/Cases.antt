@@ -14,14 +14,16 @@ use Rattle.flows.specs.Branch.{branches, firstSolvable}
 use Rattle.flows.specs.Search.{rounds}
 use Rattle.records.specs.Answer.{gives}
 use Rattle.records.specs.Records.{lengthField, part, checked, written}
-use Rattle.records.specs.JobFile.{JobFile, all, has, rises, pairsRise, allows, allAllowed, openNo, edgesNo, nodesNo, measurementsNo, readJob, readEdges, readInputs, readOutputs, readMeasurements, joined, jobOf}
+use Rattle.nodes.specs.Lists.{has}
+use Rattle.records.specs.JobFile.{JobFile, all, rises, pairsRise, allows, allAllowed, openNo, edgesNo, nodesNo, measurementsNo, readJob, readEdges, readInputs, readOutputs, readMeasurements, joined, jobOf}
 use Rattle.records.specs.FlowFile.{FlowFile, entriesIn, allEntries, entriesRise, layersNo, setsNo, readFlow, readSets, setIn, entryIn, flowOf}
 use Rattle.verdicts.specs.Verdict.{eachFrom, nodeAsk, causalAsk, verify}
 use Rattle.verdicts.specs.Calls.{findAsks, verifyAsks}
 use Rattle.records.specs.Writing.{setBytes}
 use Rattle.verdicts.specs.Programs.{findProgram, verifyProgram}
 use Rattle.verdicts.specs.Published.{PlaneFlow}
-use Rattle.verdicts.specs.Cases.{equal, allHold, cases, jobF, flowF}
+use Rattle.nodes.specs.Lists.{equal}
+use Rattle.verdicts.specs.Cases.{allHold, cases, jobF, flowF}
 
 pub cases-hold : T (allHold cases)
 unfolding

@@ -3,7 +3,7 @@ use Prim.Native.Nat.{ℕ, _≤_, _<_}
 use mathlib.Core.Path.{_≡_, refl, sym, ap, ap₂, _∙_, subst, fun-ext}
 use mathlib.Core.Bool.{Bool, false, not, _&&_, _||_}
 use mathlib.Core.Option.{Option, none, some, Option·none-ne-some}
-use mathlib.Core.List.{List, [], _∷_}
+use mathlib.Core.List.{List, []}
 use mathlib.Core.Logic.{_⊎_, inl, inr}
 use native.Mathlib.Omega.{arith}
 use lib.Dec.{T, eqb, ltb, eqb→eq, ltb→lt}
@@ -15,11 +15,11 @@ use Rattle.flows.specs.Job.{Job}
 use Rattle.flows.specs.Branch.{Context, branches, systemAt, sideAt, inSet, withNode, tryBranch}
 use Rattle.flows.specs.Search.{Progress}
 use Rattle.flows.proofs.Branch.{put-out}
-use Rattle.flows.proofs.Table.{listed}
 use Rattle.flows.proofs.Tries.{contextAt, tryAt, planes-context, FirstOf, try-first, branch-answer, no-column-u}
 use Rattle.flows.proofs.Flows.{findAt, earlierThan, Found, found-flow, try-ext}
 use Rattle.records.specs.Answer.{Answer as Reply, gives, refuses}
-use Rattle.records.specs.JobFile.{JobFile, readJob, jobOf, modePlanes, modePauli, has}
+use Rattle.nodes.specs.Lists.{has}
+use Rattle.records.specs.JobFile.{JobFile, readJob, jobOf, modePlanes, modePauli}
 use Rattle.records.specs.FlowFile.{FlowFile, flowOf, readFlow}
 use Rattle.records.specs.Encoding.{foundFlow}
 use Rattle.verdicts.specs.Calls.{findCall, findAsks, findOutcome, foundBytes, zeros}
@@ -30,11 +30,6 @@ use Rattle.records.proofs.Records.{give-inj, never}
 use Rattle.records.proofs.FlowFile.{members-below, nodes-below}
 use Rattle.records.proofs.Writing.{found-valid, found-layer, found-entry, found-set, no-flow-unread}
 use Rattle.verdicts.proofs.Demand.{asked-find, put-fits, reads-back, wrote-none, found-cases}
-
-listed-has : (l : List ℕ) (b : ℕ) → listed l b ≡ has l b
-unfolding listed has
-listed-has [] b = refl
-listed-has (a ∷ l) b = rw (listed-has l b)
 
 -- a branch that gives nothing has no solution
 none-solves : (j : Job) (c : Context) (u b : ℕ) → tryBranch j c u b ≡ none → (x : ℕ → Bool) → Solves (systemAt j c) (j .nodes) (sideAt j u b) x → ⊥
@@ -108,7 +103,7 @@ module _ (f : JobFile) (searched : (f .mode ≡ modePlanes) ⊎ (f .mode ≡ mod
         later = first .later;
         row = first .row;
         unsolvable = λ b t. subst (λ (c : Context). (x : ℕ → Bool) → Solves (systemAt j c) (f .n) (sideAt j u b) x → ⊥) here
-            (none-solves j (contextAt j pauli gone u) u b (first .unsolvable b (rw (listed-has (first .earlier) b) t)));
+            (none-solves j (contextAt j pauli gone u) u b (first .unsolvable b t));
         self = own-member;
         answer = subst (λ (c : Context). Answer (systemAt j c) (f .n) (sideAt j u (first .branch)) (others g u)) here
             (subst (Answer (systemAt j (contextAt j pauli gone u)) (j .nodes) (sideAt j u (first .branch))) (sym the-others) a);

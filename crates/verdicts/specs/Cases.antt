@@ -2,7 +2,7 @@
 use Prim.Native.Nat.{ℕ}
 use mathlib.Core.Bool.{Bool, true, false, _&&_}
 use mathlib.Core.List.{List, [], _∷_, _++_}
-use lib.Dec.{eqb}
+use Rattle.nodes.specs.Lists.{equal}
 use Rattle.solver.specs.WorkMatrix.{listOf}
 use Rattle.solver.specs.Solver as Solver
 use Rattle.solver.specs.declared.gf2_linalg.Solved.{Solved}
@@ -17,12 +17,6 @@ pub data Case : Type 0 where
   verifier : (job flow wrote : List ℕ) → Case
   -- the solver answers so on these rows, and leaves the out bits so; before, they are all 1
   solver : (matrix : List ℕ) (rows cols sides side : ℕ) (solvable : Bool) (out : List ℕ) → Case
-
-unfoldable pub equal : List ℕ → List ℕ → Bool
-equal [] [] = true
-equal [] (b ∷ m) = false
-equal (a ∷ l) [] = false
-equal (a ∷ l) (b ∷ m) = eqb a b && equal l m
 
 abbrev pub accepts : List ℕ → List ℕ → Bool
 accepts job flow = equal (verifyProgram (job ++ flow)) (written kindAccepted [])

@@ -10,7 +10,8 @@ use Rattle.flows.specs.Branch.{Context, branches, systemAt, sideAt, inSet}
 use Rattle.flows.specs.Planes as Planes
 use Rattle.flows.specs.Paulis as Paulis
 use Rattle.records.specs.Answer.{gives}
-use Rattle.records.specs.JobFile.{JobFile, readJob, jobOf, measuredOf, modePlanes, has}
+use Rattle.nodes.specs.Lists.{has}
+use Rattle.records.specs.JobFile.{JobFile, readJob, jobOf, measuredOf, modePlanes}
 use Rattle.records.specs.FlowFile.{FlowFile, flowOf}
 use Rattle.verdicts.specs.Calls.{findCall}
 use Rattle.verdicts.specs.Demand.{FlowBytes, layerIn}

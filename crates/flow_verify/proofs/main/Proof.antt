@@ -45,15 +45,18 @@ slice-aggregate-write-all c = let few : c .before .before .k .given .0 .0 ≤ mo
 write-all-requires : tie.Need-write-all-requires
 write-all-requires c κs = search needs
 
-enum-told : tie.Need-enum-told
-enum-told c = search needs
+enum-known-k-2 : tie.Need-enum-known-k-2
+enum-known-k-2 c = search needs
 
 array-share-prefix-out-2 : tie.Need-array-share-prefix-out-2
-array-share-prefix-out-2 c = search needs
+array-share-prefix-out-2 c = let few : c .before .k2 .given .0 .0 ≤ mostOutput = subst InRoom (c .before .k2 .given .1) (c .before .before .before .before .verify-bytes .ensures .1) in
+    let size : length (c .before .before .before .before .verify-bytes .last .1 .0) ≡ mostOutput = search (needs, c .before .before .before .out2 .given) in
+    omega arith
 
 slice-aggregate-write-all-2 : tie.Need-slice-aggregate-write-all-2
-slice-aggregate-write-all-2 c = let size : length (c .before .before .before .before .verify-bytes .last .1 .0) ≡ mostOutput = search (needs, c .before .before .before .out2 .given) in
-    sym (length-take-le 9 (c .before .before .before .before .verify-bytes .last .1 .0) (omega arith))
+slice-aggregate-write-all-2 c = let few : c .before .before .k2 .given .0 .0 ≤ mostOutput = subst InRoom (c .before .before .k2 .given .1) (c .before .before .before .before .before .verify-bytes .ensures .1) in
+    let size : length (c .before .before .before .before .before .verify-bytes .last .1 .0) ≡ mostOutput = search (needs, c .before .before .before .before .out2 .given) in
+    sym (length-take-le (c .before .before .k2 .given .0 .0) (c .before .before .before .before .before .verify-bytes .last .1 .0) (omega arith))
 
 write-all-requires-2 : tie.Need-write-all-requires-2
 write-all-requires-2 c κs = search needs
@@ -86,8 +89,8 @@ slice-aggregate-write-all-3 c = let few : c .before .before .message .result ≤
 write-all-requires-3 : tie.Need-write-all-requires-3
 write-all-requires-3 c κs = search needs
 
-enum-told-2 : tie.Need-enum-told-2
-enum-told-2 c = search needs
+enum-told : tie.Need-enum-told
+enum-told c = search needs
 
 returns : tie.Need-returns
 returns c = search needs
@@ -112,7 +115,7 @@ main-spec =
     array-share-prefix-out
     slice-aggregate-write-all
     write-all-requires
-    enum-told
+    enum-known-k-2
     array-share-prefix-out-2
     slice-aggregate-write-all-2
     write-all-requires-2
@@ -124,7 +127,7 @@ main-spec =
     array-share-prefix-line
     slice-aggregate-write-all-3
     write-all-requires-3
-    enum-told-2
+    enum-told
     returns
     returns-2
     returns-3)

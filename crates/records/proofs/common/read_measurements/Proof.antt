@@ -1,6 +1,7 @@
 use mathlib.Core.Path.{_≡_, refl, _∙_, fun-ext}
 use Rattle.nodes.specs.NodeSet.{member}
-use Rattle.records.specs.JobFile.{has, readMeasurements}
+use Rattle.nodes.specs.Lists.{has}
+use Rattle.records.specs.JobFile.{readMeasurements}
 use Rattle.records.specs.Views.{bytesAt}
 use Rattle.records.proofs.ReadingRecords.{found-part, found-no, inside-of, has-small}
 use borrow.Author.Needs.{needs}

@@ -9,7 +9,7 @@ use Rattle.nodes.specs.NodeSet.{member, highest, capacity}
 use Rattle.nodes.specs.SetTable.{setWords, setAt}
 use Rattle.nodes.proofs.Logic.{and-all}
 use Rattle.finder.specs.Finder.{tableWords}
-use Rattle.records.specs.JobFile.{has}
+use Rattle.nodes.specs.Lists.{has}
 use Rattle.records.specs.FlowFile.{entriesOf, framed, listed, allEntries, entryBelow, setIn, entryIn}
 use Rattle.records.specs.Views.{between}
 use Rattle.records.proofs.ReadingEntries.{two-more, fits, framed-next}

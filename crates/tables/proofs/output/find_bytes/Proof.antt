@@ -9,7 +9,7 @@ use Rattle.tables.specs.declared.Reply.{Reply}
 use Rattle.verdicts.specs.Calls.{workBytes, zeros, Outcome, findAsks, findCall}
 use Rattle.verdicts.specs.Programs.{judgedBytes, findProgram}
 use Rattle.tables.specs.Replies.{replyOf}
-use Rattle.tables.specs.Printing.{findAnswer}
+use Rattle.tables.specs.Printing.{isRefusal}
 use Rattle.tables.proofs.Finding.{zeros-same}
 use Rattle.tables.proofs.Printing.{first-bytes, no-room, find-prints, find-tells}
 use Rattle.tables.proofs.output.find_bytes.Statement.{statement}
@@ -17,7 +17,7 @@ use Rattle.tables.proofs.output.find_bytes.Tie as tie
 
 returns : tie.Need-returns
 returns c = let a = c .before .before .before .args in
-    (no-room (findAnswer (findAsks (take judgedBytes (a .input .now)) (zeros workBytes))) (findProgram (a .input .now)) (a .out .now) (omega arith), tt)
+    (no-room (isRefusal (findAsks (take judgedBytes (a .input .now)) (zeros workBytes))) (findProgram (a .input .now)) (a .out .now) (omega arith), tt)
 
 judged-requires : tie.Need-judged-requires
 judged-requires c κs = search needs
@@ -68,7 +68,7 @@ returns-3 c = let a = c .before .before .before .before .before .before .before 
     let r = c .before .before .before .before .before .before .before .before .before .before .find in
     let here = ap {B = Outcome} (λ (x : Reply). record { answer = replyOf x; work = r .last .1 .0; out = r .last .1 .1 .0 }) (sym (c .before .before .before .before .before .q .given .1)) in
     let call = here ∙ r .ensures ∙ ap₂ (λ (s w : List ℕ). findCall s w (a .out .now)) (first-bytes judgedBytes (c .before .before .before .before .before .before .before .before .before .before .before .before .before .before .judged .result) l (c .before .before .before .before .before .before .before .before .before .before .before .before .before .before .judged .ensures)) (zeros-same workBytes) in
-    (find-tells (take judgedBytes l) (zeros workBytes) (a .out .now) (r .last .1 .1 .0) (r .last .1 .0) (omega arith) (refusalOf (c .before .before .before .before .before .q .given .0 .0)) (c .before .before .write-refusal .last .0) call (c .before .before .write-refusal .ensures), tt)
+    find-tells (take judgedBytes l) (zeros workBytes) (a .out .now) (r .last .1 .1 .0) (r .last .1 .0) (omega arith) (refusalOf (c .before .before .before .before .before .q .given .0 .0)) (c .before .before .write-refusal .last .0) call (c .before .before .write-refusal .ensures)
 
 pub find-bytes-spec : {M : Type 1} → statement M
 find-bytes-spec =

@@ -9,14 +9,14 @@ use Rattle.tables.specs.declared.Reply.{Reply}
 use Rattle.verdicts.specs.Calls.{Outcome, verifyAsks, verifyCall}
 use Rattle.verdicts.specs.Programs.{judgedBytes, verifyProgram}
 use Rattle.tables.specs.Replies.{replyOf}
-use Rattle.tables.specs.Printing.{verifyAnswer}
+use Rattle.tables.specs.Printing.{isRefusal}
 use Rattle.tables.proofs.Printing.{first-bytes, no-room, verify-prints, verify-tells}
 use Rattle.tables.proofs.output.verify_bytes.Statement.{statement}
 use Rattle.tables.proofs.output.verify_bytes.Tie as tie
 
 returns : tie.Need-returns
 returns c = let a = c .before .before .before .args in
-    (no-room (verifyAnswer (verifyAsks (take judgedBytes (a .input .now)))) (verifyProgram (a .input .now)) (a .out .now) (omega arith), tt)
+    (no-room (isRefusal (verifyAsks (take judgedBytes (a .input .now)))) (verifyProgram (a .input .now)) (a .out .now) (omega arith), tt)
 
 judged-requires : tie.Need-judged-requires
 judged-requires c κs = search needs
@@ -64,7 +64,7 @@ returns-3 c = let a = c .before .before .before .before .before .before .before 
     let r = c .before .before .before .before .before .before .before .before .before .verify in
     let here = ap {B = Outcome} (λ (x : Reply). record { answer = replyOf x; work = []; out = r .last .1 .0 }) (sym (c .before .before .before .before .before .q .given .1)) in
     let call = here ∙ r .ensures ∙ ap (λ (s : List ℕ). verifyCall s (a .out .now)) (first-bytes judgedBytes (c .before .before .before .before .before .before .before .before .before .before .before .before .judged .result) l (c .before .before .before .before .before .before .before .before .before .before .before .before .judged .ensures)) in
-    (verify-tells (take judgedBytes l) (a .out .now) (r .last .1 .0) [] (omega arith) (refusalOf (c .before .before .before .before .before .q .given .0 .0)) (c .before .before .write-refusal .last .0) call (c .before .before .write-refusal .ensures), tt)
+    verify-tells (take judgedBytes l) (a .out .now) (r .last .1 .0) [] (omega arith) (refusalOf (c .before .before .before .before .before .q .given .0 .0)) (c .before .before .write-refusal .last .0) call (c .before .before .write-refusal .ensures)
 
 pub verify-bytes-spec : {M : Type 1} → statement M
 verify-bytes-spec =
