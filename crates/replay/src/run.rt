@@ -137,10 +137,7 @@ fn solve_rows(
     let side = two_bytes(shape[6], shape[7]);
     let end = given.len();
     let out_len = e.out_len;
-    if end > matrix.len() {
-        return false;
-    }
-    if out_len > bits.len() {
+    if end > matrix.len() || out_len > bits.len() {
         return false;
     }
     copy(given, matrix);
