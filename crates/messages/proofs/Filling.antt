@@ -11,7 +11,7 @@ use lib.Seq.{sets, drop-cons, sets-eq, take-append-seam}
 use borrow.Author.Tests.{le-leb, lt-leb, leb-true, ne-eqb}
 use Prim.Native.Char.{code}
 use Prim.Native.String.{String}
-use Rattle.messages.specs.Message.{questions, wordsIn, unknown, codes, digit, inDecimal, spelled, filled, template, beginning, line, lineRoom, roomFor, Written, putFirst}
+use Rattle.messages.specs.Message.{questions, wordsIn, unknown, codes, digit, inDecimal, spelled, filled, template, beginning, line, lineRoom, roomFor, Written, putWhole}
 
 -- ---- one thing written after the other
 pub sets-append : (l xs ys : List ℕ) (at : ℕ) → sets l at (xs ++ ys) ≡ sets (sets l at xs) (at + length xs) ys
@@ -37,13 +37,13 @@ pub front-put : (bytes out : List ℕ) → length bytes ≤ length out → sets 
 front-put bytes out h =
     sets-eq bytes out 0 (omega arith) ∙ ap (λ (k : ℕ). bytes ++ drop k out) (zero-add (length bytes))
 
-pub front-short : (bytes out : List ℕ) → length out < length bytes → _≡_ {A = Written} (record { count = 0; out = out }) (putFirst bytes out)
-unfolding putFirst
+pub front-short : (bytes out : List ℕ) → length out < length bytes → _≡_ {A = Written} (record { count = 0; out = out }) (putWhole bytes out)
+unfolding putWhole
 front-short bytes out h = rw (lt-leb (length bytes) (length out) h) refl
 
 pub front-done : (bytes before out : List ℕ) (i : ℕ) → i ≡ length bytes → length bytes ≤ length before → sets out i (drop i bytes) ≡ sets before 0 bytes
-    → _≡_ {A = Written} (record { count = i; out = out }) (putFirst bytes before)
-unfolding putFirst
+    → _≡_ {A = Written} (record { count = i; out = out }) (putWhole bytes before)
+unfolding putWhole
 front-done bytes before out i e h p =
     ap₂ (λ (k : ℕ) (l : List ℕ). record { count = k; out = l }) e
     (sym (ap (sets out i) (drop-of-length-le bytes {i = i} (omega arith))) ∙ p ∙ front-put bytes before h)
@@ -160,12 +160,12 @@ module _ (number a b : ℕ) where
 
 -- ---- the words of a question
 pub asked : (number a b k : ℕ) (out : List ℕ) (w : Written) → number ≡ k
-    → w ≡ putFirst (filled number a b (template (codes (wordsIn questions k)))) out → w ≡ putFirst (line number a b) out
-asked number a b k out w e h = h ∙ ap (λ (n : ℕ). putFirst (filled number a b (template (codes (wordsIn questions n)))) out) (sym e)
+    → w ≡ putWhole (filled number a b (template (codes (wordsIn questions k)))) out → w ≡ putWhole (line number a b) out
+asked number a b k out w e h = h ∙ ap (λ (n : ℕ). putWhole (filled number a b (template (codes (wordsIn questions n)))) out) (sym e)
 
 pub unasked : (number a b : ℕ) (out : List ℕ) (w : Written) → wordsIn questions number ≡ unknown
-    → w ≡ putFirst (filled number a b (template (codes unknown))) out → w ≡ putFirst (line number a b) out
-unasked number a b out w e h = h ∙ ap (λ (s : String). putFirst (filled number a b (template (codes s))) out) (sym e)
+    → w ≡ putWhole (filled number a b (template (codes unknown))) out → w ≡ putWhole (line number a b) out
+unasked number a b out w e h = h ∙ ap (λ (s : String). putWhole (filled number a b (template (codes s))) out) (sym e)
 
 -- the last case of a match: the number is none of those before it
 abbrev NoneOf : ℕ → List (ℕ × String) → Type 0 → Type 0

@@ -8,7 +8,7 @@ use native.Mathlib.Omega.{arith}
 use borrow.Author.Tests.{le-leb, leb-true}
 use lib.Dec.{eqb, leb}
 use lib.ListN.{length, drop}
-use Rattle.messages.specs.Message.{questions, unknown, wordsIn, codes, inDecimal, spelled, filled, template, line, lineRoom, roomFor, Written, putFirst}
+use Rattle.messages.specs.Message.{questions, unknown, wordsIn, codes, inDecimal, spelled, filled, template, line, lineRoom, roomFor, Written, putWhole}
 use Rattle.messages.proofs.Filling.{filled-most}
 
 -- document 01's case M: 18, a=0, b=1
@@ -47,13 +47,13 @@ line-fits number a b = omega (arith, filled-most number a b words, leb-true (len
 
 -- so a buffer with that room always gets its line
 pub line-written : (number a b : ℕ) (out : List ℕ) → lineRoom ≤ length out
-    → putFirst (line number a b) out ≡ record { count = length (line number a b); out = line number a b ++ drop (length (line number a b)) out }
-unfolding putFirst
+    → putWhole (line number a b) out ≡ record { count = length (line number a b); out = line number a b ++ drop (length (line number a b)) out }
+unfolding putWhole
 line-written number a b out h = rw (le-leb (length (line number a b)) (length out) (omega (arith, line-fits number a b))) refl
 
 -- what is counted lies in the buffer
-pub written-few : (bytes out : List ℕ) (w : Written) → w ≡ putFirst bytes out → w .count ≤ length out
-unfolding putFirst
+pub written-few : (bytes out : List ℕ) (w : Written) → w ≡ putWhole bytes out → w .count ≤ length out
+unfolding putWhole
 written-few bytes out w e = subst (λ (w : Written). w .count ≤ length out) (sym e) (by (leb (length bytes) (length out)) refl)
   where
     by : (t : Bool) → leb (length bytes) (length out) ≡ t → cond {A = Written} t (record { count = length bytes; out = bytes ++ drop (length bytes) out }) (record { count = 0; out = out }) .count ≤ length out

@@ -94,8 +94,8 @@ pub record Written : Type 0 where
   pub out : List ℕ
 
 -- bytes at the front of a buffer, where they fit
-unfoldable pub putFirst : (bytes out : List ℕ) → Written
-putFirst bytes out =
+unfoldable pub putWhole : (bytes out : List ℕ) → Written
+putWhole bytes out =
     cond (leb (length bytes) (length out))
     (record { count = length bytes; out = bytes ++ drop (length bytes) out })
     (record { count = 0; out = out })

@@ -4,7 +4,7 @@ ghost use mathlib.Core.Bool.{true};
 ghost use Prim.Native.Nat.{_+_, _<_, _≤_};
 ghost use lib.ListN.{length};
 ghost use lib.Seq.{sets};
-ghost use Rattle.messages.specs.Message.{inDecimal, spelled, filled, template, line, roomFor, putFirst, bytesOf};
+ghost use Rattle.messages.specs.Message.{inDecimal, spelled, filled, template, line, roomFor, putWhole, bytesOf};
 ghost use Rattle.messages.specs.Message.{digit as Message·digit};
 
 // A buffer of so many bytes has room for every line.
@@ -104,7 +104,7 @@ fn put_filled(out: &mut [u8], at: usize, letters: &[u8], m: Numbers) -> usize
 
 // All bytes at the front of the buffer, where they fit; how many were written.
 fn put_first(out: &mut [u8], bytes: &[u8]) -> usize
-    ensures { λ r. ⌜ record { count = r; out = now (out .exit) } ≡ putFirst (now (bytes .entry)) (now (out .entry)) ⌝ }
+    ensures { λ r. ⌜ record { count = r; out = now (out .exit) } ≡ putWhole (now (bytes .entry)) (now (out .entry)) ⌝ }
 {
     if out.len() < bytes.len() {
         return 0;
@@ -120,7 +120,7 @@ fn put_first(out: &mut [u8], bytes: &[u8]) -> usize
 // The whole line with these words, where it fits.
 fn put_line(out: &mut [u8], words: &[u8], m: Numbers) -> usize
     requires { ⌜ roomFor (now words) ≡ true ⌝ }
-    ensures { λ r. ⌜ record { count = r; out = now (out .exit) } ≡ putFirst (filled (m .number) (m .a) (m .b) (template (now (words .entry)))) (now (out .entry)) ⌝ }
+    ensures { λ r. ⌜ record { count = r; out = now (out .exit) } ≡ putWhole (filled (m .number) (m .a) (m .b) (template (now (words .entry)))) (now (out .entry)) ⌝ }
 {
     let mut line = [0u8; LINE_ROOM];
     let start = put_filled(&mut line, 0, b"refused N: ", m);
@@ -131,7 +131,7 @@ fn put_line(out: &mut [u8], words: &[u8], m: Numbers) -> usize
 
 // The line of a refusal at the front of the buffer; how many bytes it takes, or 0 where it does not fit.
 pub fn message(number: u8, a: u8, b: u8, out: &mut [u8]) -> usize
-    ensures { λ r. ⌜ record { count = r; out = now (out .exit) } ≡ putFirst (line number a b) (now (out .entry)) ⌝ }
+    ensures { λ r. ⌜ record { count = r; out = now (out .exit) } ≡ putWhole (line number a b) (now (out .entry)) ⌝ }
 {
     let m = Numbers { number, a, b };
     match number {

@@ -4,18 +4,17 @@ use Prim.Native.Nat.{ℕ, zero, suc, _≤_, _<_}
 use mathlib.Core.Path.{_≡_, refl, sym, ap, ap₂, _∙_, fun-ext}
 use mathlib.Core.Bool.{Bool, true, false, cond, not, _&&_, _||_}
 use mathlib.Core.Option.{none, some}
-use mathlib.Core.List.{List, [], _∷_, _++_}
+use mathlib.Core.List.{List, [], _++_}
 use native.Mathlib.Omega.{arith}
 use borrow.Author.Tests.{le-leb, eq-eqb, eqb-true}
 use lib.Dec.{T, eqb, leb, ltb}
 use lib.ListN.{length, getD, drop}
 use Rattle.nodes.specs.Row.{allBelow}
 use Rattle.nodes.specs.NodeSet.{member, highest, capacity}
-use Rattle.nodes.specs.SetTable.{setAt, zeros as replicated}
+use Rattle.nodes.specs.SetTable.{setAt}
 use Rattle.nodes.specs.declared.utils.NodeSet.{NodeSet}
 use Rattle.nodes.proofs.Logic.{is-true}
 use Rattle.nodes.proofs.Row.{all-in}
-use Rattle.solver.specs.WorkMatrix.{listOf}
 use Rattle.flows.specs.Job.{Job}
 use Rattle.flows.specs.Search.{Progress, found}
 use Rattle.flows.specs.Planes as Planes
@@ -36,16 +35,11 @@ use Rattle.records.proofs.JobFile.{job-asked, measured-plane}
 use Rattle.records.proofs.ReadingRecords.{has-small}
 use Rattle.tables.proofs.LoadingEdges.{room-enough}
 use Rattle.tables.proofs.Found.{found-written}
-use Rattle.verdicts.specs.Calls.{workBytes, zeros, foundBytes, Outcome, put, findAsks, findCall}
+use Rattle.nodes.specs.SetTable.{zeros}
+use Rattle.verdicts.specs.Calls.{workBytes, foundBytes, Outcome, put, findAsks, findCall}
 use Rattle.tables.specs.Replies.{putReply, recordsFor}
 
 -- ---- the buffers
--- n bytes of zero, said in two ways
-pub zeros-same : (n : ℕ) → replicated n ≡ zeros n
-unfolding listOf
-zeros-same zero = refl
-zeros-same (suc n) = ap (λ (l : List ℕ). 0 ∷ l) (zeros-same n)
-
 pub put-is : (b out : List ℕ) (answer : Answer ℕ) (o w work : List ℕ) → answer ≡ putReply (putCount b out) → o ≡ putFirst b out → work ≡ w
     → _≡_ {A = Outcome} (record { answer = answer; work = work; out = o }) (put w b out)
 unfolding put

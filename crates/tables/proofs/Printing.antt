@@ -21,7 +21,8 @@ use Rattle.records.specs.Splice.{putFirst}
 use Rattle.records.proofs.Records.{give-inj, never, written-length}
 use Rattle.records.proofs.JobFile.{job-asked}
 use Rattle.records.proofs.Writing.{found-most}
-use Rattle.verdicts.specs.Calls.{zeros, search, foundBytes, Outcome, put, findAsks, findOutcome, findCall, verifyAsks, verifyOutcome, verifyCall}
+use Rattle.nodes.specs.SetTable.{zeros}
+use Rattle.verdicts.specs.Calls.{search, foundBytes, Outcome, put, findAsks, findOutcome, findCall, verifyAsks, verifyOutcome, verifyCall}
 use Rattle.verdicts.specs.Programs.{refusalBytes, findOutput, verifyOutput}
 use Rattle.tables.specs.Printing.{Printed, printed, isRefusal}
 use Rattle.verdicts.proofs.Demand.{asked-find}

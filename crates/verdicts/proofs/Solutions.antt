@@ -22,7 +22,8 @@ use Rattle.nodes.specs.Lists.{has}
 use Rattle.records.specs.JobFile.{JobFile, readJob, jobOf, modePlanes, modePauli}
 use Rattle.records.specs.FlowFile.{FlowFile, flowOf, readFlow}
 use Rattle.records.specs.Encoding.{foundFlow}
-use Rattle.verdicts.specs.Calls.{findCall, findAsks, findOutcome, foundBytes, zeros}
+use Rattle.nodes.specs.SetTable.{zeros}
+use Rattle.verdicts.specs.Calls.{findCall, findAsks, findOutcome, foundBytes}
 use Rattle.verdicts.specs.Published.{Measured}
 use Rattle.verdicts.specs.Demand.{FlowBytes, layerIn}
 use Rattle.verdicts.specs.Solutions.{contextIn, others, TheSolution, Demand2}

@@ -5,7 +5,7 @@ use mathlib.Core.Option.{Option, none, some}
 use mathlib.Core.List.{List, [], _++_}
 use lib.Dec.{eqb, leb}
 use lib.ListN.{length, drop}
-use Rattle.solver.specs.WorkMatrix.{listOf}
+use Rattle.nodes.specs.SetTable.{zeros}
 use Rattle.solver.specs.Solver.{rowBytes, mostRows}
 use Rattle.flows.specs.Job.{Job}
 use Rattle.flows.specs.Search.{Progress}
@@ -65,9 +65,6 @@ put work result out =
     cond (leb (length result) (length out))
     (record { answer = gives (length result); work = work; out = result ++ drop (length result) out })
     (record { answer = refuses (refusal 20); work = work; out = out })
-
-abbrev pub zeros : ℕ → List ℕ
-zeros n = listOf n (λ k. 0)
 
 -- a refusal touches nothing, but 20 leaves the work buffer zero; so does an answer
 abbrev pub findOutcome : Answer JobFile → (work out : List ℕ) → Outcome

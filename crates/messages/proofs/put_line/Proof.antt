@@ -5,7 +5,7 @@ use native.Mathlib.Omega.{arith}
 use borrow.Author.Needs.{needs}
 use lib.ListN.{length, replicate, length-replicate}
 use lib.Seq.{length-take-le}
-use Rattle.messages.specs.Message.{codes, beginning, lineRoom, putFirst}
+use Rattle.messages.specs.Message.{codes, beginning, lineRoom, putWhole}
 use Rattle.messages.proofs.Filling.{whole-length, whole-put, whole-room}
 use Rattle.messages.proofs.put_line.Statement.{statement}
 use Rattle.messages.proofs.put_line.Tie as tie
@@ -79,7 +79,7 @@ returns c = let s = c .before .before .before .before .before .before .before .b
     let head = c .before .before .before .before .before .before .before .before .before .before .before .before .put-filled .ensures in
     let words = c .before .before .before .before .before .before .before .before .before .put-filled2 .ensures in
     c .before .before .put-first .ensures
-    ∙ ap (λ (l : List ℕ). putFirst l (a .out .now))
+    ∙ ap (λ (l : List ℕ). putWhole l (a .out .now))
     (whole-put (a .m .number) (a .m .a) (a .m .b) (codes beginning) (a .words .now) _ _ (replicate lineRoom 0) _ _ _ (omega (arith, room, whole-length (a .m .number) (a .m .a) (a .m .b) (codes beginning) (a .words .now), length-replicate {A = ℕ} lineRoom 0))
     (head .0) (head .1) (words .0) (words .1) (c .before .before .before .before .before .before .put-piece .ensures))
 

@@ -14,9 +14,10 @@ use Rattle.finder.specs.Finding.{Outcome, searched, searchCall}
 use Rattle.records.specs.JobFile.{JobFile, Measured, modePlanes, jobOf}
 use Rattle.records.specs.Views.{bytesAt, fileAt}
 use Rattle.records.specs.Splice.{putFirst, putCount}
-use Rattle.verdicts.specs.Calls.{workBytes, zeros, foundBytes}
+use Rattle.nodes.specs.SetTable.{zeros}
+use Rattle.verdicts.specs.Calls.{workBytes, foundBytes}
 use Rattle.tables.specs.Replies.{putReply, recordsFor}
-use Rattle.tables.proofs.Finding.{zeros-same, put-is, told-flow, told-none, told-right, valid, search-same, flow-written, none-written}
+use Rattle.tables.proofs.Finding.{put-is, told-flow, told-none, told-right, valid, search-same, flow-written, none-written}
 use Rattle.tables.proofs.find.find_job.Statement.{statement}
 use Rattle.tables.proofs.find.find_job.Tie as tie
 
@@ -132,7 +133,7 @@ returns c = let a = c .before .before .before .before .before .before .before .b
     let e = left (c .before .before .before .before .before .before .before .before) in
     let p = progressOf f in
     let told = sym (ap (λ (o : Outcome). o .answer) e) ∙ c .before .before .before .before .before .before .enum-told .given .1 in
-    let zero = ap (λ (o : Outcome). o .work) e ∙ zeros-same workBytes in
+    let zero = ap (λ (o : Outcome). o .work) e in
     let wrote = c .before .before .write-found in
     let outputs = c .before .before .before .before .before .before .before .before .before .before .before .before .before .before .before .before .before .before .before .before .nodes-at2 in
     let bytes =
@@ -153,7 +154,7 @@ returns-2 c = let a = c .before .before .before .before .before .before .before 
     let e = left (c .before .before .before .before .before .before) in
     let p = progressOf f in
     let told = sym (ap (λ (o : Outcome). o .answer) e) ∙ c .before .before .before .before .enum-told2 .given .1 in
-    let zero = ap (λ (o : Outcome). o .work) e ∙ zeros-same workBytes in
+    let zero = ap (λ (o : Outcome). o .work) e in
     let wrote = c .before .before .write-bare in
     let bytes = none-written s f (c .before .before .before .before .before .before .before .before .before .before .before .before .before .before .before .before .before .before .before .before .before .before .before .before .before .before .before .before .before .before .pre .0 .0) (told-none (f .n) (p .solved) told) in
     put-is (foundBytes f) (a .out .now) _ _ (zeros workBytes) _ (wrote .ensures .0 ∙ ap (λ (b : List ℕ). putReply (putCount b (a .out .now))) bytes) (wrote .ensures .1 ∙ ap (λ (b : List ℕ). putFirst b (a .out .now)) bytes) zero

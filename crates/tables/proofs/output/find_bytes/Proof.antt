@@ -1,16 +1,16 @@
 use Prim.Native.Nat.{ℕ}
-use mathlib.Core.Path.{sym, ap, ap₂, _∙_}
+use mathlib.Core.Path.{sym, ap, _∙_}
 use mathlib.Core.List.{List}
 use native.Mathlib.Omega.{arith}
 use borrow.Author.Needs.{needs}
 use lib.ListN.{take}
 use Rattle.records.specs.Refusals.{refusalOf}
 use Rattle.tables.specs.declared.Reply.{Reply}
-use Rattle.verdicts.specs.Calls.{workBytes, zeros, Outcome, findAsks, findCall}
+use Rattle.nodes.specs.SetTable.{zeros}
+use Rattle.verdicts.specs.Calls.{workBytes, Outcome, findAsks, findCall}
 use Rattle.verdicts.specs.Programs.{judgedBytes, findProgram}
 use Rattle.tables.specs.Replies.{replyOf}
 use Rattle.tables.specs.Printing.{isRefusal}
-use Rattle.tables.proofs.Finding.{zeros-same}
 use Rattle.tables.proofs.Printing.{first-bytes, no-room, find-prints, find-tells}
 use Rattle.tables.proofs.output.find_bytes.Statement.{statement}
 use Rattle.tables.proofs.output.find_bytes.Tie as tie
@@ -55,7 +55,7 @@ returns-2 c = let a = c .before .before .before .before .before .before .before 
     let l = a .input .now in
     let r = c .before .before .before .before .before .before .find in
     let here = ap {B = Outcome} (λ (x : Reply). record { answer = replyOf x; work = r .last .1 .0; out = r .last .1 .1 .0 }) (sym (c .before .k .given .1)) in
-    let call = here ∙ r .ensures ∙ ap₂ (λ (s w : List ℕ). findCall s w (a .out .now)) (first-bytes judgedBytes (c .before .before .before .before .before .before .before .before .before .before .judged .result) l (c .before .before .before .before .before .before .before .before .before .before .judged .ensures)) (zeros-same workBytes) in
+    let call = here ∙ r .ensures ∙ ap (λ (s : List ℕ). findCall s (zeros workBytes) (a .out .now)) (first-bytes judgedBytes (c .before .before .before .before .before .before .before .before .before .before .judged .result) l (c .before .before .before .before .before .before .before .before .before .before .judged .ensures)) in
     find-prints (take judgedBytes l) (zeros workBytes) (a .out .now) (r .last .1 .1 .0) (r .last .1 .0) (omega arith) (c .before .k .given .0 .0) call
 
 same-length-2 : tie.Need-same-length-2
@@ -67,7 +67,7 @@ returns-3 c = let a = c .before .before .before .before .before .before .before 
     let l = a .input .now in
     let r = c .before .before .before .before .before .before .before .before .before .before .find in
     let here = ap {B = Outcome} (λ (x : Reply). record { answer = replyOf x; work = r .last .1 .0; out = r .last .1 .1 .0 }) (sym (c .before .before .before .before .before .q .given .1)) in
-    let call = here ∙ r .ensures ∙ ap₂ (λ (s w : List ℕ). findCall s w (a .out .now)) (first-bytes judgedBytes (c .before .before .before .before .before .before .before .before .before .before .before .before .before .before .judged .result) l (c .before .before .before .before .before .before .before .before .before .before .before .before .before .before .judged .ensures)) (zeros-same workBytes) in
+    let call = here ∙ r .ensures ∙ ap (λ (s : List ℕ). findCall s (zeros workBytes) (a .out .now)) (first-bytes judgedBytes (c .before .before .before .before .before .before .before .before .before .before .before .before .before .before .judged .result) l (c .before .before .before .before .before .before .before .before .before .before .before .before .before .before .judged .ensures)) in
     find-tells (take judgedBytes l) (zeros workBytes) (a .out .now) (r .last .1 .1 .0) (r .last .1 .0) (omega arith) (refusalOf (c .before .before .before .before .before .q .given .0 .0)) (c .before .before .write-refusal .last .0) call (c .before .before .write-refusal .ensures)
 
 pub find-bytes-spec : {M : Type 1} → statement M
