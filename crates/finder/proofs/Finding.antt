@@ -28,7 +28,8 @@ use Rattle.solver.proofs.WorkMatrix.{digits-is}
 use Rattle.finder.specs.declared.gflow.Search.{Search}
 use Rattle.finder.specs.declared.gflow.Search.the-variants.{Flow, NoFlow}
 use Rattle.flows.specs.Search.{Progress, start}
-use Rattle.finder.specs.Finder.{jobIn, workBytes, tableWords, sizesFit, layerBytes, setTable, progressAt}
+use Rattle.solver.specs.Solver.{workBytes}
+use Rattle.finder.specs.Finder.{jobIn, tableWords, sizesFit, layerBytes, setTable, progressAt}
 use Rattle.flows.specs.Branch.{Context}
 use Rattle.finder.specs.Views.{contextOf, Within, RowsApart}
 use Rattle.finder.specs.declared.Sets.{Sets}

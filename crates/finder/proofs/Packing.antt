@@ -24,14 +24,13 @@ use Rattle.solver.specs.System.{System, solve}
 use Rattle.solver.specs.Reduced.{readOff}
 use Rattle.solver.specs.WorkMatrix.{entryOf, sideOf, bytesOf}
 use Rattle.solver.specs.Packed.{spread, spreadAll}
-use Rattle.solver.specs.Solver.{rowBytes, mostRows, mostColumns, fits, bothFit, Eliminated, MatrixAfter, Outcome, outcome, readOffCall}
+use Rattle.solver.specs.Solver.{rowBytes, mostRows, mostColumns, fits, bothFit, Eliminated, MatrixAfter, Outcome, outcome, readOffCall, workBytes}
 use Rattle.solver.specs.declared.gf2_linalg.Solved.{Solved}
 use Rattle.solver.specs.declared.gf2_linalg.Solved.the-variants.{Solvable, Unsolvable, WrongShape, NoSuchEquation}
 use Rattle.solver.proofs.Packed.{spread-answer}
 use Rattle.solver.proofs.Reduced.{plain, read-off}
 use Rattle.solver.proofs.WorkMatrix.{byte-at, bit-digits}
 use Rattle.flows.specs.Branch.{inSet, inOdd, systemAt, sideAt, withNode, tryBranch}
-use Rattle.finder.specs.Finder.{workBytes}
 use Rattle.finder.specs.Views.{contextOf, graphJob, rowsOf, columnsOf, Within, RowsApart, SidesApart, byRank, block, columnBit, sideBit, Added, coefficients, sideIn, sidesIn, gathered, rowsIn, answerIn, Opened}
 use Rattle.finder.specs.declared.Sets.{Sets}
 use Rattle.flows.proofs.Sizes.{count-disjoint, rows-count}

@@ -7,7 +7,7 @@ use lib.ListN.{length, getD}
 use Rattle.nodes.specs.NodeSet.{member, capacity, wordBits}
 use Rattle.nodes.specs.SetTable.{setWords, setAt}
 use Rattle.nodes.specs.declared.utils.NodeSet.{NodeSet}
-use Rattle.solver.specs.Solver.{rowBytes, mostRows}
+use Rattle.solver.specs.Solver.{workBytes}
 use Rattle.solver.specs.WorkMatrix.{digits, listOf}
 use Rattle.flows.specs.Job.{Job}
 use Rattle.flows.specs.Search.{Progress}
@@ -24,10 +24,7 @@ jobIn n graph inputs outputs measured = record {
   measured = λ u. getD measured u 0;
 }
 
--- the bytes of the work matrix, and the words of a table with a set for each node
-abbrev pub workBytes : ℕ
-workBytes = mostRows * rowBytes
-
+-- the words of a table with a set for each node
 abbrev pub tableWords : ℕ
 tableWords = capacity * setWords
 

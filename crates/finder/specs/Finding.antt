@@ -14,7 +14,8 @@ use Rattle.solver.specs.System.{isSome}
 use Rattle.flows.specs.Job.{Job, planeXY, planeYZ, planeXZ, pauliY, isXorY, isYorZ}
 use Rattle.flows.specs.Branch.{Context, branches, tryBranch, firstSolvable}
 use Rattle.flows.specs.Search.{Progress, orNone}
-use Rattle.finder.specs.Finder.{jobIn, workBytes, tableWords, sizesFit, layerBytes, setTable, progressAt}
+use Rattle.solver.specs.Solver.{workBytes}
+use Rattle.finder.specs.Finder.{jobIn, tableWords, sizesFit, layerBytes, setTable, progressAt}
 use Rattle.finder.specs.Views.{graphJob}
 use Rattle.finder.specs.declared.gflow.Search.{Search}
 use Rattle.finder.specs.declared.pflow.Kinds.{Kinds}

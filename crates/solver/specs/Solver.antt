@@ -27,6 +27,10 @@ mostRows = 128
 abbrev pub mostColumns : ℕ
 mostColumns = 8 * rowBytes
 
+-- the bytes of a work buffer: 128 rows of 128 bits
+abbrev pub workBytes : ℕ
+workBytes = mostRows * rowBytes
+
 -- ---- the questions
 -- is the matrix of exact length, and no more than 128 either way?
 unfoldable pub fits : List ℕ → ℕ → ℕ → ℕ → Bool

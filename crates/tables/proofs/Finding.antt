@@ -36,7 +36,8 @@ use Rattle.records.proofs.ReadingRecords.{has-small}
 use Rattle.tables.proofs.LoadingEdges.{room-enough}
 use Rattle.tables.proofs.Found.{found-written}
 use Rattle.nodes.specs.SetTable.{zeros}
-use Rattle.verdicts.specs.Calls.{workBytes, foundBytes, Outcome, put, findAsks, findCall}
+use Rattle.solver.specs.Solver.{workBytes}
+use Rattle.verdicts.specs.Calls.{foundBytes, Outcome, put, findAsks, findCall}
 use Rattle.tables.specs.Replies.{putReply, recordsFor}
 
 -- ---- the buffers

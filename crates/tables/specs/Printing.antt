@@ -8,7 +8,8 @@ use lib.ListN.{length, take, drop}
 use Rattle.records.specs.Answer.{Answer, gives, refuses}
 use Rattle.records.specs.Writing.{mostOutput}
 use Rattle.nodes.specs.SetTable.{zeros}
-use Rattle.verdicts.specs.Calls.{workBytes, findAsks, verifyAsks}
+use Rattle.solver.specs.Solver.{workBytes}
+use Rattle.verdicts.specs.Calls.{findAsks, verifyAsks}
 use Rattle.verdicts.specs.Programs.{judgedBytes, findProgram, verifyProgram}
 use Rattle.tables.specs.declared.output.Output.{Output}
 use Rattle.tables.specs.declared.output.Output.the-variants.{Wrote, Refused as Told, NoRoom}

@@ -27,7 +27,8 @@ use Rattle.records.specs.FlowFile.{FlowFile, readFlow, flowOf, nothingLeft}
 use Rattle.records.specs.Encoding.{ValidJob, foundFlow}
 use Rattle.verdicts.specs.Verdict.{verify, checkDomain, checkInitial, checkDefinition}
 use Rattle.nodes.specs.SetTable.{zeros}
-use Rattle.verdicts.specs.Calls.{Outcome, put, findOutcome, findAsks, findCall, foundBytes, search, workBytes}
+use Rattle.solver.specs.Solver.{workBytes}
+use Rattle.verdicts.specs.Calls.{Outcome, put, findOutcome, findAsks, findCall, foundBytes, search}
 use Rattle.records.specs.Writing.{flowBytes}
 use Rattle.verdicts.specs.Published.{Measured}
 use Rattle.verdicts.specs.Demand.{premise, Accepted, FlowBytes, layerIn, DemandHolds, Demand3}

@@ -6,7 +6,7 @@ use mathlib.Core.List.{List, [], _++_}
 use lib.Dec.{eqb, leb}
 use lib.ListN.{length, drop}
 use Rattle.nodes.specs.SetTable.{zeros}
-use Rattle.solver.specs.Solver.{rowBytes, mostRows}
+use Rattle.solver.specs.Solver.{workBytes}
 use Rattle.flows.specs.Job.{Job}
 use Rattle.flows.specs.Search.{Progress}
 use Rattle.flows.specs.Planes as Planes
@@ -17,10 +17,6 @@ use Rattle.records.specs.Writing.{flowBytes}
 use Rattle.records.specs.JobFile.{JobFile, readJob, jobOf, measuredOf, modePlanes, modePauli}
 use Rattle.records.specs.FlowFile.{readFlow, flowOf, nothingLeft, oneMember}
 use Rattle.verdicts.specs.Verdict.{verify}
-
--- the work buffer: 128 rows of 128 bits
-abbrev pub workBytes : ℕ
-workBytes = mostRows * rowBytes
 
 -- ---- what the finder writes
 -- mode 2 searches by planes, mode 3 by Paulis

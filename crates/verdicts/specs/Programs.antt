@@ -6,7 +6,8 @@ use Rattle.records.specs.Answer.{Refusal, Answer, gives, refuses}
 use Rattle.records.specs.Records.{written, kindAccepted, kindRefusal}
 use Rattle.records.specs.JobFile.{JobFile}
 use Rattle.nodes.specs.SetTable.{zeros}
-use Rattle.verdicts.specs.Calls.{workBytes, foundBytes, findAsks, verifyAsks}
+use Rattle.solver.specs.Solver.{workBytes}
+use Rattle.verdicts.specs.Calls.{foundBytes, findAsks, verifyAsks}
 
 -- each judges the first 65,536 bytes
 abbrev pub judgedBytes : ℕ

@@ -15,7 +15,8 @@ use Rattle.records.specs.JobFile.{JobFile, Measured, modePlanes, jobOf}
 use Rattle.records.specs.Views.{bytesAt, fileAt}
 use Rattle.records.specs.Splice.{putFirst, putCount}
 use Rattle.nodes.specs.SetTable.{zeros}
-use Rattle.verdicts.specs.Calls.{workBytes, foundBytes}
+use Rattle.solver.specs.Solver.{workBytes}
+use Rattle.verdicts.specs.Calls.{foundBytes}
 use Rattle.tables.specs.Replies.{putReply, recordsFor}
 use Rattle.tables.proofs.Finding.{put-is, told-flow, told-none, told-right, valid, search-same, flow-written, none-written}
 use Rattle.tables.proofs.find.find_job.Statement.{statement}

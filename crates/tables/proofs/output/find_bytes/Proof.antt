@@ -7,7 +7,8 @@ use lib.ListN.{take}
 use Rattle.records.specs.Refusals.{refusalOf}
 use Rattle.tables.specs.declared.Reply.{Reply}
 use Rattle.nodes.specs.SetTable.{zeros}
-use Rattle.verdicts.specs.Calls.{workBytes, Outcome, findAsks, findCall}
+use Rattle.solver.specs.Solver.{workBytes}
+use Rattle.verdicts.specs.Calls.{Outcome, findAsks, findCall}
 use Rattle.verdicts.specs.Programs.{judgedBytes, findProgram}
 use Rattle.tables.specs.Replies.{replyOf}
 use Rattle.tables.specs.Printing.{isRefusal}
