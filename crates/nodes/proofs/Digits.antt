@@ -1,13 +1,13 @@
 -- The machine's counts of a word's digits, and one digit of one word of a list.
 use mathlib.Core.Path.{_≡_, refl, sym, ap, ap₂, _∙_, subst}
 use mathlib.Core.Bool.{Bool, false, cond, not, _&&_}
-use Prim.Native.Nat.{ℕ, zero, suc, _+_, _-_, _/_, _%_, _^_, _<_}
-use native.Mathlib.Nat.{mod-lt, le-dest, zero-lt-suc}
+use Prim.Native.Nat.{ℕ, zero, suc, _+_, _-_, _*_, _/_, _%_, _^_, _≤_, _<_}
+use native.Mathlib.Nat.{mod-lt, le-dest, zero-lt-suc, mul-mod-left}
 use native.Mathlib.Omega.{arith}
 use lib.Arith.{lt-one}
 use lib.Bits.{bitAnd, and-shr, and-self}
 use lib.Dec.{T, eqb, eqb·suc-suc, eqb·suc-zero}
-use lib.Pow.{split, shr-lt, pow-pos, field, mod-mod-pow}
+use lib.Pow.{split, shr-lt, shl-shr, shr-shr, pow-pos, field, mod-mod-pow}
 use lib.Count.{ones, ones-cat, trailingZeros, under}
 use Rattle.nodes.specs.Bit.{bit, isOne}
 use Rattle.nodes.specs.Row.{count, lowestFrom, lowest}
@@ -33,6 +33,18 @@ half-lt w n h = shr-lt w 1 (subst (λ (x : ℕ). n < 2 ^ x) (omega arith) h)
 top-digit : (x : ℕ) → x < 2 → (c : ℕ) → ones x + c ≡ cond (isOne (x % 2)) (suc c) c
 unfolding ones
 top-digit x h c = one-digit (λ (x : ℕ). ones x + c ≡ cond (isOne (x % 2)) (suc c) c) (omega arith) (omega arith) x h
+
+-- a number that is shifted up by s places
+pub bit-up : (s w k : ℕ) → s ≤ k → bit (w * 2 ^ s) k ≡ bit w (k - s)
+unfolding bit
+bit-up s w k h =
+    let e : k ≡ s + (k - s) = omega arith in
+    ap (λ (x : ℕ). isOne (w * 2 ^ s / 2 ^ x % 2)) e
+    ∙ ap (λ (x : ℕ). isOne (x % 2)) (sym (shr-shr (w * 2 ^ s) s (k - s)) ∙ ap (λ (x : ℕ). x / 2 ^ (k - s)) (shl-shr w s))
+
+pub bit-under : (s w k : ℕ) → k < s → bit (w * 2 ^ s) k ≡ false
+bit-under s w k h = sym (bit-mod (w * 2 ^ s) s k h) ∙ ap (λ (x : ℕ). bit x k) (mul-mod-left w (2 ^ s)) ∙ bit-zero k
+
 
 pub ones-count : (w n : ℕ) → n < 2 ^ w → ones n ≡ count w (bit n)
 unfolding count ones bit

@@ -8,3 +8,4 @@ pub mod Digits
 pub mod NodeSet
 pub mod NodeSetCount
 pub mod SetTable
+pub mod Walk

@@ -214,3 +214,8 @@ members-past n (suc w) s h z = go (eq-or-lt-of-le h) (members-past n w s)
     go : (n ≡ suc w) ⊎ (n < suc w) → (n ≤ w → ((k : ℕ) → n ≤ k → s k ≡ false) → members w s ≡ members n s) → members (suc w) s ≡ members n s
     go (inl e) ih = ap (λ (x : ℕ). members x s) (sym e)
     go (inr l) ih = members-out w s (from-false (s w) (z w (omega arith))) ∙ ih (omega arith) z
+
+pub members-none : (n : ℕ) (s : ℕ → Bool) → (T (anyBelow n s) → ⊥) → members n s ≡ []
+unfolding membersFrom
+members-none n s f =
+    members-ext n s (λ k. false) (λ k l. is-false (s k) (λ t. f (any-in n s k l t))) ∙ members-past 0 n (λ k. false) (omega arith) (λ k l. refl)

@@ -8,15 +8,16 @@ use native.Mathlib.Nat.{mod-lt, zero-lt-suc}
 use native.Mathlib.Decide.{ℕ-discrete}
 use native.Mathlib.Omega.{arith}
 use lib.Bits.{bitAnd, bitOr, bitXor}
-use lib.Dec.{eqb, leb, ltb, ltb→lt, lt→ltb, leb→le, le→leb}
+use lib.Dec.{T, eqb, leb, ltb, ltb→lt, lt→ltb, leb→le, le→leb}
 use lib.ListN.{getD, set, length, replicate, List·getD-eq-default}
 use lib.Pow.{pow-pos, pow-lt}
 use lib.Seq.{getD-set-same, getD-set-other}
 use Rattle.nodes.specs.Bit.{_⊕_, bit}
-use Rattle.nodes.specs.NodeSet.{wordBits, memberOf, wordsOf}
+use Rattle.nodes.specs.NodeSet.{wordBits, capacity, memberOf, wordsOf, member}
 use Rattle.nodes.specs.declared.utils.NodeSet.{NodeSet}
 use Rattle.nodes.proofs.Logic.{is-true, is-false, beq-eq, lt-or-ge, and-l, and-r, and-in, eqb-no, eqb-yes, and-none, and-all, or-none}
-use Rattle.nodes.proofs.Row.{ltb-yes, ltb-no}
+use Rattle.nodes.specs.Row.{anyBelow}
+use Rattle.nodes.proofs.Row.{ltb-yes, ltb-no, any-in}
 use Rattle.nodes.proofs.Bit.{bit-and, bit-or, bit-xor, bit-not, bit-pow, bit-zero, bit-ext, bit-below, test-mask}
 
 -- each word has no more than its digits
@@ -58,6 +59,21 @@ member-tail w ws k =
 pub member-past : (ws : List ℕ) (v : ℕ) → length ws * wordBits ≤ v → memberOf ws v ≡ false
 unfolding memberOf
 member-past ws v h = ap (λ (x : ℕ). bit x (v % wordBits)) (List·getD-eq-default ws 0 (omega arith)) ∙ bit-zero (v % wordBits)
+
+pub member-lt : (s : NodeSet) (v : ℕ) → T (member s v) → v < capacity
+member-lt s v t = by (lt-or-ge v capacity)
+  where
+    by : (v < capacity) ⊎ (capacity ≤ v) → v < capacity
+    by (inl h) = h
+    by (inr h) = absurd (rw (member-past (wordsOf s) v h) at t)
+
+-- nothing is left
+pub none-left : (s : NodeSet) → (T (anyBelow capacity (member s)) → ⊥) → (u : ℕ) → member s u ≡ false
+none-left s f u = by (lt-or-ge u capacity)
+  where
+    by : (u < capacity) ⊎ (capacity ≤ u) → member s u ≡ false
+    by (inl h) = is-false (member s u) (λ t. f (any-in capacity (member s) u h t))
+    by (inr h) = member-past (wordsOf s) u h
 
 -- `w & mask(v) != 0`, for v's word w
 pub member-test : (ws : List ℕ) (v q : ℕ) → v / wordBits ≡ q → not (eqb (bitAnd (getD ws q 0) (2 ^ (v % wordBits))) 0) ≡ memberOf ws v

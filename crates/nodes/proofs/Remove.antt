@@ -1,19 +1,20 @@
 -- A member is taken out of a set: what is left of its count, its sums and its list.
 use Prim.Native.Nat.{ℕ, zero, suc, _+_, _≤_, _<_}
-use mathlib.Core.Path.{_≡_, refl, sym, ap, ap₂, _∙_}
+use mathlib.Core.Path.{_≡_, refl, sym, ap, ap₂, _∙_, subst, fun-ext}
 use mathlib.Core.Bool.{Bool, true, false, cond, not, _&&_, _||_}
 use mathlib.Core.List.{List, _∷_}
 use mathlib.Core.Logic.{_⊎_, inl, inr, _≢_}
 use native.Mathlib.Decide.{ℕ-discrete}
 use native.Mathlib.Nat.{not-suc-le-zero, eq-or-lt-of-le, le-of-suc-le-suc, le-refl}
 use native.Mathlib.Omega.{arith}
+use native.Mathlib.Numerals.{lt-of-le-of-ne}
 use lib.Dec.{T, eqb}
 use Rattle.nodes.specs.Bit.{_⊕_}
 use Rattle.nodes.specs.Row.{parity, anyBelow, count, lowestFrom, lowest, membersFrom, members}
-use Rattle.nodes.proofs.Logic.{is-true, beq-eq, and-l, and-r, and-in, or-l, or-r, or-out, eqb-no, eqb-yes, and-none, and-all, ⊕-none}
+use Rattle.nodes.proofs.Logic.{is-true, is-false, from-true, from-false, lt-or-ge, beq-eq, and-l, and-r, and-in, or-l, or-r, or-out, eqb-no, eqb-yes, and-none, and-all, not-not, ⊕-none}
 use Rattle.nodes.proofs.Row.{parity-ext, parity-⊕, parity-one, any-in, any-out}
 use Rattle.nodes.proofs.Count.{count-ext}
-use Rattle.nodes.proofs.Members.{lowest-some, lowest-member}
+use Rattle.nodes.proofs.Members.{lowest-none, lowest-here, lowest-some, lowest-member}
 
 -- s without v
 abbrev pub removed : (ℕ → Bool) → ℕ → ℕ → Bool
@@ -24,6 +25,14 @@ removed-other s v u n = rw (eqb-no u v n) (and-all (s u))
 
 pub removed-same : (s : ℕ → Bool) (v : ℕ) → removed s v v ≡ false
 removed-same s v = rw (eqb-yes v) (and-none (s v))
+
+-- v alone, which is what goes with it
+pub least-alone : (s : ℕ → Bool) (v u : ℕ) → s u && not (removed s v u) ≡ s u && eqb u v
+least-alone s v u = by (s u) (eqb u v)
+  where
+    by : (a b : Bool) → a && not (a && not b) ≡ a && b
+    by true b = not-not b
+    by false b = refl
 
 pub count-remove : (n : ℕ) (s : ℕ → Bool) (v : ℕ) → v < n → T (s v) → count n s ≡ suc (count n (removed s v))
 unfolding count
@@ -111,3 +120,27 @@ from-cons k (suc n) s h = go (s k) refl h (from-cons (k + 1) n s)
 
 pub members-cons : (n : ℕ) (s : ℕ → Bool) → lowest n s < n → members n s ≡ lowest n s ∷ members n (removed s (lowest n s))
 members-cons n s h = from-cons 0 n s (omega arith)
+
+-- the least member alone, which is there
+pub least-one : (n : ℕ) (s r : ℕ → Bool) → T (anyBelow n s) → r ≡ (λ u. s u && eqb u (lowest n s)) → r ≡ (λ u. eqb u (lowest n s))
+least-one n s r t e = e ∙ fun-ext (λ u. by u (ℕ-discrete u (lowest n s)))
+  where
+    by : (u : ℕ) → Dec (u ≡ lowest n s) → s u && eqb u (lowest n s) ≡ eqb u (lowest n s)
+    by u (yes q) = ap (λ (b : Bool). b && eqb u (lowest n s)) (is-true (s u) (subst (λ (x : ℕ). T (s x)) (sym q) (lowest-member n s t)))
+    by u (no d) = ap (λ (b : Bool). s u && b) (eqb-no u (lowest n s) d) ∙ and-none (s u) ∙ sym (eqb-no u (lowest n s) d)
+
+-- the next one is above it, and there is none in between
+pub lowest-next : (n : ℕ) (s r : ℕ → Bool) → T (anyBelow n s) → r ≡ removed s (lowest n s)
+    → (lowest n s < lowest n r) × ((k : ℕ) → lowest n s < k → k < lowest n r → s k ≡ false)
+lowest-next n s r t e = (
+  above (lt-or-ge (lowest n s) (lowest n r)) (lt-or-ge (lowest n r) n),
+  λ k l h. is-false (s k) (λ q. from-false (r k) (lowest-none n r k h) (subst (λ (f : ℕ → Bool). T (f k)) (sym e) (subst T (sym (removed-other s (lowest n s) k (λ z. absurd (omega arith)))) q))),
+)
+  where
+    above : (lowest n s < lowest n r) ⊎ (lowest n r ≤ lowest n s) → (lowest n r < n) ⊎ (n ≤ lowest n r) → lowest n s < lowest n r
+    above (inl l) d = l
+    above (inr l) (inr g) = absurd (let h = lowest-some n s t in omega arith)
+    above (inr l) (inl g) =
+        let q : T (removed s (lowest n s) (lowest n r)) = subst (λ (f : ℕ → Bool). T (f (lowest n r))) e (from-true (r (lowest n r)) (lowest-here n r g)) in
+        let d : lowest n r ≢ lowest n s = λ z. from-false (removed s (lowest n s) (lowest n r)) (ap (removed s (lowest n s)) z ∙ removed-same s (lowest n s)) q in
+        absurd (from-false (s (lowest n r)) (lowest-none n s (lowest n r) (lt-of-le-of-ne l d)) (and-l (s (lowest n r)) (not (eqb (lowest n r) (lowest n s))) q))

@@ -1,24 +1,27 @@
 -- A table of sets: the words of one set, what a set that is put in leaves of the others, and a table of empty sets.
 use Prim.Native.Nat.{ℕ, zero, suc, _+_, _-_, _*_, _/_, _%_, _≤_, _<_}
-use mathlib.Core.Path.{_≡_, sym, ap, ap₂, _∙_, fun-ext}
-use mathlib.Core.Bool.{Bool, false, cond, _&&_}
+use mathlib.Core.Path.{_≡_, refl, sym, ap, ap₂, _∙_, subst, fun-ext}
+use mathlib.Core.Bool.{Bool, true, false, cond, not, _&&_}
 use mathlib.Core.List.{List, [], _∷_, _++_, append-assoc}
 use mathlib.Core.Logic.{_≢_, _⊎_, inl, inr}
 use native.Mathlib.Nat.{min-le-left}
 use native.Mathlib.Decide.{ℕ-discrete}
 use native.Mathlib.Omega.{arith}
 use native.Mathlib.Numerals.{lt-of-le-of-ne}
-use lib.Dec.{T, eqb, leb, leb→le, le→leb}
-use lib.ListN.{length, getD, set, take, drop, length-append, length-take, length-drop, length-replicate, List·getD-append, List·getD-eq-default, getD-replicate, replicate-append-replicate}
-use lib.Seq.{length-take-le, take-length, take-at, drop-at, take-suc-set, getD-take, getD-drop, getD-append-add, sets-eq}
+use lib.Bits.{bitXor, xor-zero-r}
+use lib.Dec.{T, eqb, leb, ltb, leb→le, le→leb, eqb→eq}
+use lib.ListN.{length, getD, set, take, drop, length-append, length-take, length-drop, length-replicate, length-set, List·getD-append, List·getD-eq-default, getD-replicate, replicate-append-replicate}
+use lib.Seq.{getD-set-same, getD-set-other, length-take-le, take-length, take-at, drop-at, take-suc-set, getD-take, getD-drop, getD-append-add, sets-eq}
 use Rattle.nodes.specs.Bit.{_⊕_, bit}
-use Rattle.nodes.specs.Row.{parity, anyBelow, lowest}
-use Rattle.nodes.specs.NodeSet.{wordBits, capacity, memberOf}
-use Rattle.nodes.specs.SetTable.{setWords, setAt, putSet, zeros}
-use Rattle.nodes.proofs.Logic.{is-false, and-none, ⊕-assoc, lt-or-ge, le-or-lt, cond-t, cond-f, eqb-no, eqb-yes}
-use Rattle.nodes.proofs.Row.{parity-none, any-in, dot-comm}
+use Rattle.nodes.specs.Row.{parity, anyBelow, lowest, members, membersFrom}
+use Rattle.nodes.specs.NodeSet.{wordBits, capacity, memberOf, member, wordsOf}
+use Rattle.nodes.specs.declared.utils.NodeSet.{NodeSet}
+use Rattle.nodes.specs.SetTable.{setWords, tableWords, setAt, putSet, addWords, addSet, addSets, zeros}
+use Rattle.nodes.proofs.Logic.{is-true, is-false, dec, and-none, and-all, ⊕-none, ⊕-assoc, lt-or-ge, le-or-lt, cond-t, cond-f, eqb-no, eqb-yes}
+use Rattle.nodes.proofs.Row.{parity-none, any-in, dot-comm, ltb-yes, ltb-no}
 use Rattle.nodes.proofs.Remove.{removed, parity-lowest}
-use Rattle.nodes.proofs.Bit.{bit-zero}
+use Rattle.nodes.proofs.Bit.{bit-zero, bit-xor}
+use Rattle.nodes.proofs.NodeSet.{member-past}
 
 -- ---- the words of one set
 part-at : (n m : ℕ) (ws : List ℕ) (q : ℕ) → q < m → getD (take m (drop n ws)) q 0 ≡ getD ws (n + q) 0
@@ -143,6 +146,189 @@ put-words ws u low high h =
   where
     next : setWords * u + 1 ≡ suc (setWords * u)
     next = omega arith
+
+-- ---- a set is added to others
+pub add-length : (x ws : List ℕ) (i : ℕ) → length (addWords ws i x) ≡ length ws
+unfolding addWords
+add-length [] ws i = refl
+add-length (w ∷ x) ws i = add-length x (set ws i (bitXor (getD ws i 0) w)) (suc i) ∙ length-set ws i (bitXor (getD ws i 0) w)
+
+-- the word that x has for place j, where it begins at place i
+abbrev wordFrom : ℕ → List ℕ → ℕ → ℕ
+wordFrom i x j = cond (leb i j) (getD x (j - i) 0) 0
+
+word-before : (i j : ℕ) (x : List ℕ) → j < i → wordFrom i x j ≡ 0
+word-before i j x h = ap (λ (b : Bool). cond b (getD x (j - i) 0) 0) (is-false (leb i j) (λ t. absurd (omega (arith, leb→le i j t))))
+
+word-at : (i j : ℕ) (x : List ℕ) → i ≤ j → wordFrom i x j ≡ getD x (j - i) 0
+word-at i j x h = ap (λ (b : Bool). cond b (getD x (j - i) 0) 0) (is-true (leb i j) (le→leb i j h))
+
+added-word : (x ws : List ℕ) (i j : ℕ) → j < length ws → getD (addWords ws i x) j 0 ≡ bitXor (getD ws j 0) (wordFrom i x j)
+unfolding addWords
+added-word [] ws i j h = sym (ap (bitXor (getD ws j 0)) (by (leb i j)) ∙ xor-zero-r (getD ws j 0))
+  where
+    by : (b : Bool) → _≡_ {A = ℕ} (cond b 0 0) 0
+    by true = refl
+    by false = refl
+added-word (w ∷ x) ws i j h = added-word x ws′ (suc i) j (omega (arith, length-set ws i v)) ∙ by (lt-or-ge j i) (ℕ-discrete j i)
+  where
+    v : ℕ
+    v = bitXor (getD ws i 0) w
+
+    ws′ : List ℕ
+    ws′ = set ws i v
+
+    by : (j < i) ⊎ (i ≤ j) → Dec (j ≡ i) → bitXor (getD ws′ j 0) (wordFrom (suc i) x j) ≡ bitXor (getD ws j 0) (wordFrom i (w ∷ x) j)
+    by (inl l) (yes e) = absurd (omega arith)
+    by (inl l) (no n) = ap₂ bitXor (getD-set-other ws i j v 0 n) (word-before (suc i) j x (omega arith) ∙ sym (word-before i j (w ∷ x) l))
+    by (inr l) (yes e) =
+        let z : j - i ≡ 0 = omega arith in
+        ap₂ bitXor (ap (λ (k : ℕ). getD ws′ k 0) e ∙ getD-set-same ws i v 0 (omega arith)) (word-before (suc i) j x (omega arith))
+        ∙ xor-zero-r v
+        ∙ sym (ap₂ (λ (k : ℕ) (y : ℕ). bitXor (getD ws k 0) y) e (word-at i j (w ∷ x) l ∙ ap (λ (k : ℕ). getD (w ∷ x) k 0) z))
+    by (inr l) (no n) =
+        let g : suc i ≤ j = later n l in
+        let z : j - i ≡ suc (j - suc i) = omega arith in
+        ap₂ bitXor (getD-set-other ws i j v 0 n) (word-at (suc i) j x g ∙ sym (word-at i j (w ∷ x) l ∙ ap (λ (k : ℕ). getD (w ∷ x) k 0) z))
+      where
+        later : j ≢ i → i ≤ j → suc i ≤ j
+        later n l = omega (arith, lt-of-le-of-ne l (λ e. n (sym e)))
+
+module _ (ws : List ℕ) (u : ℕ) (x : List ℕ) (e : length x ≡ setWords) (h : setWords * u + setWords ≤ length ws) where
+  pub added-set : (v k : ℕ) → setAt (addSet ws u x) v k ≡ setAt ws v k ⊕ (eqb v u && memberOf x k)
+  unfolding memberOf
+  added-set v k = by (lt-or-ge k capacity)
+    where
+      j : ℕ
+      j = setWords * v + k / wordBits
+
+      -- what x adds at this place
+      digit : k < capacity → bit (wordFrom (setWords * u) x j) (k % wordBits) ≡ eqb v u && bit (getD x (k / wordBits) 0) (k % wordBits)
+      digit l = at (ℕ-discrete v u) (lt-or-ge v u)
+        where
+          at : Dec (v ≡ u) → (v < u) ⊎ (u ≤ v) → bit (wordFrom (setWords * u) x j) (k % wordBits) ≡ eqb v u && bit (getD x (k / wordBits) 0) (k % wordBits)
+          at (yes p) d =
+              let z : j - setWords * u ≡ k / wordBits = omega arith in
+              ap (λ (y : ℕ). bit y (k % wordBits)) (word-at (setWords * u) j x (omega arith) ∙ ap (λ (q : ℕ). getD x q 0) z)
+              ∙ ap (λ (b : Bool). b && bit (getD x (k / wordBits) 0) (k % wordBits)) (sym (ap (λ (q : ℕ). eqb q u) p ∙ eqb-yes u))
+          at (no n) (inl q) =
+              ap (λ (y : ℕ). bit y (k % wordBits)) (word-before (setWords * u) j x (omega arith)) ∙ bit-zero (k % wordBits)
+              ∙ ap (λ (b : Bool). b && bit (getD x (k / wordBits) 0) (k % wordBits)) (sym (eqb-no v u n))
+          at (no n) (inr q) =
+              ap (λ (y : ℕ). bit y (k % wordBits))
+              (word-at (setWords * u) j x (omega arith) ∙ List·getD-eq-default x 0 (past (λ p. n (sym p)) q)) ∙ bit-zero (k % wordBits)
+              ∙ ap (λ (b : Bool). b && bit (getD x (k / wordBits) 0) (k % wordBits)) (sym (eqb-no v u n))
+            where
+              past : u ≢ v → u ≤ v → length x ≤ j - setWords * u
+              past n q = omega (arith, lt-of-le-of-ne q n)
+
+      inside : k < capacity → (j < length ws) ⊎ (length ws ≤ j) → bit (getD (addSet ws u x) j 0) (k % wordBits) ≡ bit (getD ws j 0) (k % wordBits) ⊕ (eqb v u && bit (getD x (k / wordBits) 0) (k % wordBits))
+      inside l (inl q) =
+          ap (λ (y : ℕ). bit y (k % wordBits)) (added-word x ws (setWords * u) j q) ∙ bit-xor (getD ws j 0) (wordFrom (setWords * u) x j) (k % wordBits)
+          ∙ ap (λ (b : Bool). bit (getD ws j 0) (k % wordBits) ⊕ b) (digit l)
+      inside l (inr q) =
+          ap (λ (y : ℕ). bit y (k % wordBits)) (List·getD-eq-default (addSet ws u x) 0 (omega (arith, add-length x ws (setWords * u))) ∙ sym (List·getD-eq-default ws 0 q))
+          ∙ sym (ap (λ (b : Bool). bit (getD ws j 0) (k % wordBits) ⊕ (b && bit (getD x (k / wordBits) 0) (k % wordBits))) (eqb-no v u (λ p. absurd (omega arith)))
+          ∙ ⊕-none (bit (getD ws j 0) (k % wordBits)))
+
+      by : (k < capacity) ⊎ (capacity ≤ k) → setAt (addSet ws u x) v k ≡ setAt ws v k ⊕ (eqb v u && bit (getD x (k / wordBits) 0) (k % wordBits))
+      by (inl l) =
+          set-in (addSet ws u x) v k l ∙ inside l (lt-or-ge j (length ws))
+          ∙ ap (λ (b : Bool). b ⊕ (eqb v u && bit (getD x (k / wordBits) 0) (k % wordBits))) (sym (set-in ws v k l))
+      by (inr l) =
+          set-past (addSet ws u x) v k l
+          ∙ sym (ap₂ (λ (a b : Bool). a ⊕ (eqb v u && b)) (set-past ws v k l) (ap (λ (y : ℕ). bit y (k % wordBits)) (List·getD-eq-default x 0 (omega arith)) ∙ bit-zero (k % wordBits))
+          ∙ and-none (eqb v u))
+
+pub sets-length : (us ws x : List ℕ) → length (addSets ws us x) ≡ length ws
+unfolding addSets
+sets-length [] ws x = refl
+sets-length (u ∷ us) ws x = sets-length us (addSet ws u x) x ∙ add-length x ws (setWords * u)
+
+-- of the n sets from k on
+added-from : (n k : ℕ) (s : ℕ → Bool) (ws x : List ℕ) → length x ≡ setWords → length ws ≡ tableWords → k + n ≤ capacity → (v i : ℕ)
+    → setAt (addSets ws (membersFrom k n s) x) v i ≡ setAt ws v i ⊕ ((leb k v && ltb v (k + n)) && s v) && memberOf x i
+unfolding addSets membersFrom
+added-from zero k s ws x e h l v i =
+    sym (ap (λ (b : Bool). setAt ws v i ⊕ (b && s v) && memberOf x i) (none (lt-or-ge v k)) ∙ ⊕-none (setAt ws v i))
+  where
+    none : (v < k) ⊎ (k ≤ v) → leb k v && ltb v (k + 0) ≡ false
+    none (inl q) = ap (λ (b : Bool). b && ltb v (k + 0)) (is-false (leb k v) (λ t. absurd (omega (arith, leb→le k v t))))
+    none (inr q) = ap (λ (b : Bool). leb k v && b) (ltb-no v (k + 0) (omega arith)) ∙ and-none (leb k v)
+added-from (suc n) k s ws x e h l v i =
+    by (dec (s k)) (added-from n (k + 1) s (addSet ws k x) x e (add-length x ws (setWords * k) ∙ h) (omega arith) v i) (added-from n (k + 1) s ws x e h (omega arith) v i)
+  where
+    m : Bool
+    m = memberOf x i
+
+    later : leb (k + 1) v && ltb v (k + 1 + n) ≡ (leb k v && ltb v (k + suc n)) && not (eqb v k)
+    later = at (ℕ-discrete v k) (lt-or-ge v k)
+      where
+        same : ltb v (k + 1 + n) ≡ ltb v (k + suc n)
+        same = let z : k + 1 + n ≡ k + suc n = omega arith in ap (ltb v) z
+
+        at : Dec (v ≡ k) → (v < k) ⊎ (k ≤ v) → leb (k + 1) v && ltb v (k + 1 + n) ≡ (leb k v && ltb v (k + suc n)) && not (eqb v k)
+        at (yes p) d =
+            ap (λ (b : Bool). b && ltb v (k + 1 + n)) (is-false (leb (k + 1) v) (λ t. absurd (omega (arith, leb→le (k + 1) v t))))
+            ∙ sym (ap (λ (b : Bool). (leb k v && ltb v (k + suc n)) && not b) (ap (λ (q : ℕ). eqb q k) p ∙ eqb-yes k) ∙ and-none (leb k v && ltb v (k + suc n)))
+        at (no d) (inl q) =
+            ap (λ (b : Bool). b && ltb v (k + 1 + n)) (is-false (leb (k + 1) v) (λ t. absurd (omega (arith, leb→le (k + 1) v t))))
+            ∙ sym (ap (λ (b : Bool). (b && ltb v (k + suc n)) && not (eqb v k)) (is-false (leb k v) (λ t. absurd (omega (arith, leb→le k v t)))))
+        at (no d) (inr q) =
+            ap₂ _&&_ (is-true (leb (k + 1) v) (le→leb (k + 1) v (next d q)) ∙ sym (is-true (leb k v) (le→leb k v q))) same
+            ∙ sym (ap (λ (b : Bool). (leb k v && ltb v (k + suc n)) && not b) (eqb-no v k d) ∙ and-all (leb k v && ltb v (k + suc n)))
+          where
+            next : v ≢ k → k ≤ v → k + 1 ≤ v
+            next d q = omega (arith, lt-of-le-of-ne q (λ z. d (sym z)))
+
+    here : eqb v k ≡ (leb k v && ltb v (k + suc n)) && eqb v k
+    here = at (ℕ-discrete v k)
+      where
+        at : Dec (v ≡ k) → eqb v k ≡ (leb k v && ltb v (k + suc n)) && eqb v k
+        at (yes p) = ap (λ (b : Bool). b && eqb v k) (sym (ap₂ _&&_ (is-true (leb k v) (le→leb k v (omega arith))) (ltb-yes v (k + suc n) (omega arith))))
+        at (no d) = eqb-no v k d ∙ sym (ap (λ (b : Bool). (leb k v && ltb v (k + suc n)) && b) (eqb-no v k d) ∙ and-none (leb k v && ltb v (k + suc n)))
+
+    -- with r for the range: what is added at k, and what at the later ones
+    split : (r q y : Bool) → (T q → T y) → (r && q) && m ⊕ ((r && not q) && y) && m ≡ (r && y) && m
+    split false q y f = refl
+    split true true true f = ⊕-none m
+    split true true false f = absurd (f tt)
+    split true false y f = refl
+
+    skip : (r q y : Bool) → (T q → T y → ⊥) → ((r && not q) && y) && m ≡ (r && y) && m
+    skip false q y f = refl
+    skip true true true f = absurd (f tt tt)
+    skip true true false f = refl
+    skip true false y f = refl
+
+    by : T (s k) ⊎ (T (s k) → ⊥)
+        → setAt (addSets (addSet ws k x) (membersFrom (k + 1) n s) x) v i ≡ setAt (addSet ws k x) v i ⊕ ((leb (k + 1) v && ltb v (k + 1 + n)) && s v) && memberOf x i
+        → setAt (addSets ws (membersFrom (k + 1) n s) x) v i ≡ setAt ws v i ⊕ ((leb (k + 1) v && ltb v (k + 1 + n)) && s v) && memberOf x i
+        → setAt (addSets ws (membersFrom k (suc n) s) x) v i ≡ setAt ws v i ⊕ ((leb k v && ltb v (k + suc n)) && s v) && memberOf x i
+    by (inl t) with-it without =
+        ap (λ (b : Bool). setAt (addSets ws (cond b (k ∷ membersFrom (k + 1) n s) (membersFrom (k + 1) n s)) x) v i) (is-true (s k) t)
+        ∙ with-it
+        ∙ ap₂ (λ (a b : Bool). a ⊕ (b && s v) && m) (added-set ws k x e (omega arith) v i) later
+        ∙ ⊕-assoc (setAt ws v i) (eqb v k && m) (((leb k v && ltb v (k + suc n)) && not (eqb v k)) && s v && m)
+        ∙ ap (λ (b : Bool). setAt ws v i ⊕ b)
+        (ap (λ (b : Bool). b && m ⊕ ((leb k v && ltb v (k + suc n)) && not (eqb v k)) && s v && m) here
+        ∙ split (leb k v && ltb v (k + suc n)) (eqb v k) (s v) (λ q. subst (λ (z : ℕ). T (s z)) (sym (eqb→eq v k q)) t))
+    by (inr f) with-it without =
+        ap (λ (b : Bool). setAt (addSets ws (cond b (k ∷ membersFrom (k + 1) n s) (membersFrom (k + 1) n s)) x) v i) (is-false (s k) f)
+        ∙ without
+        ∙ ap (λ (b : Bool). setAt ws v i ⊕ (b && s v) && m) later
+        ∙ ap (λ (b : Bool). setAt ws v i ⊕ b) (skip (leb k v && ltb v (k + suc n)) (eqb v k) (s v) (λ q t. f (subst (λ (z : ℕ). T (s z)) (eqb→eq v k q) t)))
+
+-- in a table with a set for each node
+pub added-sets : (ws : List ℕ) (among x : NodeSet) → length ws ≡ tableWords → (v i : ℕ)
+    → setAt (addSets ws (members capacity (member among)) (wordsOf x)) v i ≡ setAt ws v i ⊕ member among v && member x i
+added-sets ws among x h v i =
+    added-from capacity 0 (member among) ws (wordsOf x) refl h (omega arith) v i
+    ∙ ap (λ (b : Bool). setAt ws v i ⊕ b && member x i) (by (lt-or-ge v capacity))
+  where
+    by : (v < capacity) ⊎ (capacity ≤ v) → (leb 0 v && ltb v (0 + capacity)) && member among v ≡ member among v
+    by (inl l) = ap (λ (b : Bool). b && member among v) (ap₂ _&&_ (is-true (leb 0 v) (le→leb 0 v (omega arith))) (ltb-yes v (0 + capacity) (omega arith)))
+    by (inr l) = ap (λ (b : Bool). (leb 0 v && ltb v (0 + capacity)) && b) (member-past (wordsOf among) v l) ∙ and-none (leb 0 v && ltb v (0 + capacity)) ∙ sym (member-past (wordsOf among) v l)
 
 -- ---- a table of empty sets
 zeros-at : (n i : ℕ) → getD (zeros n) i 0 ≡ 0

@@ -3,11 +3,12 @@ ghost use mathlib.Core.Path.{_≡_};
 ghost use mathlib.Core.Bool.{Bool, true, false, not, _&&_, _||_};
 ghost use Prim.Native.Nat.{ℕ, _%_, _^_};
 ghost use lib.Dec.{eqb, leb, ltb};
-ghost use lib.ListN.{length};
+ghost use lib.Bits.{bitXor};
+ghost use lib.ListN.{length, getD, set};
 ghost use Rattle.nodes.specs.Bit.{_⊕_};
-ghost use Rattle.nodes.specs.Row.{anyBelow, allBelow, count, lowest, parity};
+ghost use Rattle.nodes.specs.Row.{anyBelow, allBelow, count, lowest, members, parity};
 ghost use Rattle.nodes.specs.NodeSet.{wordBits, highest, capacity, wordsOf, member};
-ghost use Rattle.nodes.specs.SetTable.{setAt, putSet, zeros};
+ghost use Rattle.nodes.specs.SetTable.{setAt, putSet, addSet, addSets, zeros};
 
 const WORD_BITS: u8 = 64;
 
@@ -159,6 +160,13 @@ impl NodeSet {
         WORD_BITS + u64::trailing_zeros(self.high) as u8
     }
 
+    // The least member alone.
+    pub fn first(self) -> Self
+        ensures { λ r. ⌜ member r ≡ (λ u. member self u && eqb u (lowest capacity (member self))) ⌝ }
+    {
+        self.difference(self.without_lowest())
+    }
+
     // The set without its least member: to take one from a word carries up to the lowest digit that is 1.
     pub fn without_lowest(mut self) -> Self
         ensures { λ r. ⌜ member r ≡ (λ u. member self u && not (eqb u (lowest capacity (member self)))) ⌝ }
@@ -211,6 +219,33 @@ pub fn clear_table(table: &mut [u64])
     while i < table.len() {
         table[i] = 0;
         i += 1;
+    }
+}
+
+fn add_word(table: &mut [u64], at: usize, word: u64)
+    ensures { λ _. ⌜ now (table .exit) ≡ set (now (table .entry)) at (bitXor (getD (now (table .entry)) at 0) word) ⌝ }
+{
+    if at < table.len() {
+        table[at] ^= word;
+    }
+}
+
+fn add_set(table: &mut [u64], u: u8, x: NodeSet)
+    ensures { λ _. ⌜ now (table .exit) ≡ addSet (now (table .entry)) u (wordsOf x) ⌝ }
+{
+    let at = SET_WORDS * u as usize;
+    add_word(table, at, x.low);
+    add_word(table, at + 1, x.high);
+}
+
+// x is added mod 2 to the set of each node in `among`, where the table has it.
+pub fn add_to(table: &mut [u64], among: NodeSet, x: NodeSet)
+    ensures { λ _. ⌜ now (table .exit) ≡ addSets (now (table .entry)) (members capacity (member among)) (wordsOf x) ⌝ }
+{
+    let mut left = among;
+    while !left.is_empty() {
+        add_set(table, left.lowest(), x);
+        left = left.without_lowest();
     }
 }
 

@@ -1,5 +1,5 @@
 -- The answer of a system: there is at most one, and `solve` finds it where there is a solution.
-use Prim.Native.Nat.{ℕ, zero, suc, _≤_, _<_}
+use Prim.Native.Nat.{ℕ, zero, suc, _+_, _≤_, _<_}
 use mathlib.Core.Path.{_≡_, refl, sym, ap, _∙_, fun-ext}
 use mathlib.Core.Bool.{Bool, true, false, cond, not, _&&_, true≢false}
 use mathlib.Core.Option.{Option, none, some}
@@ -226,6 +226,16 @@ module _ (s : System) where
   pivot-in k u f =
       and-in (s .column k) (not (isSome (solve s k (λ i. s .entry i k)))) u
       (not-in (isSome (solve s k (λ i. s .entry i k))) (λ t. f (some-solvable k (λ i. s .entry i k) t)))
+
+-- columns that are not at hand may be left away behind the last one that is
+pub solve-past : (s : System) (n d : ℕ) (b : ℕ → Bool) → ((k : ℕ) → n ≤ k → s .column k ≡ false) → solve s (n + d) b ≡ solve s n b
+unfolding solve
+solve-past s n zero b h = let e : n + 0 ≡ n = omega arith in ap (λ (k : ℕ). solve s k b) e
+solve-past s n (suc d) b h =
+    let e : n + suc d ≡ suc (n + d) = omega arith in
+    ap (λ (k : ℕ). solve s k b) e
+    ∙ ap (λ (c : Bool). cond c (firstOf (solve s (n + d) b) (taking (n + d) (solve s (n + d) (λ i. b i ⊕ s .entry i (n + d))))) (solve s (n + d) b)) (h (n + d) (omega arith))
+    ∙ solve-past s n d b h
 
 -- ---- systems that agree wherever it matters
 -- the same rows and columns at hand, below n columns, and the same entries there

@@ -1,0 +1,80 @@
+use native.Mathlib.Omega.{arith}
+use mathlib.Core.Path.{_≡_, ap, ap₂, _∙_}
+use mathlib.Core.Bool.{Bool, _&&_, _||_}
+use Prim.Native.Nat.{ℕ}
+use lib.Dec.{eqb}
+use Rattle.nodes.specs.Row.{lowest}
+use Rattle.nodes.specs.NodeSet.{capacity, member}
+use Rattle.nodes.specs.SetTable.{setAt}
+use Rattle.nodes.proofs.Members.{lowest-some}
+use Rattle.nodes.proofs.Remove.{least-one}
+use Rattle.solver.proofs.BasisTables.{pivoted, plus-sets, plus-as}
+use borrow.Author.Needs.{needs}
+use Rattle.solver.proofs.column_basis.add_pivot.Statement.{statement}
+use Rattle.solver.proofs.column_basis.add_pivot.Tie as tie
+
+lowest-requires : tie.Need-lowest-requires
+lowest-requires c κs = search needs
+
+set-at-requires : tie.Need-set-at-requires
+set-at-requires c κs = search needs
+
+add-to-requires : tie.Need-add-to-requires
+add-to-requires c κs = search needs
+
+add-to-requires-2 : tie.Need-add-to-requires-2
+add-to-requires-2 c κs = search needs
+
+put-set-requires : tie.Need-put-set-requires
+put-set-requires c κs = search needs
+
+put-set-requires-2 : tie.Need-put-set-requires-2
+put-set-requires-2 c κs = search needs
+
+first-requires : tie.Need-first-requires
+first-requires c κs = search needs
+
+union-requires : tie.Need-union-requires
+union-requires c κs = search needs
+
+add-to-requires-3 : tie.Need-add-to-requires-3
+add-to-requires-3 c κs = search needs
+
+same-length : tie.Need-same-length
+same-length c = search needs
+
+same-length-2 : tie.Need-same-length-2
+same-length-2 c = search needs
+
+same-length-3 : tie.Need-same-length-3
+same-length-3 c = search needs
+
+returns : tie.Need-returns
+returns c = let a = c .before .before .before .before .before .before .before .before .before .before .before .before .before .before .before .before .before .before .before .before .before .before .before .before .before .before .before .before .args in let p = c .before .before .before .before .before .before .before .before .before .before .before .before .before .before .before .before .before .before .before .before .before .before .before .before .before .before .before .before .pre in let q = c .before .before .before .before .before .before .before .before .before .before .before .before .before .before .before .before .before .before .before .before .before .before .before .before .lowest in let h = c .before .before .before .before .before .before .before .before .before .before .before .before .before .before .before .before .before .before .before .before .before .before .set-at in let l = member (a .left) in
+    let low = lowest-some capacity l (p .3) in
+    let having = h .ensures ∙ ap (setAt (a .across .now)) (q .ensures) in
+    let row = least-one capacity l (member (c .before .before .before .before .first .result)) (p .3) (c .before .before .before .before .first .ensures) in (
+      pivoted (a .across .now) (a .reduced .now) (c .before .before .before .before .before .before .before .before .before .before .before .before .before .before .before .before .before .before .before .before .add-to .last .0) (c .before .before .before .before .before .before .before .before .before .before .before .before .put-set .last .0) (lowest capacity l) (q .result) (h .result) (a .left) (p .0) low (q .ensures) (h .ensures) (c .before .before .before .before .before .before .before .before .before .before .before .before .before .before .before .before .before .before .before .before .add-to .ensures) (c .before .before .before .before .before .before .before .before .before .before .before .before .put-set .ensures),
+      (pivoted (a .across .now) (a .preimage .now) (c .before .before .before .before .before .before .before .before .before .before .before .before .before .before .before .before .add-to2 .last .0) (c .before .before .before .before .before .before .before .before .put-set2 .last .0) (lowest capacity l) (q .result) (h .result) (a .taken) (p .1) low (q .ensures) (h .ensures) (c .before .before .before .before .before .before .before .before .before .before .before .before .before .before .before .before .add-to2 .ensures) (c .before .before .before .before .before .before .before .before .put-set2 .ensures),
+      plus-as (λ i u. l i && member (c .before .before .before .union .result) u) (λ i u. l i && (setAt (a .across .now) (lowest capacity l) u || eqb u (lowest capacity l))) (a .across .now) (c .before .before .add-to3 .last .0)
+          (plus-sets (a .across .now) (c .before .before .add-to3 .last .0) (a .left) (c .before .before .before .union .result) (p .2) (c .before .before .add-to3 .ensures))
+          (λ i u. ap (λ (f : ℕ → Bool). l i && f u) (c .before .before .before .union .ensures ∙ ap₂ {C = ℕ → Bool} (λ (f g : ℕ → Bool) (v : ℕ). f v || g v) having row)),
+    ))
+
+pub add-pivot-spec : {M : Type 1} → statement M
+add-pivot-spec =
+    tie.close
+    (tie.spec
+    lowest-requires
+    set-at-requires
+    add-to-requires
+    add-to-requires-2
+    put-set-requires
+    put-set-requires-2
+    first-requires
+    union-requires
+    add-to-requires-3
+    same-length
+    same-length-2
+    same-length-3
+    returns)
