@@ -5,7 +5,7 @@ use mathlib.Core.List.{List}
 use lib.Dec.{eqb, leb, ltb}
 use lib.ListN.{length, getD}
 use Rattle.nodes.specs.NodeSet.{member, capacity, wordBits}
-use Rattle.nodes.specs.SetTable.{setWords, setAt}
+use Rattle.nodes.specs.SetTable.{tableWords, setWords, setAt}
 use Rattle.nodes.specs.declared.utils.NodeSet.{NodeSet}
 use Rattle.solver.specs.Solver.{workBytes}
 use Rattle.solver.specs.WorkMatrix.{digits, listOf}
@@ -23,10 +23,6 @@ jobIn n graph inputs outputs measured = record {
   output = member outputs;
   measured = λ u. getD measured u 0;
 }
-
--- the words of a table with a set for each node
-abbrev pub tableWords : ℕ
-tableWords = capacity * setWords
 
 -- are the sizes right: no more nodes than a set can have, a measurement for each, and buffers of exact length
 unfoldable pub sizesFit : (n : ℕ) (graph measured work layers sets : List ℕ) → Bool

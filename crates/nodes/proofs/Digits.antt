@@ -42,9 +42,12 @@ bit-up s w k h =
     ap (λ (x : ℕ). isOne (w * 2 ^ s / 2 ^ x % 2)) e
     ∙ ap (λ (x : ℕ). isOne (x % 2)) (sym (shr-shr (w * 2 ^ s) s (k - s)) ∙ ap (λ (x : ℕ). x / 2 ^ (k - s)) (shl-shr w s))
 
+pub bit-down : (s w k : ℕ) → bit (w / 2 ^ s) k ≡ bit w (s + k)
+unfolding bit
+bit-down s w k = ap (λ (x : ℕ). isOne (x % 2)) (shr-shr w s k)
+
 pub bit-under : (s w k : ℕ) → k < s → bit (w * 2 ^ s) k ≡ false
 bit-under s w k h = sym (bit-mod (w * 2 ^ s) s k h) ∙ ap (λ (x : ℕ). bit x k) (mul-mod-left w (2 ^ s)) ∙ bit-zero k
-
 
 pub ones-count : (w n : ℕ) → n < 2 ^ w → ones n ≡ count w (bit n)
 unfolding count ones bit

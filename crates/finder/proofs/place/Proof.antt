@@ -2,7 +2,7 @@ use lib.ListN.{length, length-set}
 use Rattle.nodes.proofs.SetTable.{put-length}
 use Rattle.finder.specs.declared.Tried.{Tried}
 use Rattle.nodes.specs.NodeSet.{capacity}
-use Rattle.finder.specs.Finder.{tableWords}
+use Rattle.nodes.specs.SetTable.{tableWords}
 use mathlib.Core.Path.{_≡_, refl, sym, ap, _∙_}
 use Rattle.finder.specs.Views.{triedOf}
 use Rattle.finder.specs.Finding.{placed, progressIn}

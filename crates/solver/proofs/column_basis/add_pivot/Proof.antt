@@ -55,11 +55,13 @@ returns c = let a = c .before .before .before .before .before .before .before .b
     let having = h .ensures ∙ ap (setAt (a .across .now)) (q .ensures) in
     let row = least-one capacity l (member (c .before .before .before .before .first .result)) (p .3) (c .before .before .before .before .first .ensures) in (
       pivoted (a .across .now) (a .reduced .now) (c .before .before .before .before .before .before .before .before .before .before .before .before .before .before .before .before .before .before .before .before .add-to .last .0) (c .before .before .before .before .before .before .before .before .before .before .before .before .put-set .last .0) (lowest capacity l) (q .result) (h .result) (a .left) (p .0) low (q .ensures) (h .ensures) (c .before .before .before .before .before .before .before .before .before .before .before .before .before .before .before .before .before .before .before .before .add-to .ensures) (c .before .before .before .before .before .before .before .before .before .before .before .before .put-set .ensures),
-      (pivoted (a .across .now) (a .preimage .now) (c .before .before .before .before .before .before .before .before .before .before .before .before .before .before .before .before .add-to2 .last .0) (c .before .before .before .before .before .before .before .before .put-set2 .last .0) (lowest capacity l) (q .result) (h .result) (a .taken) (p .1) low (q .ensures) (h .ensures) (c .before .before .before .before .before .before .before .before .before .before .before .before .before .before .before .before .add-to2 .ensures) (c .before .before .before .before .before .before .before .before .put-set2 .ensures),
-      plus-as (λ i u. l i && member (c .before .before .before .union .result) u) (λ i u. l i && (setAt (a .across .now) (lowest capacity l) u || eqb u (lowest capacity l))) (a .across .now) (c .before .before .add-to3 .last .0)
-          (plus-sets (a .across .now) (c .before .before .add-to3 .last .0) (a .left) (c .before .before .before .union .result) (p .2) (c .before .before .add-to3 .ensures))
-          (λ i u. ap (λ (f : ℕ → Bool). l i && f u) (c .before .before .before .union .ensures ∙ ap₂ {C = ℕ → Bool} (λ (f g : ℕ → Bool) (v : ℕ). f v || g v) having row)),
-    ))
+      (
+        pivoted (a .across .now) (a .preimage .now) (c .before .before .before .before .before .before .before .before .before .before .before .before .before .before .before .before .add-to2 .last .0) (c .before .before .before .before .before .before .before .before .put-set2 .last .0) (lowest capacity l) (q .result) (h .result) (a .taken) (p .1) low (q .ensures) (h .ensures) (c .before .before .before .before .before .before .before .before .before .before .before .before .before .before .before .before .add-to2 .ensures) (c .before .before .before .before .before .before .before .before .put-set2 .ensures),
+        plus-as (λ i u. l i && member (c .before .before .before .union .result) u) (λ i u. l i && (setAt (a .across .now) (lowest capacity l) u || eqb u (lowest capacity l))) (a .across .now) (c .before .before .add-to3 .last .0)
+            (plus-sets (a .across .now) (c .before .before .add-to3 .last .0) (a .left) (c .before .before .before .union .result) (p .2) (c .before .before .add-to3 .ensures))
+            (λ i u. ap (λ (f : ℕ → Bool). l i && f u) (c .before .before .before .union .ensures ∙ ap₂ {C = ℕ → Bool} (λ (f g : ℕ → Bool) (v : ℕ). f v || g v) having row)),
+      ),
+    )
 
 pub add-pivot-spec : {M : Type 1} → statement M
 add-pivot-spec =

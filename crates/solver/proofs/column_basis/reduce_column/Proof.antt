@@ -48,9 +48,9 @@ same-length-3 c = search needs
 
 returns : tie.Need-returns
 returns c = let a = c .before .before .before .before .before .before .before .before .before .before .before .before .before .before .before .before .before .before .before .before .before .before .args in let p = c .before .before .before .before .before .before .before .before .before .before .before .before .before .before .before .before .before .before .before .before .before .before .pre in let z = p .0 .2 in let none = empty-now (c .before .before .before .before .before .before .is-empty .result) (anyBelow capacity (member (c .before .before .before .before .before .before .before .before .before .before .xor .result))) (c .before .before .before .before .before .before .is-empty .ensures) (c .before .before .before .before .before .if1 .taken) in (
-      brought-free (a .echelon) (a .reduced .now) (a .preimage .now) (a .kernel .now) (a .c) (p .0 .0) (c .before .before .before .before .before .before .before .before .before .before .before .before .before .before .set-at .result) (c .before .before .before .before .before .before .before .before .before .before .before .before .before .intersection .result) (c .before .before .before .before .before .before .before .before .before .before .before .odd-neighbors .result) (c .before .before .before .before .before .before .before .before .before .before .xor .result) (c .before .before .before .before .before .before .before .before .odd-neighbors2 .result) (a .alone) (c .before .before .before .before .before .before .before .xor2 .result) (c .before .before .before .before .before .before .before .before .before .before .before .before .before .before .set-at .ensures) (c .before .before .before .before .before .before .before .before .before .before .before .before .before .intersection .ensures) (c .before .before .before .before .before .before .before .before .before .before .before .odd-neighbors .ensures) (c .before .before .before .before .before .before .before .before .before .before .xor .ensures) (c .before .before .before .before .before .before .before .before .odd-neighbors2 .ensures) (p .0 .1) (c .before .before .before .before .before .before .before .xor2 .ensures) none (c .before .before .before .put-set .last .0) (c .union .result) (z .kernelSize) (c .before .before .before .put-set .ensures) (c .union .ensures),
-      (record { kernelSize = ap length (c .before .before .before .put-set .ensures) ∙ put-size (a .kernel .now) (a .c) (c .before .before .before .before .before .before .before .xor2 .result) ∙ z .kernelSize; reducedSize = z .reducedSize; preimageSize = z .preimageSize; acrossSize = z .acrossSize }, p .1 .1),
-    )
+  brought-free (a .echelon) (a .reduced .now) (a .preimage .now) (a .kernel .now) (a .c) (p .0 .0) (c .before .before .before .before .before .before .before .before .before .before .before .before .before .before .set-at .result) (c .before .before .before .before .before .before .before .before .before .before .before .before .before .intersection .result) (c .before .before .before .before .before .before .before .before .before .before .before .odd-neighbors .result) (c .before .before .before .before .before .before .before .before .before .before .xor .result) (c .before .before .before .before .before .before .before .before .odd-neighbors2 .result) (a .alone) (c .before .before .before .before .before .before .before .xor2 .result) (c .before .before .before .before .before .before .before .before .before .before .before .before .before .before .set-at .ensures) (c .before .before .before .before .before .before .before .before .before .before .before .before .before .intersection .ensures) (c .before .before .before .before .before .before .before .before .before .before .before .odd-neighbors .ensures) (c .before .before .before .before .before .before .before .before .before .before .xor .ensures) (c .before .before .before .before .before .before .before .before .odd-neighbors2 .ensures) (p .0 .1) (c .before .before .before .before .before .before .before .xor2 .ensures) none (c .before .before .before .put-set .last .0) (c .union .result) (z .kernelSize) (c .before .before .before .put-set .ensures) (c .union .ensures),
+  (record { kernelSize = ap length (c .before .before .before .put-set .ensures) ∙ put-size (a .kernel .now) (a .c) (c .before .before .before .before .before .before .before .xor2 .result) ∙ z .kernelSize; reducedSize = z .reducedSize; preimageSize = z .preimageSize; acrossSize = z .acrossSize }, p .1 .1),
+)
 
 add-pivot-requires : tie.Need-add-pivot-requires
 add-pivot-requires c κs = let z = c .before .before .before .before .before .before .before .before .before .before .before .before .before .before .before .before .before .before .before .before .pre .0 .2 in (z .reducedSize, z .preimageSize, z .acrossSize, some-now (c .before .before .before .before .is-empty .result) (anyBelow capacity (member (c .before .before .before .before .before .before .before .before .xor .result))) (c .before .before .before .before .is-empty .ensures) (c .before .before .before .if1 .left))
@@ -78,8 +78,10 @@ returns-2 c = let a = c .before .before .before .before .before .before .before 
     let fresh = left-fresh (a .echelon) (a .reduced .now) (a .preimage .now) (a .kernel .now) (a .c) (p .0 .0) (c .before .before .before .before .before .before .before .before .before .before .before .before .before .before .before .before .before .before .before .before .before .set-at .result) (c .before .before .before .before .before .before .before .before .before .before .before .before .before .before .before .before .before .before .before .before .intersection .result) (c .before .before .before .before .before .before .before .before .before .before .before .before .before .before .before .before .before .before .odd-neighbors .result) (c .before .before .before .before .before .before .before .before .before .before .before .before .before .before .before .before .before .xor .result) (c .before .before .before .before .before .before .before .before .before .before .before .before .before .before .before .odd-neighbors2 .result) (a .alone) (c .before .before .before .before .before .before .before .before .before .before .before .before .before .before .xor2 .result) (c .before .before .before .before .before .before .before .before .before .before .before .before .before .before .before .before .before .before .before .before .before .set-at .ensures) (c .before .before .before .before .before .before .before .before .before .before .before .before .before .before .before .before .before .before .before .before .intersection .ensures) (c .before .before .before .before .before .before .before .before .before .before .before .before .before .before .before .before .before .before .odd-neighbors .ensures) (c .before .before .before .before .before .before .before .before .before .before .before .before .before .before .before .before .before .xor .ensures) (c .before .before .before .before .before .before .before .before .before .before .before .before .before .before .before .odd-neighbors2 .ensures) (p .0 .1) (c .before .before .before .before .before .before .before .before .before .before .before .before .before .before .xor2 .ensures) (p .1 .0) (lowest capacity l) (lowest-member capacity l some) in
     let b = brought-pivot (a .echelon) (a .reduced .now) (a .preimage .now) (a .kernel .now) (a .c) (p .0 .0) (c .before .before .before .before .before .before .before .before .before .before .before .before .before .before .before .before .before .before .before .before .before .set-at .result) (c .before .before .before .before .before .before .before .before .before .before .before .before .before .before .before .before .before .before .before .before .intersection .result) (c .before .before .before .before .before .before .before .before .before .before .before .before .before .before .before .before .before .before .odd-neighbors .result) (c .before .before .before .before .before .before .before .before .before .before .before .before .before .before .before .before .before .xor .result) (c .before .before .before .before .before .before .before .before .before .before .before .before .before .before .before .odd-neighbors2 .result) (a .alone) (c .before .before .before .before .before .before .before .before .before .before .before .before .before .before .xor2 .result) (c .before .before .before .before .before .before .before .before .before .before .before .before .before .before .before .before .before .before .before .before .before .set-at .ensures) (c .before .before .before .before .before .before .before .before .before .before .before .before .before .before .before .before .before .before .before .before .intersection .ensures) (c .before .before .before .before .before .before .before .before .before .before .before .before .before .before .before .before .before .before .odd-neighbors .ensures) (c .before .before .before .before .before .before .before .before .before .before .before .before .before .before .before .before .before .xor .ensures) (c .before .before .before .before .before .before .before .before .before .before .before .before .before .before .before .odd-neighbors2 .ensures) (p .0 .1) (c .before .before .before .before .before .before .before .before .before .before .before .before .before .before .xor2 .ensures) some (a .across .now) (p .1 .1) (v .last .0) (v .last .1 .0) (c .before .first .result) (c .union2 .result) (v .ensures .0) (v .ensures .1 .0) (c .before .first .ensures) (c .union2 .ensures) in (
       b .0,
-      (record { kernelSize = z .kernelSize; reducedSize = v .ensures .0 .size ∙ z .reducedSize; preimageSize = v .ensures .1 .0 .size ∙ z .preimageSize; acrossSize = v .ensures .1 .1 .size ∙ z .acrossSize },
-        across-step (member (a .echelon .pivots)) (lowest capacity l) l (member (c .union2 .result)) (a .reduced .now) (v .last .0) (a .across .now) (v .last .1 .1 .0) fresh (p .1 .1) (v .ensures .0) (v .ensures .1 .1) (b .1)),
+      (
+        record { kernelSize = z .kernelSize; reducedSize = v .ensures .0 .size ∙ z .reducedSize; preimageSize = v .ensures .1 .0 .size ∙ z .preimageSize; acrossSize = v .ensures .1 .1 .size ∙ z .acrossSize },
+        across-step (member (a .echelon .pivots)) (lowest capacity l) l (member (c .union2 .result)) (a .reduced .now) (v .last .0) (a .across .now) (v .last .1 .1 .0) fresh (p .1 .1) (v .ensures .0) (v .ensures .1 .1) (b .1),
+      ),
     )
 
 pub reduce-column-spec : {M : Type 1} → statement M

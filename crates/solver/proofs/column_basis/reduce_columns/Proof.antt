@@ -30,10 +30,10 @@ empty-requires-2 c κs = search needs
 
 loop-holds : tie.Need-loop-holds Inv-loop μ-loop
 loop-holds c = let a = c .before .before .before .before .before .before .args in let p = c .before .before .before .before .before .before .pre in (
-      p .0,
-      λ i v. p .1 i v ∙ sym (ap (λ (f : ℕ → Bool). f v && setAt (a .reduced .now) v i) (c .before .empty .ensures)),
-      left-start (member (a .columns)) (a .reduced .now) (a .preimage .now) (a .kernel .now) _ (form-empty _ (a .reduced .now) (a .preimage .now) (a .kernel .now) (c .before .empty .ensures) (c .empty2 .ensures)),
-    )
+  p .0,
+  λ i v. p .1 i v ∙ sym (ap (λ (f : ℕ → Bool). f v && setAt (a .reduced .now) v i) (c .before .empty .ensures)),
+  left-start (member (a .columns)) (a .reduced .now) (a .preimage .now) (a .kernel .now) _ (form-empty _ (a .reduced .now) (a .preimage .now) (a .kernel .now) (c .before .empty .ensures) (c .empty2 .ensures)),
+)
 
 is-empty-requires : tie.Need-is-empty-requires Inv-loop μ-loop
 is-empty-requires c κs = search needs
@@ -46,9 +46,9 @@ first-requires c κs = search needs
 
 reduce-column-requires : tie.Need-reduce-column-requires Inv-loop μ-loop
 reduce-column-requires c κs = let a = c .before .before .before .before .before .before .before .before .before .before .before .before .before .before .before .args in let l = c .before .before .before .before .before .before .before .before .loop in let some = unless-in (c .before .before .before .before .before .before .before .is-empty .result) (anyBelow capacity (member (c .before .before .before .before .before .before .before .before .loop .left))) (c .before .before .before .before .before .before .before .is-empty .ensures) (c .before .before .before .before .before .before .if1 .taken) in let low = lowest-some capacity (member (l .left)) some in (
-      (omega (arith, low, c .before .lowest .ensures), least-one capacity (member (l .left)) (member (c .first .result)) some (c .first .ensures) ∙ ap {B = ℕ → Bool} (λ (v u : ℕ). eqb u v) (sym (c .before .lowest .ensures)), l .inv .0),
-      (left-units (member (a .columns)) (a .reduced .now) (a .preimage .now) (a .kernel .now) (member (l .left)) (l .echelon) (l .reduced) (l .preimage) (l .kernel) (l .inv .2), l .inv .1),
-    )
+  (omega (arith, low, c .before .lowest .ensures), least-one capacity (member (l .left)) (member (c .first .result)) some (c .first .ensures) ∙ ap {B = ℕ → Bool} (λ (v u : ℕ). eqb u v) (sym (c .before .lowest .ensures)), l .inv .0),
+  (left-units (member (a .columns)) (a .reduced .now) (a .preimage .now) (a .kernel .now) (member (l .left)) (l .echelon) (l .reduced) (l .preimage) (l .kernel) (l .inv .2), l .inv .1),
+)
 
 without-lowest-requires : tie.Need-without-lowest-requires Inv-loop μ-loop
 without-lowest-requires c κs = search needs
