@@ -2,6 +2,6 @@ pub mod Below
 pub mod BranchTable
 pub mod Filling
 pub mod Finding
-pub mod Packing
+pub mod RoundSystem
 pub mod Rounds
 pub mod Visiting

@@ -1,16 +1,16 @@
 -- A round visits its nodes one after the other, and the rounds follow one another: what stands in the search's set and in
 -- the lent buffers is at each point the progress of the definition, of the nodes below n.
 use Prim.Native.Nat.{ℕ, zero, suc, _+_, _≤_, _<_}
-use mathlib.Core.Path.{_≡_, refl, sym, ap, ap₂, _∙_, fun-ext}
+use mathlib.Core.Path.{_≡_, refl, sym, ap, ap₂, _∙_, subst, fun-ext}
 use mathlib.Core.Bool.{Bool, true, false, cond, not, _&&_, _||_}
 use mathlib.Core.Logic.{_⊎_, inl, inr}
-use mathlib.Core.Option.{Option}
+use mathlib.Core.Option.{none, Option}
 use native.Mathlib.Omega.{arith}
 use lib.Dec.{T, eqb, leb, ltb, eqb→eq, le→leb}
 use Rattle.nodes.specs.Bit.{_⊕_}
 use Rattle.nodes.specs.Row.{anyBelow, allBelow, count}
 use Rattle.nodes.specs.NodeSet.{capacity, highest}
-use Rattle.nodes.proofs.Logic.{is-true, is-false, from-true, from-false, both-ways, dec, and-l, and-all, or-r, or-none, not-out, eqb-yes, lt-or-ge, ⊕-self, ⊕-eq}
+use Rattle.nodes.proofs.Logic.{is-true, is-false, from-true, from-false, both-ways, dec, and-l, and-r, and-in, and-none, and-all, or-r, or-none, not-in, not-out, eqb-yes, lt-or-ge, ⊕-self, ⊕-eq}
 use Rattle.nodes.proofs.Row.{any-in, any-none, all-in, all-out, ltb-yes, ltb-no}
 use Rattle.nodes.proofs.Count.{count-le, count-ext}
 use Rattle.nodes.proofs.Remove.{removed}
@@ -110,6 +110,21 @@ module _ (try : ℕ → Option (ℕ → Bool)) (r : ℕ) (p : Progress) where
   -- none is left
   pub visited-end : (among left : ℕ → Bool) → ((v : ℕ) → T (left v) → ⊥) → visited (λ u. among u && not (left u)) try r p ≡ visited among try r p
   visited-end among left f = ap (λ (g : ℕ → Bool). visited g try r p) (fun-ext (λ u. ap (λ (b : Bool). among u && not b) (is-false (left u) (f u)) ∙ and-all (among u)))
+
+  -- those that are passed over would get nothing
+  pub visited-fewer : (among fewer : ℕ → Bool) → ((u : ℕ) → T (fewer u) → T (among u)) → ((u : ℕ) → T (among u) → (T (fewer u) → ⊥) → try u ≡ none) → visited fewer try r p ≡ visited among try r p
+  visited-fewer among fewer h f =
+      progress-eq (visited fewer try r p) (visited among try r p) (λ u. ap (λ (b : Bool). p .solved u || b) (same u)) (λ u. ap (λ (b : Bool). cond b r (p .layer u)) (same u))
+      (λ u. ap (λ (b : Bool). cond b (orNone (try u)) (p .set u)) (same u))
+    where
+      same : (u : ℕ) → fewer u && isSome (try u) ≡ among u && isSome (try u)
+      same u = by (dec (among u)) (dec (fewer u))
+        where
+          by : T (among u) ⊎ (T (among u) → ⊥) → T (fewer u) ⊎ (T (fewer u) → ⊥) → fewer u && isSome (try u) ≡ among u && isSome (try u)
+          by (inl a) (inl b) = rw (is-true (among u) a, is-true (fewer u) b)
+          by (inl a) (inr b) = rw (is-false (fewer u) b, f u a b) (sym (and-none (among u)))
+          by (inr a) (inl b) = absurd (a (h u b))
+          by (inr a) (inr b) = rw (is-false (among u) a, is-false (fewer u) b)
 
   -- only the tries of the visited nodes count
   pub visited-ext : (among : ℕ → Bool) (other : ℕ → Option (ℕ → Bool)) → ((u : ℕ) → T (among u) → try u ≡ other u) → visited among try r p ≡ visited among other r p
@@ -282,3 +297,12 @@ module _ (stops : Progress → Bool) (try : (ℕ → Bool) → ℕ → Option (�
     unsolved = count-le n (λ u. not (s .solved u));
     same = rounds-agree stops try n x y n 1 s t (cut-same n s t e);
   }
+
+-- a node of a part that leaves out `plain` where it is no pivot, and is not in it, is one of these
+pub passed-plain : (all plain pivots part : ℕ → Bool) → part ≡ (λ u. all u && not (plain u && not (pivots u))) → (u : ℕ) → T (all u) → (T (part u) → ⊥) → {o : Option (ℕ → Bool)}
+    → (T (plain u) → (T (pivots u) → ⊥) → o ≡ none) → o ≡ none
+passed-plain all plain pivots part e u t f {o = o} h = by (dec (plain u && not (pivots u)))
+  where
+    by : T (plain u && not (pivots u)) ⊎ (T (plain u && not (pivots u)) → ⊥) → o ≡ none
+    by (inl q) = h (and-l (plain u) (not (pivots u)) q) (not-out (pivots u) (and-r (plain u) (not (pivots u)) q))
+    by (inr g) = absurd (f (subst (λ (p : ℕ → Bool). T (p u)) (sym e) (and-in (all u) (not (plain u && not (pivots u))) t (not-in (plain u && not (pivots u)) g))))

@@ -1,18 +1,20 @@
-use mathlib.Core.Path.{ap}
-use mathlib.Core.Bool.{true, false}
-use Prim.Native.Nat.{ℕ, _*_}
+use lib.ListN.{length}
 use native.Mathlib.Omega.{arith}
+use mathlib.Core.Path.{_≡_, refl, ap, _∙_}
+use mathlib.Core.Bool.{true, false}
+use Prim.Native.Nat.{ℕ, _*_, _≤_}
 use Rattle.nodes.specs.Row.{count}
 use Rattle.nodes.specs.NodeSet.{member, capacity}
-use Rattle.finder.proofs.Filling.{added-both}
-use Rattle.finder.specs.Views.{block, columnBit}
+use Rattle.nodes.proofs.NodeSet.{member-lt}
 use Rattle.solver.specs.Solver.{rowBytes}
+use Rattle.finder.specs.Views.{rowBit}
+use Rattle.finder.proofs.Filling.{part-size, both-size, both-upper, both-lower}
 use borrow.Author.Needs.{needs}
 use Rattle.finder.proofs.fill.Statement.{statement}
 use Rattle.finder.proofs.fill.Tie as tie
 
-put-columns-requires : tie.Need-put-columns-requires
-put-columns-requires c κs = search needs
+put-rows-requires : tie.Need-put-rows-requires
+put-rows-requires c κs = search needs
 
 count-requires : tie.Need-count-requires
 count-requires c κs = search needs
@@ -20,38 +22,39 @@ count-requires c κs = search needs
 mul-start : tie.Need-mul-start
 mul-start c = search needs
 
-sub-put-columns : tie.Need-sub-put-columns
-sub-put-columns c = search needs
+sub-put-rows : tie.Need-sub-put-rows
+sub-put-rows c = search needs
 
-part-put-columns-start : tie.Need-part-put-columns-start
-part-put-columns-start c = search needs
+part-put-rows-start : tie.Need-part-put-rows-start
+part-put-rows-start c = search needs
 
-part-put-columns-end : tie.Need-part-put-columns-end
-part-put-columns-end c = search needs
+part-put-rows-end : tie.Need-part-put-rows-end
+part-put-rows-end c = search needs
 
-put-columns-requires-2 : tie.Need-put-columns-requires-2
-put-columns-requires-2 c κs = search needs
+put-rows-requires-2 : tie.Need-put-rows-requires-2
+put-rows-requires-2 c κs = search needs
 
 same-length : tie.Need-same-length
 same-length c = search needs
 
 returns : tie.Need-returns
-returns c = let a = c .before .before .before .before .before .before .before .before .before .before .before .before .before .before .args in
-    let p = c .before .before .before .before .before .before .before in
-    added-both (count capacity (member (a .s .upper))) _ _ _ (a .work .now)
-    (block (member (a .s .upper)) (member (a .s .columns)) (columnBit (a .g .now) false)) (block (member (a .s .lower)) (member (a .s .columns)) (columnBit (a .g .now) true))
-    (ap (λ (x : ℕ). x * rowBytes) (c .before .before .before .before .count .ensures)) (omega (arith, p .put-columns .ensures .size)) (p .put-columns .ensures) (c .before .before .put-columns2 .ensures)
+returns c = let a = c .before .before .before .before .before .before .before .before .before .before .before .before .before .before .args in let u = member (a .s .upper) in let l = member (a .s .lower) in let f = rowBit (a .turned .now) (member (a .s .columns)) false in let g = rowBit (a .turned .now) (member (a .s .columns)) true in
+    let e = ap (λ (x : ℕ). x * rowBytes) (c .before .before .before .before .count .ensures) in let p = c .before .before .before .before .before .before .before .put-rows in let q = c .before .before .put-rows2 in
+    let room : c .before .before .before .before .count .result * rowBytes ≤ length (p .last .0) = omega (arith, p .ensures .1, c .before .before .before .before .count .ensures, c .before .before .before .before .before .before .before .before .before .before .before .before .before .before .pre) in (
+      both-upper u l f g _ (p .last .0) (q .last .0) _ e room (member-lt (a .s .upper)) refl (p .ensures .0),
+      (both-lower u l f g _ (p .last .0) (q .last .0) _ e room (member-lt (a .s .upper)) refl (q .ensures .0), both-size u l f g _ (p .last .0) (q .last .0) _ e room (member-lt (a .s .upper)) refl (q .ensures .1) ∙ p .ensures .1),
+    )
 
 pub fill-spec : {M : Type 1} → statement M
 fill-spec =
     tie.close
     (tie.spec
-    put-columns-requires
+    put-rows-requires
     count-requires
     mul-start
-    sub-put-columns
-    part-put-columns-start
-    part-put-columns-end
-    put-columns-requires-2
+    sub-put-rows
+    part-put-rows-start
+    part-put-rows-end
+    put-rows-requires-2
     same-length
     returns)

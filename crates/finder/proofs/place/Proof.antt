@@ -1,7 +1,11 @@
+use native.Mathlib.Omega.{arith}
 use lib.ListN.{length, length-set}
+use lib.Dec.{eqb}
+use mathlib.Core.Bool.{Bool, _||_}
+use Prim.Native.Nat.{ℕ}
 use Rattle.nodes.proofs.SetTable.{put-length}
 use Rattle.finder.specs.declared.Tried.{Tried}
-use Rattle.nodes.specs.NodeSet.{capacity}
+use Rattle.nodes.specs.NodeSet.{capacity, member}
 use Rattle.nodes.specs.SetTable.{tableWords}
 use mathlib.Core.Path.{_≡_, refl, sym, ap, _∙_}
 use Rattle.finder.specs.Views.{triedOf}
@@ -20,8 +24,8 @@ slice-write-layers c = search needs
 put-set-requires : tie.Need-put-set-requires
 put-set-requires c κs = search needs
 
-with-requires : tie.Need-with-requires
-with-requires c κs = search needs
+union-requires : tie.Need-union-requires
+union-requires c κs = search needs
 
 enum-told : tie.Need-enum-told
 enum-told c = search needs
@@ -33,22 +37,17 @@ same-length-2 : tie.Need-same-length-2
 same-length-2 c = search needs
 
 returns : tie.Need-returns
-returns c = let m = c .before .before .before .before .before .before .before .before .before .before in
-    let a = m .args in
-    let t = c .before .before .before .before .before .before .t .given in
-    let hl : length (a .layers .now) ≡ capacity = search needs in
-    let hs : length (a .sets .now) ≡ tableWords = search needs in (
-      place-some (a .solved) (a .layers .now) (a .sets .now) (a .u) (a .r) (search needs) hl hs _ _ _ (c .with .ensures) (c .before .before .before .put-set .ensures)
+returns c = let a = c .before .before .before .before .before .before .before .before .before .before .args in let p = c .before .before .before .before .before .before .before .before .before .before .pre in let t = c .before .before .before .before .before .before .t .given in (
+      place-some (a .solved) (a .layers .now) (a .sets .now) (a .u) (a .r) (p .0) (p .2) (p .3) _ _ _ (c .union .ensures ∙ ap {B = ℕ → Bool} (λ (f : ℕ → Bool) (v : ℕ). member (a .solved) v || f v) (p .1)) (c .before .before .before .put-set .ensures)
           ∙ ap (λ (t : Tried). placed (a .u) (a .r) (triedOf t) (progressIn (a .solved) (a .layers .now) (a .sets .now))) (sym (t .1)),
-      (length-set (a .layers .now) (a .u) (a .r) ∙ hl, ap length (c .before .before .before .put-set .ensures) ∙ put-length (a .sets .now) (a .u) _ refl ∙ hs),
+      (length-set (a .layers .now) (a .u) (a .r) ∙ p .2, ap length (c .before .before .before .put-set .ensures) ∙ put-length (a .sets .now) (a .u) _ refl ∙ p .3),
     )
 
 returns-2 : tie.Need-returns-2
-returns-2 c = let m = c .before .before .before .before in
-    let a = m .args in (
+returns-2 c = let a = c .before .before .before .before .args in let p = c .before .before .before .before .pre in (
       place-none (a .solved) (a .layers .now) (a .sets .now) (a .u) (a .r)
           ∙ ap (λ (t : Tried). placed (a .u) (a .r) (triedOf t) (progressIn (a .solved) (a .layers .now) (a .sets .now))) (sym (c .enum-told .given .1)),
-      search needs,
+      (p .2, p .3),
     )
 
 pub place-spec : {M : Type 1} → statement M
@@ -58,7 +57,7 @@ place-spec =
     enum-known-t
     slice-write-layers
     put-set-requires
-    with-requires
+    union-requires
     enum-told
     same-length
     same-length-2

@@ -7,8 +7,8 @@ use lib.ListN.{getD}
 use Rattle.nodes.specs.NodeSet.{member}
 use Rattle.finder.proofs.Finding.{none-yet, one-more}
 use borrow.Author.Needs.{needs}
-use Rattle.finder.proofs.pflow.measured_in.Statement.{statement}
-use Rattle.finder.proofs.pflow.measured_in.Tie as tie
+use Rattle.finder.proofs.measured_in.Statement.{statement}
+use Rattle.finder.proofs.measured_in.Tie as tie
 
 abbrev Inv-loop : tie.InvT-loop
 Inv-loop n measured a b found₀ i₀ found i = (i ≤ n) × (member found ≡ (λ u. ltb u i && (eqb (getD measured u 0) a || eqb (getD measured u 0) b)))

@@ -1,6 +1,6 @@
 use borrow.Author.Tests.{eq-eqb, ne-eqb}
-use Rattle.finder.proofs.pflow.is_either.Statement.{statement}
-use Rattle.finder.proofs.pflow.is_either.Tie as tie
+use Rattle.finder.proofs.is_either.Statement.{statement}
+use Rattle.finder.proofs.is_either.Tie as tie
 
 returns : tie.Need-returns
 returns c = simp (eq-eqb _ _ (c .if1 .taken))
