@@ -212,8 +212,12 @@ module _ (n : ℕ) (g : List ℕ) (s : Sets) (e : Echelon) (kernel reduced preim
         by (inl l) (inr f) (inl a) =
             let m = ready .within .lower i a in
             let y : n + i - n ≡ i = add-sub-cancel-left n i in
-            inl (n + i, omega arith,
-              large-in (n + i) (omega arith) (subst (λ (c : Bool). T (cond c (member (s .upper) (n + i)) (member (s .lower) (n + i - n)))) (sym (ltb-no (n + i) n (omega arith))) (subst (λ (x : ℕ). T (member (s .lower) x)) (sym y) a)), lower-like i a)
+            inl (
+              n + i,
+              omega arith,
+              large-in (n + i) (omega arith) (subst (λ (c : Bool). T (cond c (member (s .upper) (n + i)) (member (s .lower) (n + i - n)))) (sym (ltb-no (n + i) n (omega arith))) (subst (λ (x : ℕ). T (member (s .lower) x)) (sym y) a)),
+              lower-like i a,
+            )
         by (inl l) (inr f) (inr z) = inr (
           λ k m c. ap (λ (x : Bool). cond x (roundSystem turned s .entry i k) (askedColumns turned s u k)) (ltb-yes i capacity l)
               ∙ ap₂ (λ (x y : Bool). (x && setAt turned i k) ⊕ (y && (setAt turned i k ⊕ eqb k i))) (is-false (member (s .upper) i) f) (is-false (member (s .lower) i) z),

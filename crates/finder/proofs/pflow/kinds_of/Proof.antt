@@ -23,11 +23,11 @@ measured-in-requires-4 c κs = search needs
 
 returns : tie.Need-returns
 returns c = let a = c .before .before .before .before .before .args in record {
-      xy = c .before .before .before .measured-in .ensures;
-      yz = c .before .before .measured-in2 .ensures;
-      y = c .before .measured-in3 .ensures ∙ fun-ext (λ u. ap (λ (b : Bool). ltb u (a .n) && b) (or-self (eqb (getD (a .measured .now) u 0) pauliY)));
-      plain = c .measured-in4 .ensures ∙ fun-ext (λ u. ap (λ (b : Bool). ltb u (a .n) && b) (or-self (eqb (getD (a .measured .now) u 0) planeXY)));
-    }
+  xy = c .before .before .before .measured-in .ensures;
+  yz = c .before .before .measured-in2 .ensures;
+  y = c .before .measured-in3 .ensures ∙ fun-ext (λ u. ap (λ (b : Bool). ltb u (a .n) && b) (or-self (eqb (getD (a .measured .now) u 0) pauliY)));
+  plain = c .measured-in4 .ensures ∙ fun-ext (λ u. ap (λ (b : Bool). ltb u (a .n) && b) (or-self (eqb (getD (a .measured .now) u 0) planeXY)));
+}
 
 pub kinds-of-spec : {M : Type 1} → statement M
 kinds-of-spec =
