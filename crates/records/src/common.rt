@@ -1,7 +1,7 @@
 // The records of job and flow files, and reading them: questions 1 to 7 of document 01, and 9.
 ghost use mathlib.Core.Path.{_≡_};
 ghost use mathlib.Core.Bool.{true, false, _&&_};
-ghost use Prim.Native.Nat.{_+_, _<_, _≤_};
+ghost use Prim.Native.Nat.{_+_, _%_, _<_, _≤_};
 ghost use lib.Dec.{eqb, leb, ltb};
 ghost use lib.ListN.{length, drop};
 ghost use Rattle.nodes.specs.NodeSet.{member, highest};
@@ -230,54 +230,58 @@ fn head(file: &[u8], at: usize, kind: u16) -> Found
 
 // ---- One question, asked of the whole payload.
 
-// Is each node below n?
+// Is each node below n? Asked of the greatest: a loop that always runs to its end takes many bytes at a time.
 fn below(nodes: &[u8], n: usize) -> bool
     ensures { λ r. ⌜ r ≡ all (λ v. ltb v n) (now (nodes .entry)) ⌝ }
 {
+    if n == 0 {
+        return nodes.len() == 0;
+    }
+    let mut top: u8 = 0;
     let mut i = 0;
     while i < nodes.len() {
-        if wide(nodes[i]) >= n {
-            return false;
+        let v = nodes[i];
+        if v > top {
+            top = v;
         }
         i += 1;
     }
-    true
+    wide(top) < n
 }
 
-// Are the nodes strictly ascending?
+// Are the nodes strictly ascending? This loop, too, always runs to its end.
 fn rising(nodes: &[u8]) -> bool
     ensures { λ r. ⌜ r ≡ rises 0 (now (nodes .entry)) ⌝ }
 {
-    let mut low: usize = 0;
-    let mut i = 0;
+    let mut ok = true;
+    let mut i = 1;
     while i < nodes.len() {
-        let v = wide(nodes[i]);
-        if v < low {
-            return false;
+        if nodes[i - 1] >= nodes[i] {
+            ok = false;
         }
-        low = v + 1;
         i += 1;
     }
-    true
+    ok
 }
 
-// Is a < b in each edge, and are the edges strictly ascending by a, then b?
+// Is a < b in each edge, and are the edges strictly ascending by a, then b? As numbers 256 a + b they rise from above 0.
 fn pairs_rising(edges: &[u8]) -> bool
+    requires { ⌜ length (now edges) % 2 ≡ 0 ⌝ }
     ensures { λ r. ⌜ r ≡ pairsRise 0 (now (edges .entry)) ⌝ }
 {
-    let mut low: usize = 0;
+    let mut last: usize = 0;
     let mut i = 0;
-    while edges.len() - i >= 2 {
+    while i < edges.len() {
         let a = wide(edges[i]);
         let b = wide(edges[i + 1]);
         if a >= b {
             return false;
         }
         let key = 256 * a + b;
-        if key < low {
+        if key <= last {
             return false;
         }
-        low = key + 1;
+        last = key;
         i += 2;
     }
     true
