@@ -14,7 +14,7 @@ use lib.Seq.{drop-cons}
 use Rattle.nodes.specs.NodeSet.{highest}
 use Rattle.nodes.specs.Lists.{has}
 use Rattle.nodes.proofs.Logic.{lt-or-ge}
-use Rattle.records.specs.JobFile.{all, rises, pairsRise, allows, allAllowed}
+use Rattle.records.specs.JobFile.{all, rises, pairsRise}
 
 pub rest-none : (l : List ℕ) (i : ℕ) → length l ≤ i → drop i l ≡ []
 rest-none l i h = drop-of-length-le l h
@@ -32,9 +32,9 @@ module _ (f : ℕ → Bool) (l : List ℕ) (i : ℕ) where
   unfolding all
   all-end h = ap (all f) (rest-none l i h)
 
-  pub all-more : i < length l → all f (drop i l) ≡ f (getD l i 0) && all f (drop (i + 1) l)
+  pub all-next : i < length l → all f (drop i l) ≡ f (getD l i 0) && all f (drop (i + 1) l)
   unfolding all
-  all-more h = ap (all f) (rest-cons l i h)
+  all-next h = ap (all f) (rest-cons l i h)
 
 -- where the greater of two is below n, the other is
 pub covers : (a b n : ℕ) (x : Bool) → a ≤ b → ltb b n && (ltb a n && x) ≡ ltb b n && x
@@ -97,19 +97,6 @@ module _ (low : ℕ) (l : List ℕ) (i : ℕ) where
       pub pairs-yes : low ≤ 256 * getD l i 0 + getD l (i + 1) 0 → pairsRise low (drop i l) ≡ pairsRise (256 * getD l i 0 + getD l (i + 1) 0 + 1) (drop (i + 2) l)
       unfolding pairsRise
       pairs-yes g = ap (pairsRise low) (rest-two l i h) ∙ rw (lt-ltb (getD l i 0) (getD l (i + 1) 0) e, le-leb low (256 * getD l i 0 + getD l (i + 1) 0) g)
-
-module _ (mode : ℕ) (out : ℕ → Bool) (l : List ℕ) (i : ℕ) where
-  pub allowed-end : length l ≤ i → allAllowed mode out i (drop i l) ≡ true
-  unfolding allAllowed
-  allowed-end h = ap (allAllowed mode out i) (rest-none l i h)
-
-  pub allowed-no : i < length l → allows mode (out i) (getD l i 0) ≡ false → allAllowed mode out i (drop i l) ≡ false
-  unfolding allAllowed
-  allowed-no h e = ap (allAllowed mode out i) (rest-cons l i h) ∙ rw e
-
-  pub allowed-yes : i < length l → allows mode (out i) (getD l i 0) ≡ true → allAllowed mode out i (drop i l) ≡ allAllowed mode out (i + 1) (drop (i + 1) l)
-  unfolding allAllowed
-  allowed-yes h e = ap (allAllowed mode out i) (rest-cons l i h) ∙ rw e
 
 -- the members of a list, below a bound: of those put in so far, and of the rest
 abbrev pub lists : List ℕ → ℕ → Bool

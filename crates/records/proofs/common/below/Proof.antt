@@ -8,7 +8,7 @@ use lib.ListN.{length, getD, drop}
 use borrow.Author.Tests.{lt-ltb}
 use Rattle.nodes.proofs.Logic.{and-all, and-turn}
 use Rattle.records.specs.JobFile.{all}
-use Rattle.records.proofs.ReadingLoops.{all-end, all-more, covers, none-below}
+use Rattle.records.proofs.ReadingLoops.{all-end, all-next, covers, none-below}
 use borrow.Author.Needs.{needs}
 use Rattle.records.proofs.common.below.Statement.{statement}
 use Rattle.records.proofs.common.below.Tie as tie
@@ -41,7 +41,7 @@ loop-again c =
     let p = a .nodes .now in
     let rest : Bool = all (λ v. ltb v (a .n)) (drop (l .i + 1) p) in
     let v = getD p (l .i) 0 in
-    let step : all (λ v. ltb v (a .n)) p ≡ ltb (l .top) (a .n) && (ltb v (a .n) && rest) = l .inv .1 ∙ ap (λ (x : Bool). ltb (l .top) (a .n) && x) (all-more (λ v. ltb v (a .n)) p (l .i) (omega arith)) in (
+    let step : all (λ v. ltb v (a .n)) p ≡ ltb (l .top) (a .n) && (ltb v (a .n) && rest) = l .inv .1 ∙ ap (λ (x : Bool). ltb (l .top) (a .n) && x) (all-next (λ v. ltb v (a .n)) p (l .i) (omega arith)) in (
       search needs,
       ⊎-elim
           (λ w. rw (w .1) (step ∙ and-turn (ltb (l .top) (a .n)) (ltb v (a .n)) rest ∙ covers (l .top) v (a .n) rest (omega arith)))
