@@ -52,11 +52,11 @@ unfolding all
 all-right f [] g a = a
 all-right f (x ∷ l) g a = all-right f l g (and-out (f x) (all f (l ++ g)) a .1)
 
-pub all-at : (f : ℕ → Bool) (l : List ℕ) (i : ℕ) → all f l ≡ true → i < length l → f (getD l i 0) ≡ true
+pub below-at : (n : ℕ) (l : List ℕ) (i : ℕ) → all (λ v. ltb v n) l ≡ true → i < length l → getD l i 0 < n
 unfolding all
-all-at f [] i a h = absurd (not-suc-le-zero h)
-all-at f (x ∷ l) zero a h = and-out (f x) (all f l) a .0
-all-at f (x ∷ l) (suc i) a h = all-at f l i (and-out (f x) (all f l) a .1) (le-of-suc-le-suc h)
+below-at n [] i a h = absurd (not-suc-le-zero h)
+below-at n (x ∷ l) zero a h = ltb-true x n (and-out (ltb x n) (all (λ v. ltb v n) l) a .0)
+below-at n (x ∷ l) (suc i) a h = below-at n l i (and-out (ltb x n) (all (λ v. ltb v n) l) a .1) (le-of-suc-le-suc h)
 
 pub all-more : (f g : ℕ → Bool) (l : List ℕ) → ((v : ℕ) → f v ≡ true → g v ≡ true) → all f l ≡ true → all g l ≡ true
 unfolding all

@@ -1,11 +1,10 @@
 use mathlib.Core.Path.{_≡_, refl, sym, _∙_}
 use Prim.Native.Nat.{_-_, _≤_}
 use native.Mathlib.Omega.{arith}
-use borrow.Author.Tests.{ltb-true, eq-eqb, ne-eqb}
-use lib.Dec.{ltb}
+use borrow.Author.Tests.{eq-eqb, ne-eqb}
 use lib.ListN.{length, getD, drop}
 use Rattle.records.specs.JobFile.{all}
-use Rattle.records.proofs.Records.{all-at}
+use Rattle.records.proofs.Records.{below-at}
 use Rattle.records.proofs.ReadingLoops.{all-end, all-next}
 use Rattle.records.proofs.ReadingMeasurements.{zeroAt}
 use borrow.Author.Needs.{needs}
@@ -32,7 +31,7 @@ shared-slice-read-if1 c =
     let l = c .before .before .before .before .loop in
     let s = c .before .before .before .before .before .before .before in
     let n = length (s .args .bytes .now) in
-    omega (arith, ltb-true (getD (s .args .nodes .now) (l .i) 0) n (all-at (λ v. ltb v n) (s .args .nodes .now) (l .i) (s .pre) (omega arith)))
+    omega (arith, below-at n (s .args .nodes .now) (l .i) (s .pre) (omega arith))
 
 returns : tie.Need-returns Inv-loop μ-loop
 returns c =
