@@ -15,7 +15,7 @@ use Rattle.records.specs.Records.{checked, written, kindOpen, kindEdges,
 use Rattle.nodes.specs.Lists.{has}
 use Rattle.records.specs.JobFile.{JobFile, modeCausal, modePlanes, all, rises, pairsRise, highestOf, allows, allAllowed, openNo, edgesNo, nodesNo, measurementsNo, readMeasurements, readOutputs, readInputs, readEdges, readJob, joined, jobOf}
 use Rattle.records.specs.Encoding.{jobBytes, ValidJob}
-use Rattle.records.proofs.Records.{give-inj, bind-out, no-out, and-out, checked-passed, checked-append, checked-written, record-bytes}
+use Rattle.records.proofs.Records.{give-inj, bind-out, no-out, and-out, all-more, checked-passed, checked-append, checked-written, record-bytes}
 
 -- ---- the questions of each record, as facts
 two-bytes : (l : List ℕ) → length l ≡ 2 → l ≡ getD l 0 0 ∷ getD l 1 0 ∷ []
@@ -48,7 +48,7 @@ edges-in : (n : ℕ) (p : List ℕ) → length p % 2 ≡ 0 → all (λ v. ltb v 
 unfolding edgesNo
 edges-in n p a b c = rw (a, b, c)
 
-nodes-out : (n : ℕ) (p : List ℕ) → nodesNo n p ≡ 0 → (all (λ v. ltb v n) p ≡ true) × (rises 0 p ≡ true)
+pub nodes-out : (n : ℕ) (p : List ℕ) → nodesNo n p ≡ 0 → (all (λ v. ltb v n) p ≡ true) × (rises 0 p ≡ true)
 unfolding nodesNo
 nodes-out n p e =
     let (a, b) = no-out 4 (all (λ v. ltb v n) p) (no 6 (rises 0 p) 0) e in
@@ -217,16 +217,20 @@ pub job-exact : (s : List ℕ) (f : JobFile) → all (λ b. ltb b 256) s ≡ tru
 job-exact s f h = (λ e. (job-encodes s f h e, job-asked s f e), λ x. ap readJob (x .0) ∙ job-decodes f (x .1))
 
 -- ---- what follows for the nodes
-pub has-below : (n : ℕ) (l : List ℕ) (u : ℕ) → all (λ v. ltb v n) l ≡ true → T (has l u) → u < n
+-- what all elements pass, each member passes
+pub all-has : (f : ℕ → Bool) (l : List ℕ) (u : ℕ) → all f l ≡ true → T (has l u) → f u ≡ true
 unfolding all has
-has-below n [] u a t = absurd t
-has-below n (x ∷ l) u a t =
-    let (p, q) = and-out (ltb x n) (all (λ v. ltb v n) l) a in
-    by p (or-out (eqb x u) (has l u) t) (has-below n l u q)
+all-has f [] u a t = absurd t
+all-has f (x ∷ l) u a t =
+    let (p, q) = and-out (f x) (all f l) a in
+    by p (or-out (eqb x u) (has l u) t) (all-has f l u q)
   where
-    by : ltb x n ≡ true → T (eqb x u) ⊎ T (has l u) → (T (has l u) → u < n) → u < n
-    by p (inl e) ih = rw (← eqb→eq x u e) (ltb-true x n p)
+    by : f x ≡ true → T (eqb x u) ⊎ T (has l u) → (T (has l u) → f u ≡ true) → f u ≡ true
+    by p (inl e) ih = rw (← eqb→eq x u e) p
     by p (inr e) ih = ih e
+
+pub has-below : (n : ℕ) (l : List ℕ) (u : ℕ) → all (λ v. ltb v n) l ≡ true → T (has l u) → u < n
+has-below n l u a t = ltb-true u n (all-has (λ v. ltb v n) l u a t)
 
 pub joined-sym : (l : List ℕ) (u v : ℕ) → joined l u v ≡ joined l v u
 unfolding joined
@@ -295,22 +299,31 @@ allowed-at mode output i (m ∷ l) (suc k) a h =
     let e : i + suc k ≡ i + 1 + k = omega arith in
     ap (λ (x : ℕ). allows mode (output x) (getD l k 0)) e ∙ allowed-at mode output (i + 1) l k (and-out (allows mode (output i) m) (allAllowed mode output (i + 1) l) a .1) (le-of-suc-le-suc h)
 
-pub allows-most : (mode : ℕ) (output : Bool) (m : ℕ) → allows mode output m ≡ true → m ≤ 6
+allows-below : (mode : ℕ) (output : Bool) (m : ℕ) → allows mode output m ≡ true → m < highestOf mode + 1
 unfolding allows
-allows-most mode true m e = omega (arith, eqb-true m 0 e)
-allows-most mode false m e = by (eqb mode modeCausal) (eqb mode modePlanes) (leb-true m (highestOf mode) (and-out (leb 1 m) (leb m (highestOf mode)) e .1))
+allows-below mode true m e = omega (arith, eqb-true m 0 e)
+allows-below mode false m e = omega (arith, leb-true m (highestOf mode) (and-out (leb 1 m) (leb m (highestOf mode)) e .1))
+
+highest-most : (mode : ℕ) → highestOf mode ≤ 6
+highest-most mode = by (eqb mode modeCausal) (eqb mode modePlanes)
   where
-    by : (a b : Bool) → m ≤ cond a 1 (cond b 3 6) → m ≤ 6
-    by true b h = omega arith
-    by false true h = omega arith
-    by false false h = h
+    by : (a b : Bool) → cond a 1 (cond b 3 6) ≤ 6
+    by true b = omega arith
+    by false true = omega arith
+    by false false = omega arith
+
+pub allows-most : (mode : ℕ) (output : Bool) (m : ℕ) → allows mode output m ≡ true → m ≤ 6
+allows-most mode output m e = omega (arith, allows-below mode output m e, highest-most mode)
+
+pub allowed-below : (mode : ℕ) (output : ℕ → Bool) (i : ℕ) (l : List ℕ) → allAllowed mode output i l ≡ true → all (λ v. ltb v (highestOf mode + 1)) l ≡ true
+unfolding allAllowed all
+allowed-below mode output i [] a = refl
+allowed-below mode output i (m ∷ l) a =
+    let (p, q) = and-out (allows mode (output i) m) (allAllowed mode output (i + 1) l) a in
+    rw (lt-ltb m (highestOf mode + 1) (allows-below mode (output i) m p), allowed-below mode output (i + 1) l q)
 
 allowed-bytes : (mode : ℕ) (output : ℕ → Bool) (i : ℕ) (l : List ℕ) → allAllowed mode output i l ≡ true → all (λ b. ltb b 256) l ≡ true
-unfolding allAllowed all
-allowed-bytes mode output i [] a = refl
-allowed-bytes mode output i (m ∷ l) a =
-    let (p, q) = and-out (allows mode (output i) m) (allAllowed mode output (i + 1) l) a in
-    rw (lt-ltb m 256 (omega (arith, allows-most mode (output i) m p)), allowed-bytes mode output (i + 1) l q)
+allowed-bytes mode output i l a = all-more (λ v. ltb v (highestOf mode + 1)) (λ b. ltb b 256) l (λ v e. lt-ltb v 256 (omega (arith, ltb-true v (highestOf mode + 1) e, highest-most mode))) (allowed-below mode output i l a)
 
 module _ (f : JobFile) (v : ValidJob f) where
   byte-allowed : (u : ℕ) → u < f .n → allows (f .mode) (has (f .outputs) u) (jobOf f .measured u) ≡ true

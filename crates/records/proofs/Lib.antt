@@ -3,6 +3,7 @@ pub mod JobFile
 pub mod ReadingEntries
 pub mod ReadingHead
 pub mod ReadingLoops
+pub mod ReadingMeasurements
 pub mod ReadingRecords
 pub mod Records
 pub mod Splice

@@ -2,17 +2,19 @@
 use mathlib.Core.Path.{_≡_, refl, sym, ap, _∙_}
 use mathlib.Core.Bool.{Bool, true, false, _&&_, _||_}
 use mathlib.Core.List.{List, [], _∷_}
-use Prim.Native.Nat.{ℕ, _+_, _*_, _-_, _<_, _≤_}
+use Prim.Native.Nat.{ℕ, _+_, _*_, _<_, _≤_, zero-le}
 use native.Mathlib.Numerals.{add-one}
 use native.Mathlib.Omega.{arith}
 use native.Mathlib.Decide.{ℕ-discrete}
+use mathlib.Core.Logic.{_⊎_, inl, inr}
 use borrow.Author.Tests.{le-leb, lt-leb, lt-ltb, le-ltb, eq-eqb, ne-eqb}
-use lib.Dec.{eqb, leb}
+use lib.Dec.{eqb, leb, ltb}
 use lib.ListN.{length, getD, drop, drop-of-length-le}
 use lib.Seq.{drop-cons}
 use Rattle.nodes.specs.NodeSet.{highest}
 use Rattle.nodes.specs.Lists.{has}
-use Rattle.records.specs.JobFile.{all, rises, pairsRise, allows, allAllowed}
+use Rattle.nodes.proofs.Logic.{lt-or-ge}
+use Rattle.records.specs.JobFile.{all, rises, pairsRise}
 
 pub rest-none : (l : List ℕ) (i : ℕ) → length l ≤ i → drop i l ≡ []
 rest-none l i h = drop-of-length-le l h
@@ -30,13 +32,27 @@ module _ (f : ℕ → Bool) (l : List ℕ) (i : ℕ) where
   unfolding all
   all-end h = ap (all f) (rest-none l i h)
 
-  pub all-no : i < length l → f (getD l i 0) ≡ false → all f (drop i l) ≡ false
+  pub all-next : i < length l → all f (drop i l) ≡ f (getD l i 0) && all f (drop (i + 1) l)
   unfolding all
-  all-no h e = ap (all f) (rest-cons l i h) ∙ rw e
+  all-next h = ap (all f) (rest-cons l i h)
 
-  pub all-yes : i < length l → f (getD l i 0) ≡ true → all f (drop i l) ≡ all f (drop (i + 1) l)
-  unfolding all
-  all-yes h e = ap (all f) (rest-cons l i h) ∙ rw e
+-- where the greater of two is below n, the other is
+pub covers : (a b n : ℕ) (x : Bool) → a ≤ b → ltb b n && (ltb a n && x) ≡ ltb b n && x
+covers a b n x h = by (lt-or-ge b n)
+  where
+    by : (b < n) ⊎ (n ≤ b) → ltb b n && (ltb a n && x) ≡ ltb b n && x
+    by (inl g) = rw (lt-ltb a n (omega arith))
+    by (inr g) = rw (le-ltb b n g)
+
+pub none-below : (l : List ℕ) → all (λ v. ltb v 0) l ≡ eqb (length l) 0
+unfolding all
+none-below [] = refl
+none-below (x ∷ l) = rw (le-ltb x 0 zero-le, ne-eqb (length (x ∷ l)) 0 (λ e. omega arith))
+
+pub rises-start : (l : List ℕ) → rises 0 l ≡ rises (getD l 0 0 + 1) (drop 1 l)
+unfolding rises
+rises-start [] = refl
+rises-start (x ∷ l) = rw (le-leb 0 x zero-le)
 
 module _ (low : ℕ) (l : List ℕ) (i : ℕ) where
   pub rises-end : length l ≤ i → rises low (drop i l) ≡ true
@@ -51,15 +67,22 @@ module _ (low : ℕ) (l : List ℕ) (i : ℕ) where
   unfolding rises
   rises-yes h e = ap (rises low) (rest-cons l i h) ∙ rw (le-leb low (getD l i 0) e)
 
+-- the number of a pair a, b with a < b is not 0
+pub pairs-start : (l : List ℕ) → pairsRise 0 l ≡ pairsRise 1 l
+unfolding pairsRise
+pairs-start [] = refl
+pairs-start (a ∷ []) = refl
+pairs-start (a ∷ b ∷ l) = by (lt-or-ge a b)
+  where
+    by : (a < b) ⊎ (b ≤ a) → pairsRise 0 (a ∷ b ∷ l) ≡ pairsRise 1 (a ∷ b ∷ l)
+    by (inl h) = rw (le-leb 0 (256 * a + b) zero-le, le-leb 1 (256 * a + b) (omega arith))
+    by (inr h) = rw (le-ltb a b h)
+
 -- two at a time
 module _ (low : ℕ) (l : List ℕ) (i : ℕ) where
-  pub pairs-end : length l - i < 2 → pairsRise low (drop i l) ≡ true
+  pub pairs-end : length l ≤ i → pairsRise low (drop i l) ≡ true
   unfolding pairsRise
-  pairs-end h = by (ℕ-discrete (length l - i) 1)
-    where
-      by : Dec (length l - i ≡ 1) → pairsRise low (drop i l) ≡ true
-      by (yes e) = ap (pairsRise low) (rest-cons l i (omega arith) ∙ ap (λ (t : List ℕ). getD l i 0 ∷ t) (rest-none l (i + 1) (omega arith)))
-      by (no e) = ap (pairsRise low) (rest-none l i (omega arith))
+  pairs-end h = ap (pairsRise low) (rest-none l i h)
 
   module _ (h : i + 2 ≤ length l) where
     pub pairs-no : getD l (i + 1) 0 ≤ getD l i 0 → pairsRise low (drop i l) ≡ false
@@ -74,19 +97,6 @@ module _ (low : ℕ) (l : List ℕ) (i : ℕ) where
       pub pairs-yes : low ≤ 256 * getD l i 0 + getD l (i + 1) 0 → pairsRise low (drop i l) ≡ pairsRise (256 * getD l i 0 + getD l (i + 1) 0 + 1) (drop (i + 2) l)
       unfolding pairsRise
       pairs-yes g = ap (pairsRise low) (rest-two l i h) ∙ rw (lt-ltb (getD l i 0) (getD l (i + 1) 0) e, le-leb low (256 * getD l i 0 + getD l (i + 1) 0) g)
-
-module _ (mode : ℕ) (out : ℕ → Bool) (l : List ℕ) (i : ℕ) where
-  pub allowed-end : length l ≤ i → allAllowed mode out i (drop i l) ≡ true
-  unfolding allAllowed
-  allowed-end h = ap (allAllowed mode out i) (rest-none l i h)
-
-  pub allowed-no : i < length l → allows mode (out i) (getD l i 0) ≡ false → allAllowed mode out i (drop i l) ≡ false
-  unfolding allAllowed
-  allowed-no h e = ap (allAllowed mode out i) (rest-cons l i h) ∙ rw e
-
-  pub allowed-yes : i < length l → allows mode (out i) (getD l i 0) ≡ true → allAllowed mode out i (drop i l) ≡ allAllowed mode out (i + 1) (drop (i + 1) l)
-  unfolding allAllowed
-  allowed-yes h e = ap (allAllowed mode out i) (rest-cons l i h) ∙ rw e
 
 -- the members of a list, below a bound: of those put in so far, and of the rest
 abbrev pub lists : List ℕ → ℕ → Bool

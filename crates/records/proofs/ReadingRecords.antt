@@ -1,4 +1,4 @@
--- A record that the code found and asked, and what a job's first and fourth records have shown.
+-- A record that the code found and asked, what a job's first record has shown, and nodes that a set can have.
 use Prim.Native.Nat.{ℕ, zero, suc, _+_, _-_, _<_, _≤_}
 use mathlib.Core.Path.{_≡_, refl, sym, ap, _∙_}
 use mathlib.Core.Bool.{Bool, true, false, _&&_, _||_}
@@ -12,7 +12,7 @@ use Rattle.nodes.specs.NodeSet.{highest}
 use Rattle.records.specs.Answer.{Answer, gives, refuses, refusal, no, passed}
 use Rattle.records.specs.Records.{Part, part, checked, kindOpen}
 use Rattle.nodes.specs.Lists.{has}
-use Rattle.records.specs.JobFile.{mostNodes, all, rises, openNo, nodesNo}
+use Rattle.records.specs.JobFile.{mostNodes, all, openNo}
 use Rattle.records.specs.Refusals.{refusalOf}
 use Rattle.records.specs.Views.{bytesAt, Lies, checkedOf, partAt, partOf, Inside}
 use Rattle.records.specs.declared.common.Refused.{Refused}
@@ -91,11 +91,6 @@ opened s t p i e =
       mode = between-at (p .start) (p .end) s 1 (omega arith);
       few = rw n at f;
     }
-
--- ---- the outputs
-pub nodes-below : (n : ℕ) (p : List ℕ) → nodesNo n p ≡ 0 → all (λ v. ltb v n) p ≡ true
-unfolding nodesNo
-nodes-below n p e = no-out 4 (all (λ v. ltb v n) p) (no 6 (rises 0 p) 0) e .0
 
 -- nodes that are below n can all be in a set
 pub has-small : (n : ℕ) (l : List ℕ) → n ≤ mostNodes → all (λ v. ltb v n) l ≡ true → (u : ℕ) → has l u && leb u highest ≡ has l u

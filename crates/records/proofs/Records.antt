@@ -4,9 +4,10 @@ use mathlib.Core.Path.{_≡_, refl, sym, ap, _∙_}
 use mathlib.Core.Bool.{Bool, true, false, _&&_, false≢true}
 use mathlib.Core.List.{List, [], _∷_, _++_}
 use native.Mathlib.Omega.{arith}
+use native.Mathlib.Nat.{not-suc-le-zero, le-of-suc-le-suc}
 use borrow.Author.Tests.{leb-true, ltb-true, eqb-true, le-leb, lt-ltb, eq-eqb}
 use lib.Dec.{eqb, ltb, leb}
-use lib.ListN.{length, take, drop, length-append, length-drop, take-append-drop, List·getD-append}
+use lib.ListN.{length, getD, take, drop, length-append, length-drop, take-append-drop, List·getD-append}
 use lib.Seq.{length-take-le, take-append-le, drop-append-le, take-append-seam, drop-append-seam}
 use Rattle.records.specs.Answer.{Refusal, Answer, gives, refuses, _>>=_, _>>_, asks, no, passed}
 use Rattle.records.specs.Records.{Part, part, checked, written, lengthField, kindField}
@@ -50,6 +51,12 @@ pub all-right : (f : ℕ → Bool) (l g : List ℕ) → all f (l ++ g) ≡ true 
 unfolding all
 all-right f [] g a = a
 all-right f (x ∷ l) g a = all-right f l g (and-out (f x) (all f (l ++ g)) a .1)
+
+pub below-at : (n : ℕ) (l : List ℕ) (i : ℕ) → all (λ v. ltb v n) l ≡ true → i < length l → getD l i 0 < n
+unfolding all
+below-at n [] i a h = absurd (not-suc-le-zero h)
+below-at n (x ∷ l) zero a h = ltb-true x n (and-out (ltb x n) (all (λ v. ltb v n) l) a .0)
+below-at n (x ∷ l) (suc i) a h = below-at n l i (and-out (ltb x n) (all (λ v. ltb v n) l) a .1) (le-of-suc-le-suc h)
 
 pub all-more : (f g : ℕ → Bool) (l : List ℕ) → ((v : ℕ) → f v ≡ true → g v ≡ true) → all f l ≡ true → all g l ≡ true
 unfolding all

@@ -3,10 +3,9 @@ use Prim.Native.Nat.{ℕ, _-_, _≤_}
 use mathlib.Core.Bool.{Bool, true}
 use mathlib.Core.List.{List}
 use lib.ListN.{length, take, drop}
-use Rattle.nodes.specs.NodeSet.{member}
 use Rattle.records.specs.Answer.{Answer, gives, refuses}
 use Rattle.records.specs.Records.{Part}
-use Rattle.records.specs.JobFile.{JobFile, openNo, edgesNo, nodesNo, measurementsNo}
+use Rattle.records.specs.JobFile.{JobFile, openNo, edgesNo, nodesNo}
 use Rattle.records.specs.FlowFile.{FlowFile, entriesOf, listed, layersNo, setsNo}
 use Rattle.records.specs.Refusals.{refusalOf}
 use Rattle.records.specs.declared.common.Place.{Place}
@@ -17,7 +16,7 @@ use Rattle.records.specs.declared.common.Found.the-variants.{Payload, Re
 use Rattle.records.specs.declared.common.Checked.{Checked}
 use Rattle.records.specs.declared.common.Checked.the-variants.{Passed, Refused as NotPassed}
 use Rattle.records.specs.declared.common.Asks.{Asks}
-use Rattle.records.specs.declared.common.Asks.the-variants.{Open, Edges, Nodes, Measurements, Layers, Sets}
+use Rattle.records.specs.declared.common.Asks.the-variants.{Open, Edges, Nodes, Layers, Sets}
 use Rattle.records.specs.declared.common.JobRead.{JobRead}
 use Rattle.records.specs.declared.common.JobRead.the-variants.{Job, Refused as NoJob}
 use Rattle.records.specs.declared.common.FlowRead.{FlowRead}
@@ -45,7 +44,6 @@ abbrev pub askOf : Asks → List ℕ → ℕ
 askOf Open = openNo
 askOf (Edges n) = edgesNo n
 askOf (Nodes n) = nodesNo n
-askOf (Measurements n mode outputs) = measurementsNo n mode (member outputs)
 askOf (Layers n) = layersNo n
 askOf (Sets n) = setsNo n
 

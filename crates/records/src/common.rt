@@ -1,14 +1,15 @@
 // The records of job and flow files, and reading them: questions 1 to 7 of document 01, and 9.
 ghost use mathlib.Core.Path.{_≡_};
 ghost use mathlib.Core.Bool.{true, false, _&&_};
-ghost use Prim.Native.Nat.{_+_, _<_, _≤_};
+ghost use Prim.Native.Nat.{_+_, _%_, _<_, _≤_};
 ghost use lib.Dec.{eqb, leb, ltb};
-ghost use lib.ListN.{length, drop};
+ghost use lib.ListN.{length, getD, drop};
 ghost use Rattle.nodes.specs.NodeSet.{member, highest};
 ghost use Rattle.records.specs.Answer.{passed};
 ghost use Rattle.records.specs.Records.{lengthField, kindField, headBytes, part, checked};
 ghost use Rattle.nodes.specs.Lists.{has};
-ghost use Rattle.records.specs.JobFile.{mostNodes, all, rises, pairsRise, highestOf, allows, allAllowed, openNo, edgesNo, nodesNo, measurementsNo, readJob, readEdges, readInputs, readOutputs, readMeasurements};
+ghost use Rattle.nodes.specs.Row.{count};
+ghost use Rattle.records.specs.JobFile.{mostNodes, all, rises, pairsRise, highestOf, allAllowed, openNo, edgesNo, nodesNo, measurementsNo, readJob, readEdges, readInputs, readOutputs, readMeasurements};
 ghost use Rattle.records.specs.FlowFile.{entriesOf, framed, listed, allEntries, entryBelow, entriesRise, layersNo, setsNo, readFlow, readSets};
 ghost use Rattle.records.specs.Refusals.{refusalOf, numbersIn};
 ghost use Rattle.records.specs.Views.{bytesAt, Lies, checkedOf, askOf, partOf, Inside, jobOfRead, JobInside, flowOfRead, FlowInside};
@@ -163,12 +164,11 @@ enum Checked {
     Refused(Refused),
 }
 
-// The kinds of payload, with what their questions are about: the count of nodes, the mode and the outputs.
+// The kinds of payload that are asked alone, with the count of nodes.
 enum Asks {
     Open,
     Edges(usize),
     Nodes(usize),
-    Measurements(usize, u8, NodeSet),
     Layers(usize),
     Sets(usize),
 }
@@ -230,54 +230,58 @@ fn head(file: &[u8], at: usize, kind: u16) -> Found
 
 // ---- One question, asked of the whole payload.
 
-// Is each node below n?
+// Is each node below n? Asked of the greatest: a loop that always runs to its end takes many bytes at a time.
 fn below(nodes: &[u8], n: usize) -> bool
     ensures { λ r. ⌜ r ≡ all (λ v. ltb v n) (now (nodes .entry)) ⌝ }
 {
+    if n == 0 {
+        return nodes.len() == 0;
+    }
+    let mut top: u8 = 0;
     let mut i = 0;
     while i < nodes.len() {
-        if wide(nodes[i]) >= n {
-            return false;
+        let v = nodes[i];
+        if v > top {
+            top = v;
         }
         i += 1;
     }
-    true
+    wide(top) < n
 }
 
-// Are the nodes strictly ascending?
+// Are the nodes strictly ascending? This loop, too, always runs to its end.
 fn rising(nodes: &[u8]) -> bool
     ensures { λ r. ⌜ r ≡ rises 0 (now (nodes .entry)) ⌝ }
 {
-    let mut low: usize = 0;
-    let mut i = 0;
+    let mut ok = true;
+    let mut i = 1;
     while i < nodes.len() {
-        let v = wide(nodes[i]);
-        if v < low {
-            return false;
+        if nodes[i - 1] >= nodes[i] {
+            ok = false;
         }
-        low = v + 1;
         i += 1;
     }
-    true
+    ok
 }
 
-// Is a < b in each edge, and are the edges strictly ascending by a, then b?
+// Is a < b in each edge, and are the edges strictly ascending by a, then b? As numbers 256 a + b they rise from above 0.
 fn pairs_rising(edges: &[u8]) -> bool
+    requires { ⌜ length (now edges) % 2 ≡ 0 ⌝ }
     ensures { λ r. ⌜ r ≡ pairsRise 0 (now (edges .entry)) ⌝ }
 {
-    let mut low: usize = 0;
+    let mut last: usize = 0;
     let mut i = 0;
-    while edges.len() - i >= 2 {
+    while i < edges.len() {
         let a = wide(edges[i]);
         let b = wide(edges[i + 1]);
         if a >= b {
             return false;
         }
         let key = 256 * a + b;
-        if key < low {
+        if key <= last {
             return false;
         }
-        low = key + 1;
+        last = key;
         i += 2;
     }
     true
@@ -296,42 +300,53 @@ fn highest_of(mode: u8) -> u8
     PAULI_Z
 }
 
-// 0 exactly at outputs, else a measurement that the mode allows.
-fn allow(mode: u8, output: bool, byte: u8) -> bool
-    ensures { λ r. ⌜ r ≡ allows mode output byte ⌝ }
+// How many bytes are 0? This loop, too, always runs to its end.
+fn zeros(bytes: &[u8]) -> usize
+    requires { ⌜ length (now bytes) ≤ mostNodes ⌝ }
+    ensures { λ r. ⌜ r ≡ count (length (now (bytes .entry))) (λ u. eqb (getD (now (bytes .entry)) u 0) 0) ⌝ }
 {
-    if output {
-        return byte == 0;
+    let mut found: u8 = 0;
+    let mut i = 0;
+    while i < bytes.len() {
+        if bytes[i] == 0 {
+            found += 1;
+        }
+        i += 1;
     }
-    if byte < PLANE_XY {
-        return false;
-    }
-    byte <= highest_of(mode)
+    wide(found)
 }
 
-// Is the node in the set? None past the highest is.
-fn among(set: NodeSet, node: usize) -> bool
-    ensures { λ r. ⌜ r ≡ member set node ⌝ }
-{
-    if node > NodeSet::HIGHEST as usize {
-        return false;
-    }
-    set.has(node as u8)
-}
-
-// Is each measurement byte allowed?
-fn all_allowed(measurements: &[u8], mode: u8, outputs: NodeSet) -> bool
-    ensures { λ r. ⌜ r ≡ allAllowed mode (member outputs) 0 (now (measurements .entry)) ⌝ }
+// Is the byte of each of these nodes 0?
+fn zero_at(bytes: &[u8], nodes: &[u8]) -> bool
+    requires { ⌜ all (λ v. ltb v (length (now bytes))) (now nodes) ≡ true ⌝ }
+    ensures { λ r. ⌜ r ≡ all (λ u. eqb (getD (now (bytes .entry)) u 0) 0) (now (nodes .entry)) ⌝ }
 {
     let mut i = 0;
-    while i < measurements.len() {
-        let output = among(outputs, i);
-        if !allow(mode, output, measurements[i]) {
+    while i < nodes.len() {
+        let u = wide(nodes[i]);
+        if bytes[u] != 0 {
             return false;
         }
         i += 1;
     }
     true
+}
+
+// Is each measurement byte allowed? None may be above the mode's highest, and the zeros are those of the outputs:
+// as many, and one at each.
+fn all_allowed(measurements: &[u8], mode: u8, outputs: &[u8]) -> bool
+    requires { ⌜ length (now measurements) ≤ mostNodes ⌝ }
+    requires { ⌜ nodesNo (length (now measurements)) (now outputs) ≡ 0 ⌝ }
+    ensures { λ r. ⌜ r ≡ allAllowed mode (has (now (outputs .entry))) 0 (now (measurements .entry)) ⌝ }
+{
+    let past = wide(highest_of(mode)) + 1;
+    if !below(measurements, past) {
+        return false;
+    }
+    if zeros(measurements) != outputs.len() {
+        return false;
+    }
+    zero_at(measurements, outputs)
 }
 
 // The nodes of a payload as a set; a set has no room for those past its highest.
@@ -485,8 +500,9 @@ fn ask_nodes(nodes: &[u8], n: usize) -> Checked
     Checked::Passed
 }
 
-fn ask_measurements(measurements: &[u8], n: usize, mode: u8, outputs: NodeSet) -> Checked
-    ensures { λ r. ⌜ checkedOf r ≡ passed (measurementsNo n mode (member outputs) (now (measurements .entry))) true ⌝ }
+fn ask_measurements(measurements: &[u8], n: usize, mode: u8, outputs: &[u8]) -> Checked
+    requires { ⌜ (n ≤ mostNodes) × (nodesNo n (now outputs) ≡ 0) ⌝ }
+    ensures { λ r. ⌜ checkedOf r ≡ passed (measurementsNo n mode (has (now (outputs .entry))) (now (measurements .entry))) true ⌝ }
 {
     if measurements.len() != n {
         return Checked::Refused(Refused::WrongLength);
@@ -528,7 +544,6 @@ fn ask(asks: Asks, payload: &[u8]) -> Checked
         Asks::Open => ask_open(payload),
         Asks::Edges(n) => ask_edges(payload, n),
         Asks::Nodes(n) => ask_nodes(payload, n),
-        Asks::Measurements(n, mode, outputs) => ask_measurements(payload, n, mode, outputs),
         Asks::Layers(n) => ask_layers(payload, n),
         Asks::Sets(n) => ask_sets(payload, n),
     }
@@ -562,28 +577,29 @@ fn read_measurements(
     inputs: Place,
     outputs: Place,
 ) -> JobRead
-    requires { ⌜ (n ≤ mostNodes) × (all (λ v. ltb v n) (bytesAt outputs (now file)) ≡ true) ⌝ }
+    requires { ⌜ (n ≤ mostNodes) × (nodesNo n (bytesAt outputs (now file)) ≡ 0) ⌝ }
     requires { ⌜ Lies (now file) edges × Lies (now file) inputs × Lies (now file) outputs ⌝ }
     ensures { λ r. ⌜ jobOfRead (now (file .entry)) r ≡ readMeasurements n mode (bytesAt edges (now (file .entry))) (bytesAt inputs (now (file .entry))) (bytesAt outputs (now (file .entry))) (drop (outputs .end) (now (file .entry))) ⌝ }
     ensures { λ r. ⌜ JobInside (now (file .entry)) r ⌝ }
 {
     let start = outputs.start;
     let end = outputs.end;
-    let set = set_of(&file[start..end]);
-    match checked_record(
-        file,
-        end,
-        KIND_MEASUREMENTS,
-        Asks::Measurements(n, mode, set),
-    ) {
-        Found::Payload(measurements) => JobRead::Job(JobPlaces {
-            n,
-            mode,
-            edges,
-            inputs,
-            outputs,
-            measurements,
-        }),
+    match head(file, end, KIND_MEASUREMENTS) {
+        Found::Payload(measurements) => {
+            let from = measurements.start;
+            let to = measurements.end;
+            match ask_measurements(&file[from..to], n, mode, &file[start..end]) {
+                Checked::Passed => JobRead::Job(JobPlaces {
+                    n,
+                    mode,
+                    edges,
+                    inputs,
+                    outputs,
+                    measurements,
+                }),
+                Checked::Refused(q) => JobRead::Refused(q),
+            }
+        }
         Found::Refused(q) => JobRead::Refused(q),
     }
 }

@@ -29,11 +29,9 @@ use Rattle.nodes.specs.Lists.{has}
 use Rattle.records.specs.JobFile.{JobFile, joined, readJob, modePlanes, modePauli, measuredOf, jobOf}
 use Rattle.records.specs.Encoding.{ValidJob}
 use Rattle.records.specs.Writing.{flowBytes}
-use Rattle.tables.specs.Loading.{room}
 use Rattle.records.specs.Splice.{putFirst, putCount}
 use Rattle.records.proofs.JobFile.{job-asked, measured-plane}
 use Rattle.records.proofs.ReadingRecords.{has-small}
-use Rattle.tables.proofs.LoadingEdges.{room-enough}
 use Rattle.tables.proofs.Found.{found-written}
 use Rattle.nodes.specs.SetTable.{zeros}
 use Rattle.solver.specs.Solver.{workBytes}
@@ -114,16 +112,16 @@ module _ (s : List ℕ) (f : JobFile) (read : readJob s ≡ gives f) where
       by false e = refl
 
   -- the search of the tables that were loaded of it
-  module _ (table graph measured work layers sets : List ℕ) (inputs outputs : NodeSet)
-      (sizes : (length table ≡ tableWords) × (length graph ≡ tableWords) × (length work ≡ workBytes) × (length layers ≡ capacity) × (length sets ≡ tableWords))
-      (edges : (u v : ℕ) → setAt graph u v ≡ (joined (f .edges) u v && room table u v))
+  module _ (graph measured work layers sets : List ℕ) (inputs outputs : NodeSet)
+      (sizes : (length graph ≡ tableWords) × (length work ≡ workBytes) × (length layers ≡ capacity) × (length sets ≡ tableWords))
+      (edges : (u v : ℕ) → setAt graph u v ≡ joined (f .edges) u v)
       (ins : member inputs ≡ (λ u. has (f .inputs) u && leb u highest))
       (outs : member outputs ≡ (λ u. has (f .outputs) u && leb u highest))
       (m : measured ≡ measuredOf f .measurements)
     where
       job-same : jobIn (f .n) graph inputs outputs measured ≡ jobOf f
       job-same =
-          make (fun-ext (λ u. fun-ext (λ v. edges u v ∙ room-enough table (f .edges) (f .n) (sizes .0) (valid .few) (valid .edgesBelow) u v)))
+          make (fun-ext (λ u. fun-ext (λ v. edges u v)))
           (ins ∙ fun-ext (has-small (f .n) (f .inputs) (valid .few) (valid .inputsBelow))) (outputs-same outputs outs) m
         where
           make : {e e′ : ℕ → ℕ → Bool} {i i′ o o′ : ℕ → Bool} {l l′ : List ℕ} → e ≡ e′ → i ≡ i′ → o ≡ o′ → l ≡ l′
@@ -136,11 +134,11 @@ module _ (s : List ℕ) (f : JobFile) (read : readJob s ≡ gives f) where
           let k : f .n ≤ length measured = omega (arith, ap length m, valid .count) in
           rw (
             le-leb (f .n) capacity (valid .few),
-            eq-eqb (length graph) tableWords (sizes .1),
+            eq-eqb (length graph) tableWords (sizes .0),
             le-leb (f .n) (length measured) k,
-            eq-eqb (length work) workBytes (sizes .2),
-            eq-eqb (length layers) capacity (sizes .3),
-            eq-eqb (length sets) tableWords (sizes .4),
+            eq-eqb (length work) workBytes (sizes .1),
+            eq-eqb (length layers) capacity (sizes .2),
+            eq-eqb (length sets) tableWords (sizes .3),
           )
 
       pub search-same : searchCall pauli (f .n) graph inputs outputs measured work layers sets ≡ searched (f .n) progress

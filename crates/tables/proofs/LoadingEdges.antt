@@ -1,22 +1,26 @@
 -- Edges as a table of sets: those put in so far, and those of the rest.
-use Prim.Native.Nat.{ℕ, _+_, _*_, _-_, _<_, _≤_}
-use mathlib.Core.Path.{_≡_, refl, sym, ap, _∙_}
+use Prim.Native.Nat.{ℕ, _+_, _*_, _-_, _/_, _%_, _^_, _<_, _≤_}
+use mathlib.Core.Path.{_≡_, refl, sym, ap, ap₂, _∙_}
 use mathlib.Core.Bool.{Bool, true, false, cond, _&&_, _||_}
 use mathlib.Core.Logic.{_⊎_, inl, inr}
 use mathlib.Core.List.{List, _∷_}
 use native.Mathlib.Omega.{arith}
 use native.Mathlib.Decide.{ℕ-discrete}
-use borrow.Author.Tests.{le-leb, lt-leb}
-use lib.Dec.{T, eqb, leb, ltb}
-use lib.ListN.{length, getD, drop}
-use Rattle.nodes.specs.NodeSet.{member, wordsOf, highest, capacity}
+use borrow.Author.Tests.{le-leb, lt-leb, lt-ltb, ltb-true, eq-eqb}
+use lib.Bits.{bitOr}
+use lib.Dec.{eqb, ltb, eqb→eq}
+use lib.ListN.{length, getD, drop, set}
+use lib.Seq.{getD-set-same, getD-set-other}
+use Rattle.nodes.specs.Bit.{bit}
+use Rattle.nodes.specs.NodeSet.{member, wordsOf, wordBits, capacity}
 use Rattle.nodes.specs.SetTable.{setWords, setAt, putSet, zeros}
 use Rattle.nodes.specs.declared.utils.NodeSet.{NodeSet}
-use Rattle.nodes.proofs.Logic.{is-false, dec, and-all, and-none, or-none, eqb-comm, eqb-yes, eqb-no, le-or-lt}
-use Rattle.nodes.proofs.SetTable.{put-each, put-out, zeros-empty}
+use Rattle.nodes.proofs.Logic.{is-false, and-l, and-r, and-all, and-none, or-none, eqb-comm, eqb-yes, eqb-no, le-or-lt, lt-or-ge}
+use Rattle.nodes.proofs.Bit.{bit-or, bit-pow}
+use Rattle.nodes.proofs.SetTable.{set-in, set-past, put-each, put-out, zeros-empty}
 use Rattle.records.specs.JobFile.{all, joined}
-use Rattle.tables.specs.Loading.{hasSet, room}
-use Rattle.records.proofs.JobFile.{joined-below}
+use Rattle.tables.specs.Loading.{hasSet}
+use Rattle.records.proofs.Records.{all-more}
 use Rattle.records.proofs.ReadingLoops.{rest-none, rest-cons, rest-two}
 
 -- ---- a table to which the members of s are added at u, where it has room
@@ -34,19 +38,37 @@ module _ (ws : List ℕ) (u : ℕ) (s : NodeSet) (more : ℕ → Bool) (e : memb
           ap (λ (l : List ℕ). setAt l v w) (put-out ws u (wordsOf s) h)
           ∙ rw (lt-leb (setWords * u + setWords) (length ws) h, and-none (eqb v u && more w)) (sym (or-none (setAt ws v w)))
 
--- one node
-pub one-more : (ws : List ℕ) (a b u v : ℕ) (s : ℕ → Bool) (m : Bool) → s ≡ (λ k. false || (eqb k b && leb b highest))
-    → m || ((eqb u a && s v) && hasSet ws a) ≡ m || ((eqb u a && eqb v b) && room ws u v)
-one-more ws a b u v s m e = ap (λ (f : ℕ → Bool). m || ((eqb u a && f v) && hasSet ws a)) e ∙ ap (λ (x : Bool). m || x) (by (ℕ-discrete u a) (ℕ-discrete v b))
-  where
-    swap : (x y : Bool) → x && y ≡ y && x
-    swap true y = sym (and-all y)
-    swap false y = sym (and-none y)
+-- ---- a table to which b is added at a: one digit of one word
+module _ (ws : List ℕ) (a b : ℕ) (fits : setWords * a + setWords ≤ length ws) (low : b < capacity) where
+  abbrev place : ℕ
+  place = setWords * a + b / wordBits
 
-    by : Dec (u ≡ a) → Dec (v ≡ b) → (eqb u a && (eqb v b && leb b highest)) && hasSet ws a ≡ (eqb u a && eqb v b) && room ws u v
-    by (yes p) (yes q) = rw (p, q, eqb-yes a, eqb-yes b) (swap (leb b highest) (hasSet ws a))
-    by (yes p) (no d) = rw (p, eqb-yes a, eqb-no v b d)
-    by (no d) q = rw (eqb-no u a d)
+  abbrev word : ℕ
+  word = bitOr (getD ws place 0) (2 ^ (b % wordBits))
+
+  pub put-digit : (u v : ℕ) → setAt (set ws place word) u v ≡ setAt ws u v || (eqb u a && eqb v b)
+  put-digit u v = by (lt-or-ge v capacity) (ℕ-discrete (setWords * u + v / wordBits) place)
+    where
+      digit : setWords * u + v / wordBits ≡ place → v < capacity → eqb (v % wordBits) (b % wordBits) ≡ (eqb u a && eqb v b)
+      digit e h = rw (eq-eqb u a (omega arith)) (same (ℕ-discrete v b))
+        where
+          same : Dec (v ≡ b) → eqb (v % wordBits) (b % wordBits) ≡ eqb v b
+          same (yes d) = rw (d, eqb-yes (b % wordBits), eqb-yes b)
+          same (no d) = rw (eqb-no v b d, eqb-no (v % wordBits) (b % wordBits) (λ g. d (omega arith)))
+
+      apart : (setWords * u + v / wordBits ≡ place → ⊥) → (eqb u a && eqb v b) ≡ false
+      apart d = is-false (eqb u a && eqb v b) (λ t. let p = eqb→eq u a (and-l (eqb u a) (eqb v b) t) in let q = eqb→eq v b (and-r (eqb u a) (eqb v b) t) in d (rw (p, q) refl))
+
+      by : (v < capacity) ⊎ (capacity ≤ v) → Dec (setWords * u + v / wordBits ≡ place) → setAt (set ws place word) u v ≡ setAt ws u v || (eqb u a && eqb v b)
+      by (inl h) (yes e) =
+          set-in (set ws place word) u v h ∙ ap (λ (k : ℕ). bit (getD (set ws place word) k 0) (v % wordBits)) e
+          ∙ ap (λ (x : ℕ). bit x (v % wordBits)) (getD-set-same ws place word 0 (omega arith))
+          ∙ bit-or (getD ws place 0) (2 ^ (b % wordBits)) (v % wordBits)
+          ∙ ap₂ _||_ (ap (λ (k : ℕ). bit (getD ws k 0) (v % wordBits)) (sym e) ∙ sym (set-in ws u v h)) (bit-pow (b % wordBits) (v % wordBits) ∙ digit e h)
+      by (inl h) (no d) =
+          set-in (set ws place word) u v h ∙ ap (λ (x : ℕ). bit x (v % wordBits)) (getD-set-other ws place (setWords * u + v / wordBits) word 0 d)
+          ∙ sym (set-in ws u v h) ∙ rw (apart d) (sym (or-none (setAt ws u v)))
+      by (inr h) e = set-past (set ws place word) u v h ∙ rw (set-past ws u v h, eqb-no v b (λ d. omega arith)) (sym (and-none (eqb u a)))
 
 pub cleared : (ws : List ℕ) (n : ℕ) → ws ≡ zeros n → (u v : ℕ) → setAt ws u v ≡ false
 cleared ws n e u v = ap (λ (l : List ℕ). setAt l u v) e ∙ ap (λ (f : ℕ → Bool). f v) (zeros-empty n u)
@@ -61,14 +83,14 @@ module _ (l : List ℕ) (i : ℕ) (u v : ℕ) where
       by (yes e) = ap (λ (t : List ℕ). joined t u v) (rest-cons l i (omega arith) ∙ ap (λ (t : List ℕ). getD l i 0 ∷ t) (rest-none l (i + 1) (omega arith)))
       by (no e) = ap (λ (t : List ℕ). joined t u v) (rest-none l i (omega arith))
 
-  pub joined-more : i + 2 ≤ length l → (m r : Bool)
-      → m || (joined (drop i l) u v && r) ≡ ((m || ((eqb u (getD l i 0) && eqb v (getD l (i + 1) 0)) && r)) || ((eqb u (getD l (i + 1) 0) && eqb v (getD l i 0)) && r)) || (joined (drop (i + 2) l) u v && r)
+  pub joined-more : i + 2 ≤ length l → (m : Bool)
+      → m || joined (drop i l) u v ≡ ((m || (eqb u (getD l i 0) && eqb v (getD l (i + 1) 0))) || (eqb u (getD l (i + 1) 0) && eqb v (getD l i 0))) || joined (drop (i + 2) l) u v
   unfolding joined
-  joined-more h m r =
+  joined-more h m =
       let a = getD l i 0 in
       let b = getD l (i + 1) 0 in
-      ap (λ (t : List ℕ). m || (joined t u v && r)) (rest-two l i h)
-      ∙ rw (eqb-comm u a, eqb-comm v b, eqb-comm u b, eqb-comm v a) (by r m (eqb a u && eqb b v) (eqb a v) (eqb b u) (joined (drop (i + 2) l) u v))
+      ap (λ (t : List ℕ). m || joined t u v) (rest-two l i h)
+      ∙ rw (eqb-comm u a, eqb-comm v b, eqb-comm u b, eqb-comm v a) (swap m (eqb a u && eqb b v) (eqb a v) (eqb b u) (joined (drop (i + 2) l) u v))
     where
       swap : (m x p q z : Bool) → m || (x || p && q || z) ≡ ((m || x) || (q && p)) || z
       swap true x p q z = refl
@@ -78,16 +100,6 @@ module _ (l : List ℕ) (i : ℕ) (u v : ℕ) where
       swap false false false true z = refl
       swap false false false false z = refl
 
-      by : (r m x p q z : Bool) → m || ((x || p && q || z) && r) ≡ ((m || (x && r)) || ((q && p) && r)) || (z && r)
-      by true m x p q z = rw (and-all (x || p && q || z), and-all x, and-all (q && p), and-all z) (swap m x p q z)
-      by false m x p q z = rw (and-none (x || p && q || z), and-none x, and-none (q && p), and-none z, or-none m, or-none m, or-none m)
-
--- a table for each node has room for every edge
-pub room-enough : (ws : List ℕ) (l : List ℕ) (n : ℕ) → length ws ≡ capacity * setWords → n ≤ capacity → all (λ v. ltb v n) l ≡ true → (u v : ℕ) → (joined l u v && room ws u v) ≡ joined l u v
-room-enough ws l n e h a u v = by (dec (joined l u v))
-  where
-    by : T (joined l u v) ⊎ (T (joined l u v) → ⊥) → (joined l u v && room ws u v) ≡ joined l u v
-    by (inl t) =
-        let (p, q) = joined-below n l u v a t in
-        rw (le-leb (setWords * u + setWords) (length ws) (omega arith), le-leb v highest (omega arith)) (and-all (joined l u v))
-    by (inr f) = rw (is-false (joined l u v) f)
+-- nodes below n have their digits in a table for each node
+pub edges-fit : (n : ℕ) (l : List ℕ) → n ≤ capacity → all (λ v. ltb v n) l ≡ true → all (λ v. ltb v capacity) l ≡ true
+edges-fit n l h a = all-more (λ v. ltb v n) (λ v. ltb v capacity) l (λ v e. lt-ltb v capacity (omega (arith, ltb-true v n e))) a

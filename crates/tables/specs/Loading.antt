@@ -1,10 +1,9 @@
--- What is loaded of a job's records: the measurements by their place in the file, and what a table of sets has room for.
+-- What is loaded of a job's records: the measurements by their place in the file, and which sets a table has.
 use Prim.Native.Nat.{ℕ, _+_, _*_}
-use mathlib.Core.Bool.{Bool, _&&_}
+use mathlib.Core.Bool.{Bool}
 use mathlib.Core.List.{List}
 use lib.Dec.{leb}
 use lib.ListN.{length}
-use Rattle.nodes.specs.NodeSet.{highest}
 use Rattle.nodes.specs.SetTable.{setWords}
 use Rattle.records.specs.JobFile.{Measured}
 use Rattle.records.specs.Views.{bytesAt}
@@ -16,7 +15,3 @@ measuredAt s m = record { mode = m .mode; measurements = bytesAt (m .measurement
 -- the words of set u lie in the table
 abbrev pub hasSet : List ℕ → ℕ → Bool
 hasSet table u = leb (setWords * u + setWords) (length table)
-
--- and a set can have v
-abbrev pub room : List ℕ → ℕ → ℕ → Bool
-room table u v = hasSet table u && leb v highest

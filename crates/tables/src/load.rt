@@ -2,18 +2,21 @@
 ghost use mathlib.Core.Path.{_≡_};
 ghost use mathlib.Core.Bool.{true, _&&_, _||_};
 ghost use mathlib.Core.List.{List};
-ghost use Prim.Native.Nat.{ℕ};
-ghost use lib.Dec.{eqb};
+ghost use Prim.Native.Nat.{ℕ, _<_};
+ghost use lib.Dec.{eqb, ltb};
 ghost use lib.ListN.{length};
 ghost use Rattle.nodes.specs.NodeSet.{member, capacity};
 ghost use Rattle.nodes.specs.SetTable.{setAt};
 ghost use Rattle.finder.specs.Finder.{tableWords};
-ghost use Rattle.records.specs.JobFile.{measuredOf, joined};
+ghost use Rattle.records.specs.JobFile.{measuredOf, all, joined};
 ghost use Rattle.records.specs.FlowFile.{entriesOf, framed, listed, allEntries, entryBelow, setIn, entryIn};
 ghost use Rattle.records.specs.Views.{Lies, fileAt};
-ghost use Rattle.tables.specs.Loading.{measuredAt, hasSet, room};
+ghost use Rattle.tables.specs.Loading.{measuredAt, hasSet};
+use finder::CAPACITY;
+use finder::TABLE_WORDS;
 use nodes::utils::NodeSet;
 use nodes::utils::clear_table;
+use nodes::utils::mask;
 use nodes::utils::put_set;
 use nodes::utils::set_at;
 use records::common::ENTRY_HEAD_BYTES;
@@ -21,6 +24,11 @@ use records::common::JobPlaces;
 use records::common::Place;
 use records::common::entries_end;
 use records::common::set_of;
+
+// The words of a set in a table, and the nodes of a word.
+const SET_WORDS: usize = TABLE_WORDS / CAPACITY;
+
+const WORD_NODES: usize = CAPACITY / SET_WORDS;
 
 // The mode and the measurements to work with.
 pub struct Measured {
@@ -48,21 +56,23 @@ fn add_set(table: &mut [u64], u: u8, more: NodeSet)
     put_set(table, u, old.union(more));
 }
 
-// Node b becomes a neighbor of a, where the table has room for it.
+// Node b becomes a neighbor of a: its digit is in one word of a's set.
 fn join(graph: &mut [u64], a: u8, b: u8)
-    ensures { λ _. ⌜ ((u v : ℕ) → setAt (now (graph .exit)) u v ≡ setAt (now (graph .entry)) u v || ((eqb u a && eqb v b) && room (now (graph .entry)) u v)) ⌝ }
+    requires { ⌜ (length (now graph) ≡ tableWords) × (a < capacity) × (b < capacity) ⌝ }
+    ensures { λ _. ⌜ ((u v : ℕ) → setAt (now (graph .exit)) u v ≡ setAt (now (graph .entry)) u v || (eqb u a && eqb v b)) ⌝ }
 {
-    let one = NodeSet::empty().with(b);
-    add_set(graph, a, one);
+    let at = SET_WORDS * a as usize + b as usize / WORD_NODES;
+    graph[at] |= mask(b);
 }
 
 // Each edge joins both ways.
 pub(crate) fn load_graph(edges: &[u8], graph: &mut [u64])
-    ensures { λ _. ⌜ ((u v : ℕ) → setAt (now (graph .exit)) u v ≡ (joined (now (edges .entry)) u v && room (now (graph .entry)) u v)) ⌝ }
+    requires { ⌜ (length (now graph) ≡ tableWords) × (all (λ v. ltb v capacity) (now edges) ≡ true) ⌝ }
+    ensures { λ _. ⌜ ((u v : ℕ) → setAt (now (graph .exit)) u v ≡ joined (now (edges .entry)) u v) ⌝ }
 {
     clear_table(graph);
     let mut i = 0;
-    while edges.len() - i >= 2 {
+    while i + 1 < edges.len() {
         let a = edges[i];
         let b = edges[i + 1];
         join(graph, a, b);

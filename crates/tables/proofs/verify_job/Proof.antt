@@ -1,12 +1,10 @@
 use mathlib.Core.Path.{_∙_, fun-ext}
-use Prim.Native.Nat.{ℕ}
-use lib.ListN.{replicate, length-replicate}
 use Rattle.nodes.specs.NodeSet.{member}
 use Rattle.records.specs.JobFile.{measuredOf}
 use Rattle.records.specs.FlowFile.{flowOf}
 use Rattle.records.specs.Views.{fileAt, flowAt}
 use Rattle.records.proofs.ReadingRecords.{has-small}
-use Rattle.tables.proofs.LoadingEdges.{room-enough}
+use Rattle.tables.proofs.LoadingEdges.{edges-fit}
 use Rattle.tables.proofs.LoadingFiles.{same-job}
 use borrow.Author.Needs.{needs}
 use Rattle.tables.proofs.verify_job.Statement.{statement}
@@ -25,7 +23,11 @@ slice-aggregate-load-graph : tie.Need-slice-aggregate-load-graph
 slice-aggregate-load-graph c = search needs
 
 load-graph-requires : tie.Need-load-graph-requires
-load-graph-requires c κs = search needs
+load-graph-requires c κs =
+    let s = c .before .before .before .before in
+    let f = fileAt (s .args .file .now) (s .args .job) in
+    let v = s .pre .1 .0 in
+    (search needs, edges-fit (f .n) (f .edges) (v .few) (v .edgesBelow))
 
 sub-set-of : tie.Need-sub-set-of
 sub-set-of c = search needs
@@ -65,7 +67,7 @@ returns c = let o = c .before .before in
     let f = fileAt (s .args .file .now) (s .args .job) in
     let v = s .pre .1 .0 in
     c .verify-flow .ensures
-    ∙ same-job f _ (member (i .set-of .result)) (member (o .set-of2 .result)) (fun-ext (λ x. fun-ext (λ y. l .load-graph .ensures x y ∙ room-enough (replicate 256 0) (f .edges) (f .n) (length-replicate {A = ℕ} 256 0) (v .few) (v .edgesBelow) x y)))
+    ∙ same-job f _ (member (i .set-of .result)) (member (o .set-of2 .result)) (fun-ext (λ x. fun-ext (λ y. l .load-graph .ensures x y)))
     (i .set-of .ensures ∙ fun-ext (has-small (f .n) (f .inputs) (v .few) (v .inputsBelow)))
     (o .set-of2 .ensures ∙ fun-ext (has-small (f .n) (f .outputs) (v .few) (v .outputsBelow)))
     (flowOf (flowAt (s .args .file .now) (s .args .flow))) (measuredOf f .mode)

@@ -1,73 +1,75 @@
-use mathlib.Core.Path.{_≡_, refl, sym, _∙_}
-use Prim.Native.Nat.{_-_, _≤_}
-use native.Mathlib.Omega.{arith}
-use lib.ListN.{length, drop}
-use borrow.Author.Tests.{not-true, not-false}
-use Rattle.nodes.specs.NodeSet.{member}
-use Rattle.records.specs.JobFile.{allAllowed}
-use Rattle.records.proofs.ReadingLoops.{allowed-end, allowed-no, allowed-yes}
+use mathlib.Core.Path.{_≡_, sym, _∙_}
+use mathlib.Core.Bool.{true, false}
+use Prim.Native.Nat.{_+_}
+use borrow.Author.Tests.{not-true, not-false, eq-eqb, ne-eqb}
+use lib.Dec.{ltb}
+use lib.ListN.{length}
+use Rattle.nodes.specs.Row.{count}
+use Rattle.records.specs.JobFile.{all, highestOf}
+use Rattle.records.proofs.JobFile.{nodes-out}
+use Rattle.records.proofs.ReadingMeasurements.{zeroAt, allowed-tests}
 use borrow.Author.Needs.{needs}
 use Rattle.records.proofs.common.all_allowed.Statement.{statement}
 use Rattle.records.proofs.common.all_allowed.Tie as tie
 
-abbrev Inv-loop : tie.InvT-loop
-Inv-loop p mode outputs i₀ i = (i ≤ length p) × (allAllowed mode (member outputs) 0 p ≡ allAllowed mode (member outputs) i (drop i p))
+highest-of-requires : tie.Need-highest-of-requires
+highest-of-requires c κs = search needs
 
-abbrev μ-loop : tie.MeasureT-loop
-μ-loop p mode outputs i₀ i = length p - i
+wide-requires : tie.Need-wide-requires
+wide-requires c κs = search needs
 
-loop-holds : tie.Need-loop-holds Inv-loop μ-loop
-loop-holds c = (search needs, refl)
+add-past : tie.Need-add-past
+add-past c = search needs
 
-among-requires : tie.Need-among-requires Inv-loop μ-loop
-among-requires c κs = search needs
+below-requires : tie.Need-below-requires
+below-requires c κs = search needs
 
-shared-slice-read-allow : tie.Need-shared-slice-read-allow Inv-loop μ-loop
-shared-slice-read-allow c = search needs
-
-allow-requires : tie.Need-allow-requires Inv-loop μ-loop
-allow-requires c κs = search needs
-
-returns : tie.Need-returns Inv-loop μ-loop
+returns : tie.Need-returns
 returns c =
-    let l = c .before .before .before .before .before .loop in
-    let a = c .before .before .before .before .before .before .before .args in
-    sym (l .inv .1 ∙ allowed-no (a .mode) (member (a .outputs)) (a .measurements .now) (l .i) (omega arith)
-    (rw (c .before .before .before .among .ensures) at (sym (c .before .allow .ensures) ∙ not-true _ (c .if1 .taken))))
+    let s = c .before .before .before .before .before .before in
+    let l = s .args .measurements .now in
+    let outs = s .args .outputs .now in
+    let (a, r) = nodes-out (length l) outs (s .pre .1) in
+    let tests = allowed-tests l outs a r (s .args .mode) in
+    let low : all (λ v. ltb v (highestOf (s .args .mode) + 1)) l ≡ false = rw (c .before .before .wide .ensures .0, c .before .before .before .highest-of .ensures) at (sym (c .before .below .ensures) ∙ not-true _ (c .if1 .taken)) in
+    sym (tests ∙ rw low)
 
-add-i : tie.Need-add-i Inv-loop μ-loop
-add-i c = search needs
+zeros-requires : tie.Need-zeros-requires
+zeros-requires c κs = search needs
 
-loop-less : tie.Need-loop-less Inv-loop μ-loop
-loop-less c = search needs
-
-loop-again : tie.Need-loop-again Inv-loop μ-loop
-loop-again c =
-    let l = c .before .before .before .before .before .loop in
-    let a = c .before .before .before .before .before .before .before .args in (
-      search needs,
-      l .inv .1 ∙ allowed-yes (a .mode) (member (a .outputs)) (a .measurements .now) (l .i) (omega arith)
-          (rw (c .before .before .before .among .ensures) at (sym (c .before .allow .ensures) ∙ not-false _ (c .if1 .left))),
-    )
-
-returns-2 : tie.Need-returns-2 Inv-loop μ-loop
+returns-2 : tie.Need-returns-2
 returns-2 c =
-    let l = c .before .loop in
-    let a = c .before .before .before .args in
-    sym (l .inv .1 ∙ allowed-end (a .mode) (member (a .outputs)) (a .measurements .now) (l .i) (omega arith))
+    let s = c .before .before .before .before .before .before .before .before in
+    let l = s .args .measurements .now in
+    let outs = s .args .outputs .now in
+    let (a, r) = nodes-out (length l) outs (s .pre .1) in
+    let tests = allowed-tests l outs a r (s .args .mode) in
+    let low : all (λ v. ltb v (highestOf (s .args .mode) + 1)) l ≡ true = rw (c .before .before .before .before .wide .ensures .0, c .before .before .before .before .before .highest-of .ensures) at (sym (c .before .before .before .below .ensures) ∙ not-false _ (c .before .before .if1 .left)) in
+    sym (tests ∙ rw (low, ne-eqb (count (length l) (zeroAt l)) (length outs) (rw (c .before .zeros .ensures) at (c .if2 .taken))))
+
+zero-at-requires : tie.Need-zero-at-requires
+zero-at-requires c κs = nodes-out (length (c .before .before .before .before .before .before .before .before .args .measurements .now)) (c .before .before .before .before .before .before .before .before .args .outputs .now) (c .before .before .before .before .before .before .before .before .pre .1) .0
+
+returns-3 : tie.Need-returns-3
+returns-3 c =
+    let s = c .before .before .before .before .before .before .before .before .before in
+    let l = s .args .measurements .now in
+    let outs = s .args .outputs .now in
+    let (a, r) = nodes-out (length l) outs (s .pre .1) in
+    let tests = allowed-tests l outs a r (s .args .mode) in
+    let low : all (λ v. ltb v (highestOf (s .args .mode) + 1)) l ≡ true = rw (c .before .before .before .before .before .wide .ensures .0, c .before .before .before .before .before .before .highest-of .ensures) at (sym (c .before .before .before .before .below .ensures) ∙ not-false _ (c .before .before .before .if1 .left)) in
+    c .zero-at .ensures ∙ sym (tests ∙ rw (low, eq-eqb (count (length l) (zeroAt l)) (length outs) (rw (c .before .before .zeros .ensures) at (c .before .if2 .left))))
 
 pub all-allowed-spec : {M : Type 1} → statement M
 all-allowed-spec =
     tie.close
     (tie.spec
-    Inv-loop
-    μ-loop
-    loop-holds
-    among-requires
-    shared-slice-read-allow
-    allow-requires
+    highest-of-requires
+    wide-requires
+    add-past
+    below-requires
     returns
-    add-i
-    loop-less
-    loop-again
-    returns-2)
+    zeros-requires
+    returns-2
+    zero-at-requires
+    returns-3)

@@ -23,17 +23,11 @@ ask-nodes-requires c κs = search needs
 enum-known-asks-3 : tie.Need-enum-known-asks-3
 enum-known-asks-3 c = search needs
 
-ask-measurements-requires : tie.Need-ask-measurements-requires
-ask-measurements-requires c κs = search needs
-
-enum-known-asks-4 : tie.Need-enum-known-asks-4
-enum-known-asks-4 c = search needs
-
 ask-layers-requires : tie.Need-ask-layers-requires
 ask-layers-requires c κs = search needs
 
-enum-known-asks-5 : tie.Need-enum-known-asks-5
-enum-known-asks-5 c = search needs
+enum-known-asks-4 : tie.Need-enum-known-asks-4
+enum-known-asks-4 c = search needs
 
 ask-sets-requires : tie.Need-ask-sets-requires
 ask-sets-requires c κs = search needs
@@ -48,13 +42,10 @@ returns-3 : tie.Need-returns-3
 returns-3 c = rw (c .before .before .asks2 .given .1) (c .ask-nodes .ensures)
 
 returns-4 : tie.Need-returns-4
-returns-4 c = rw (c .before .before .asks3 .given .1) (c .ask-measurements .ensures)
+returns-4 c = rw (c .before .before .asks3 .given .1) (c .ask-layers .ensures)
 
 returns-5 : tie.Need-returns-5
-returns-5 c = rw (c .before .before .asks4 .given .1) (c .ask-layers .ensures)
-
-returns-6 : tie.Need-returns-6
-returns-6 c = rw (c .before .before .asks5 .given .1) (c .ask-sets .ensures)
+returns-5 c = rw (c .before .before .asks4 .given .1) (c .ask-sets .ensures)
 
 pub ask-spec : {M : Type 1} → statement M
 ask-spec =
@@ -67,14 +58,11 @@ ask-spec =
     enum-known-asks-2
     ask-nodes-requires
     enum-known-asks-3
-    ask-measurements-requires
-    enum-known-asks-4
     ask-layers-requires
-    enum-known-asks-5
+    enum-known-asks-4
     ask-sets-requires
     returns
     returns-2
     returns-3
     returns-4
-    returns-5
-    returns-6)
+    returns-5)

@@ -1,7 +1,6 @@
 use mathlib.Core.Path.{sym, _∙_}
 use borrow.Author.Tests.{not-true, not-false, eq-eqb, ne-eqb}
 use Rattle.records.specs.JobFile.{measurementsNo}
-use borrow.Author.Needs.{needs}
 use Rattle.records.proofs.common.ask_measurements.Statement.{statement}
 use Rattle.records.proofs.common.ask_measurements.Tie as tie
 
@@ -10,7 +9,7 @@ unfolding measurementsNo
 returns c = simp (ne-eqb _ _ (c .if1 .taken))
 
 all-allowed-requires : tie.Need-all-allowed-requires
-all-allowed-requires c κs = search needs
+all-allowed-requires c κs = rw (c .if1 .left) (c .before .before .before .pre)
 
 returns-2 : tie.Need-returns-2
 unfolding measurementsNo

@@ -1,35 +1,32 @@
-use mathlib.Core.Path.{_≡_, refl, sym, _∙_}
-use Prim.Native.Nat.{_-_, _≤_}
+use mathlib.Core.Path.{_≡_, sym, ap, _∙_}
+use mathlib.Core.Bool.{Bool, _&&_}
+use mathlib.Core.Logic.{⊎-elim}
+use Prim.Native.Nat.{_+_, _-_, _≤_}
 use native.Mathlib.Omega.{arith}
 use lib.Dec.{ltb}
 use lib.ListN.{length, getD, drop}
-use borrow.Author.Tests.{lt-ltb, le-ltb}
+use borrow.Author.Tests.{lt-ltb}
+use Rattle.nodes.proofs.Logic.{and-all, and-turn}
 use Rattle.records.specs.JobFile.{all}
-use Rattle.records.proofs.ReadingLoops.{all-end, all-no, all-yes}
+use Rattle.records.proofs.ReadingLoops.{all-end, all-next, covers, none-below}
 use borrow.Author.Needs.{needs}
 use Rattle.records.proofs.common.below.Statement.{statement}
 use Rattle.records.proofs.common.below.Tie as tie
 
 abbrev Inv-loop : tie.InvT-loop
-Inv-loop p n i₀ i = (i ≤ length p) × (all (λ v. ltb v n) p ≡ all (λ v. ltb v n) (drop i p))
+Inv-loop nodes n top₀ i₀ top i = (i ≤ length nodes) × (all (λ v. ltb v n) nodes ≡ ltb top n && all (λ v. ltb v n) (drop i nodes))
 
 abbrev μ-loop : tie.MeasureT-loop
-μ-loop p n i₀ i = length p - i
-
-loop-holds : tie.Need-loop-holds Inv-loop μ-loop
-loop-holds c = (search needs, refl)
-
-shared-slice-read-wide : tie.Need-shared-slice-read-wide Inv-loop μ-loop
-shared-slice-read-wide c = search needs
-
-wide-requires : tie.Need-wide-requires Inv-loop μ-loop
-wide-requires c κs = search needs
+μ-loop nodes n top₀ i₀ top i = length nodes - i
 
 returns : tie.Need-returns Inv-loop μ-loop
-returns c =
-    let l = c .before .before .before .before .loop in
-    let a = c .before .before .before .before .before .before .args in
-    sym (l .inv .1 ∙ all-no (λ v. ltb v (a .n)) (a .nodes .now) (l .i) (omega arith) (le-ltb (getD (a .nodes .now) (l .i) 0) (a .n) (omega arith)))
+returns c = rw (c .if1 .taken) (sym (none-below (c .before .before .args .nodes .now)))
+
+loop-holds : tie.Need-loop-holds Inv-loop μ-loop
+loop-holds c = (search needs, rw (lt-ltb 0 (c .before .before .args .n) (omega arith)))
+
+shared-slice-read-v : tie.Need-shared-slice-read-v Inv-loop μ-loop
+shared-slice-read-v c = search needs
 
 add-i : tie.Need-add-i Inv-loop μ-loop
 add-i c = search needs
@@ -39,15 +36,27 @@ loop-less c = search needs
 
 loop-again : tie.Need-loop-again Inv-loop μ-loop
 loop-again c =
-    let l = c .before .before .before .before .loop in
+    let l = c .before .before .before .loop in
     let a = c .before .before .before .before .before .before .args in
-    (search needs, l .inv .1 ∙ all-yes (λ v. ltb v (a .n)) (a .nodes .now) (l .i) (omega arith) (lt-ltb (getD (a .nodes .now) (l .i) 0) (a .n) (omega arith)))
+    let p = a .nodes .now in
+    let rest : Bool = all (λ v. ltb v (a .n)) (drop (l .i + 1) p) in
+    let v = getD p (l .i) 0 in
+    let step : all (λ v. ltb v (a .n)) p ≡ ltb (l .top) (a .n) && (ltb v (a .n) && rest) = l .inv .1 ∙ ap (λ (x : Bool). ltb (l .top) (a .n) && x) (all-next (λ v. ltb v (a .n)) p (l .i) (omega arith)) in (
+      search needs,
+      ⊎-elim
+          (λ w. rw (w .1) (step ∙ and-turn (ltb (l .top) (a .n)) (ltb v (a .n)) rest ∙ covers (l .top) v (a .n) rest (omega arith)))
+          (λ w. rw (w .1) (step ∙ covers v (l .top) (a .n) rest (omega arith)))
+          (c .if2 .came),
+    )
+
+wide-requires : tie.Need-wide-requires Inv-loop μ-loop
+wide-requires c κs = search needs
 
 returns-2 : tie.Need-returns-2 Inv-loop μ-loop
 returns-2 c =
-    let l = c .before .loop in
-    let a = c .before .before .before .args in
-    sym (l .inv .1 ∙ all-end (λ v. ltb v (a .n)) (a .nodes .now) (l .i) (omega arith))
+    let l = c .before .before .loop in
+    let a = c .before .before .before .before .before .args in
+    rw (c .wide .ensures .0) (sym (l .inv .1 ∙ ap (λ (x : Bool). ltb (l .top) (a .n) && x) (all-end (λ v. ltb v (a .n)) (a .nodes .now) (l .i) (omega arith)) ∙ and-all (ltb (l .top) (a .n))))
 
 pub below-spec : {M : Type 1} → statement M
 below-spec =
@@ -55,11 +64,11 @@ below-spec =
     (tie.spec
     Inv-loop
     μ-loop
-    loop-holds
-    shared-slice-read-wide
-    wide-requires
     returns
+    loop-holds
+    shared-slice-read-v
     add-i
     loop-less
     loop-again
+    wide-requires
     returns-2)

@@ -1,24 +1,21 @@
-use mathlib.Core.Path.{_≡_, refl, sym, _∙_}
-use Prim.Native.Nat.{_-_, _≤_}
+use mathlib.Core.Path.{_≡_, sym, _∙_}
+use Prim.Native.Nat.{_+_, _-_, _%_, _≤_}
 use native.Mathlib.Omega.{arith}
 use lib.ListN.{length, drop}
 use Rattle.records.specs.JobFile.{pairsRise}
-use Rattle.records.proofs.ReadingLoops.{pairs-end, pairs-no, pairs-low, pairs-yes}
+use Rattle.records.proofs.ReadingLoops.{pairs-start, pairs-end, pairs-no, pairs-low, pairs-yes}
 use borrow.Author.Needs.{needs}
 use Rattle.records.proofs.common.pairs_rising.Statement.{statement}
 use Rattle.records.proofs.common.pairs_rising.Tie as tie
 
 abbrev Inv-loop : tie.InvT-loop
-Inv-loop p low₀ i₀ low i = (i ≤ length p) × (pairsRise 0 p ≡ pairsRise low (drop i p))
+Inv-loop edges last₀ i₀ last i = (i ≤ length edges) × ((length edges - i) % 2 ≡ 0) × (pairsRise 0 edges ≡ pairsRise (last + 1) (drop i edges))
 
 abbrev μ-loop : tie.MeasureT-loop
-μ-loop p low₀ i₀ low i = length p - i
+μ-loop edges last₀ i₀ last i = length edges - i
 
 loop-holds : tie.Need-loop-holds Inv-loop μ-loop
-loop-holds c = (search needs, refl)
-
-sub-loop : tie.Need-sub-loop Inv-loop μ-loop
-sub-loop c = search needs
+loop-holds c = (search needs, search needs, pairs-start (c .before .args .edges .now))
 
 shared-slice-read-wide : tie.Need-shared-slice-read-wide Inv-loop μ-loop
 shared-slice-read-wide c = search needs
@@ -39,7 +36,7 @@ returns : tie.Need-returns Inv-loop μ-loop
 returns c =
     let l = c .before .before .before .before .before .before .loop in
     let a = c .before .before .before .before .before .before .before .before .args in
-    sym (l .inv .1 ∙ pairs-no (l .low) (a .edges .now) (l .i) (omega arith) (omega arith))
+    sym (l .inv .2 ∙ pairs-no (l .last + 1) (a .edges .now) (l .i) (omega arith) (omega arith))
 
 mul-key : tie.Need-mul-key Inv-loop μ-loop
 mul-key c = search needs
@@ -51,10 +48,7 @@ returns-2 : tie.Need-returns-2 Inv-loop μ-loop
 returns-2 c =
     let l = c .before .before .before .before .before .before .before .loop in
     let a = c .before .before .before .before .before .before .before .before .before .args in
-    sym (l .inv .1 ∙ pairs-low (l .low) (a .edges .now) (l .i) (omega arith) (omega arith) (omega arith))
-
-add-low : tie.Need-add-low Inv-loop μ-loop
-add-low c = search needs
+    sym (l .inv .2 ∙ pairs-low (l .last + 1) (a .edges .now) (l .i) (omega arith) (omega arith) (omega arith))
 
 add-i : tie.Need-add-i Inv-loop μ-loop
 add-i c = search needs
@@ -66,13 +60,13 @@ loop-again : tie.Need-loop-again Inv-loop μ-loop
 loop-again c =
     let l = c .before .before .before .before .before .before .before .loop in
     let a = c .before .before .before .before .before .before .before .before .before .args in
-    (search needs, rw (c .before .before .wide2 .ensures .0, c .before .before .before .before .wide .ensures .0) (l .inv .1 ∙ pairs-yes (l .low) (a .edges .now) (l .i) (omega arith) (omega arith) (omega arith)))
+    (search needs, search needs, rw (c .before .before .wide2 .ensures .0, c .before .before .before .before .wide .ensures .0) (l .inv .2 ∙ pairs-yes (l .last + 1) (a .edges .now) (l .i) (omega arith) (omega arith) (omega arith)))
 
 returns-3 : tie.Need-returns-3 Inv-loop μ-loop
 returns-3 c =
     let l = c .before .loop in
     let a = c .before .before .before .args in
-    sym (l .inv .1 ∙ pairs-end (l .low) (a .edges .now) (l .i) (omega arith))
+    sym (l .inv .2 ∙ pairs-end (l .last + 1) (a .edges .now) (l .i) (omega arith))
 
 pub pairs-rising-spec : {M : Type 1} → statement M
 pairs-rising-spec =
@@ -81,7 +75,6 @@ pairs-rising-spec =
     Inv-loop
     μ-loop
     loop-holds
-    sub-loop
     shared-slice-read-wide
     wide-requires
     add-wide
@@ -91,7 +84,6 @@ pairs-rising-spec =
     mul-key
     add-key
     returns-2
-    add-low
     add-i
     loop-less
     loop-again

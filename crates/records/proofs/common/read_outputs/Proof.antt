@@ -1,6 +1,6 @@
 use mathlib.Core.Path.{refl}
 use Rattle.records.specs.JobFile.{readOutputs}
-use Rattle.records.proofs.ReadingRecords.{found-part, found-no, inside-of, nodes-below}
+use Rattle.records.proofs.ReadingRecords.{found-part, found-no, inside-of}
 use Rattle.records.proofs.Records.{checked-passed}
 use borrow.Author.Needs.{needs}
 use Rattle.records.proofs.common.read_outputs.Statement.{statement}
@@ -16,8 +16,8 @@ read-measurements-requires : tie.Need-read-measurements-requires
 read-measurements-requires c κs =
     let s = c .before .before .before .before .before .args .file .now in
     let r = c .before .before .before .checked-record in
-    let below = nodes-below (c .before .before .before .before .before .args .n) _ (checked-passed _ _ _ _ (found-part s (r .result) (r .ensures .0) _ (c .before .outputs .given .1)) .1) in
-    ((c .before .before .before .before .before .pre .0, below), (c .before .before .before .before .before .pre .1 .0, c .before .before .before .before .before .pre .1 .1, inside-of s (r .result) (r .ensures .1) _ (c .before .outputs .given .1)))
+    let asked = checked-passed _ _ _ _ (found-part s (r .result) (r .ensures .0) _ (c .before .outputs .given .1)) .1 in
+    ((c .before .before .before .before .before .pre .0, asked), (c .before .before .before .before .before .pre .1 .0, c .before .before .before .before .before .pre .1 .1, inside-of s (r .result) (r .ensures .1) _ (c .before .outputs .given .1)))
 
 enum-known-q : tie.Need-enum-known-q
 enum-known-q c = search needs

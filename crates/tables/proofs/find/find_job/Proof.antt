@@ -1,4 +1,4 @@
-use Prim.Native.Nat.{ℕ, _-_}
+use Prim.Native.Nat.{ℕ}
 use mathlib.Core.Bool.{not}
 use mathlib.Core.List.{List}
 use mathlib.Core.Path.{_≡_, sym, ap, ap₂, _∙_}
@@ -19,6 +19,7 @@ use Rattle.solver.specs.Solver.{workBytes}
 use Rattle.verdicts.specs.Calls.{foundBytes}
 use Rattle.tables.specs.Replies.{putReply, recordsFor}
 use Rattle.tables.proofs.Finding.{put-is, told-flow, told-none, told-right, valid, search-same, flow-written, none-written}
+use Rattle.tables.proofs.LoadingEdges.{edges-fit}
 use Rattle.tables.proofs.find.find_job.Statement.{statement}
 use Rattle.tables.proofs.find.find_job.Tie as tie
 
@@ -45,8 +46,8 @@ left c =
     let words : length graph ≡ tableWords = search (needs, c .before .before .before .before .before .before .before .before .before .before .before .before .before .before .before .before .graph2 .given) in
     c .before .before .before .before .search .ensures
     ∙ ap (λ (k : ℕ). searchCall (not (eqb k modePlanes)) (jobAt c .n) graph inputs outputs measured (a .work .now) (replicate 128 0) (replicate 256 0)) (ap (λ (x : Measured). x .mode) (m .ensures .0 s))
-    ∙ search-same s (jobAt c) (t .pre .0 .0) (replicate 256 0) graph measured (a .work .now) (replicate 128 0) (replicate 256 0) inputs outputs
-    (length-replicate {A = ℕ} 256 0, words, work, length-replicate {A = ℕ} 128 0, length-replicate {A = ℕ} 256 0)
+    ∙ search-same s (jobAt c) (t .pre .0 .0) graph measured (a .work .now) (replicate 128 0) (replicate 256 0) inputs outputs
+    (words, work, length-replicate {A = ℕ} 128 0, length-replicate {A = ℕ} 256 0)
     (c .before .before .before .before .before .before .before .before .before .before .before .before .before .before .before .before .before .load-graph .ensures) (c .before .before .before .before .before .before .before .before .before .before .before .before .before .nodes-at .ensures) (c .before .before .before .before .before .before .before .before .before .before .before .before .nodes-at2 .ensures) (ap (λ (x : Measured). x .measurements) (m .ensures .0 s))
 
 sub-load-graph : tie.Need-sub-load-graph
@@ -62,7 +63,11 @@ slice-aggregate-load-graph : tie.Need-slice-aggregate-load-graph
 slice-aggregate-load-graph c = search needs
 
 load-graph-requires : tie.Need-load-graph-requires
-load-graph-requires c κs = search needs
+load-graph-requires c κs =
+    let s = c .before .before .before .before .before .before in
+    let f = fileAt (s .args .file .now) (s .args .job) in
+    let v = valid (s .args .file .now) f (s .pre .0 .0) in
+    (search needs, edges-fit (f .n) (f .edges) (v .few) (v .edgesBelow))
 
 nodes-at-requires : tie.Need-nodes-at-requires
 nodes-at-requires c κs = search needs

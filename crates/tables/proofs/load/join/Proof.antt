@@ -1,33 +1,44 @@
-use Prim.Native.Nat.{ℕ, _-_}
-use mathlib.Core.Path.{ap, _∙_}
-use mathlib.Core.Bool.{Bool, _&&_, _||_}
+use native.Mathlib.Omega.{arith}
+use Rattle.tables.proofs.LoadingEdges.{put-digit}
 use borrow.Author.Needs.{needs}
-use lib.Dec.{eqb, leb}
-use Rattle.nodes.specs.NodeSet.{member, highest}
-use Rattle.nodes.specs.SetTable.{setAt}
-use Rattle.tables.proofs.LoadingEdges.{one-more}
 use Rattle.tables.proofs.load.join.Statement.{statement}
 use Rattle.tables.proofs.load.join.Tie as tie
 
-empty-requires : tie.Need-empty-requires
-empty-requires c κs = search needs
+mul-at : tie.Need-mul-at
+mul-at c = search needs
 
-with-requires : tie.Need-with-requires
-with-requires c κs = search needs
+add-at : tie.Need-add-at
+add-at c = search needs
 
-add-set-requires : tie.Need-add-set-requires
-add-set-requires c κs = search needs
+mask-requires : tie.Need-mask-requires
+mask-requires c κs = search needs
+
+mul-graph : tie.Need-mul-graph
+mul-graph c = search needs
+
+slice-read-graph : tie.Need-slice-read-graph
+slice-read-graph c = search needs
+
+slice-write-graph : tie.Need-slice-write-graph
+slice-write-graph c = search needs
 
 same-length : tie.Need-same-length
 same-length c = search needs
 
 returns : tie.Need-returns
-returns c u v = let j = c .before .before in
-    let w = j .before .before in
-    let a = w .before .before .before .args in
-    j .add-set .ensures u v
-    ∙ one-more (a .graph .now) (a .a) (a .b) u v (member (w .with .result)) (setAt (a .graph .now) u v)
-    (w .with .ensures ∙ ap {B = ℕ → Bool} (λ (f : ℕ → Bool) (k : ℕ). f k || (eqb k (a .b) && leb (a .b) highest)) (w .before .empty .ensures))
+returns c u v =
+    let s = c .before .before .before in
+    rw (c .before .mask .ensures) (put-digit (s .args .graph .now) (s .args .a) (s .args .b) (omega arith) (s .pre .2) u v)
 
 pub join-spec : {M : Type 1} → statement M
-join-spec = tie.close (tie.spec empty-requires with-requires add-set-requires same-length returns)
+join-spec =
+    tie.close
+    (tie.spec
+    mul-at
+    add-at
+    mask-requires
+    mul-graph
+    slice-read-graph
+    slice-write-graph
+    same-length
+    returns)
