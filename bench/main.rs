@@ -3,9 +3,12 @@
 mod families;
 mod find;
 mod timing;
+mod verify;
 
 fn main() {
     find::print_families();
     println!();
     find::print_single();
+    println!();
+    verify::print();
 }
