@@ -6,8 +6,8 @@ use harness::random::Random;
 
 pub const SIZES: [usize; 4] = [16, 32, 64, 128];
 pub const SEED: u64 = 1;
-/// Random families take the mean of so many jobs.
-const JOBS: usize = 8;
+/// Random families take the mean of so many jobs, or matrices.
+pub const JOBS: usize = 8;
 
 pub struct Family {
     pub name: &'static str,

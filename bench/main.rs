@@ -2,6 +2,7 @@
 
 mod families;
 mod find;
+mod solve;
 mod timing;
 mod verify;
 
@@ -11,4 +12,6 @@ fn main() {
     find::print_single();
     println!();
     verify::print();
+    println!();
+    solve::print();
 }
