@@ -1,6 +1,7 @@
 //! The finder, from job bytes to flow file bytes: by families, and on single jobs.
 
 use crate::families::{FAMILIES, SEED, SIZES};
+use crate::summary::{Row, Table};
 use crate::timing::{Times, medians};
 use harness::jobs::{Job, PAULI, PLANES};
 use harness::many::{self, KINDS};
@@ -65,9 +66,10 @@ fn growth(before: Option<f64>, now: f64) -> String {
     before.map_or("-".to_string(), |b| format!("{:.1}", now / b))
 }
 
-pub fn print_families() {
+pub fn print_families() -> Vec<Row> {
     println!("| family | n | flows | ours µs | Rust µs | Rust / ours | without reading | ours grows by | Rust grows by |");
     println!("|---|---|---|---|---|---|---|---|---|");
+    let mut rows = Vec::new();
     for family in &FAMILIES {
         let mut before: Option<Times> = None;
         for n in SIZES {
@@ -78,24 +80,35 @@ pub fn print_families() {
             print!("| {:.2} | {:.2} ", t.ratio(), t.ratio_without_reading());
             println!("| {} | {} |", growth(before.map(|b| b.ours), t.ours), growth(before.map(|b| b.rust), t.rust));
             before = Some(t);
+            rows.push(Row { table: Table::Families, name: family.name.to_string(), n, times: t });
         }
     }
+    rows
+}
+
+/// The times of random jobs, one of each kind after the other, several times over.
+fn single_jobs(mode: u8, n: usize, random: &mut Random) -> Vec<(&'static str, Times)> {
+    let one = |&kind: &&'static str| {
+        let files = [many::job_of(kind, mode, n, random).bytes()];
+        agree(&files);
+        (kind, times(&files, SINGLE_RUN))
+    };
+    KINDS.iter().cycle().take(SINGLE_JOBS * KINDS.len()).map(one).collect()
 }
 
 /// Single random jobs of every kind: the least and the middle ratio.
-pub fn print_single() {
+pub fn print_single() -> Vec<Row> {
     println!("| mode | n | random jobs | least Rust / ours | its kind | median |");
     println!("|---|---|---|---|---|---|");
+    let mut rows = Vec::new();
     let mut random = Random::new(SEED);
     for (mode, n) in [PLANES, PAULI].into_iter().flat_map(|mode| SIZES.map(|n| (mode, n))) {
-        let mut ratios = Vec::new();
-        for kind in KINDS.iter().cycle().take(SINGLE_JOBS * KINDS.len()) {
-            let files = [many::job_of(kind, mode, n, &mut random).bytes()];
-            agree(&files);
-            ratios.push((times(&files, SINGLE_RUN).ratio(), kind));
-        }
-        ratios.sort_by(|x, y| x.0.total_cmp(&y.0));
-        let (least, kind) = ratios[0];
-        println!("| {mode} | {n} | {} | {least:.2} | {kind} | {:.2} |", ratios.len(), ratios[ratios.len() / 2].0);
+        let mut jobs = single_jobs(mode, n, &mut random);
+        jobs.sort_by(|x, y| x.1.ratio().total_cmp(&y.1.ratio()));
+        let ((kind, least), (_, median)) = (jobs[0], jobs[jobs.len() / 2]);
+        println!("| {mode} | {n} | {} | {:.2} | {kind} | {:.2} |", jobs.len(), least.ratio(), median.ratio());
+        let row = |(kind, times)| Row { table: Table::Single, name: format!("mode {mode}, {kind}"), n, times };
+        rows.extend(jobs.into_iter().map(row));
     }
+    rows
 }

@@ -3,15 +3,19 @@
 mod families;
 mod find;
 mod solve;
+mod summary;
 mod timing;
 mod verify;
 
+fn print_tables() {
+    let mut rows = Vec::new();
+    for table in [find::print_families, find::print_single, verify::print, solve::print] {
+        rows.extend(table());
+        println!();
+    }
+    summary::print(&rows);
+}
+
 fn main() {
-    find::print_families();
-    println!();
-    find::print_single();
-    println!();
-    verify::print();
-    println!();
-    solve::print();
+    print_tables();
 }

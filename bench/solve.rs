@@ -2,6 +2,7 @@
 //! before. Ours has no call for another right side of the same elimination, so one answer is timed.
 
 use crate::families::{JOBS, SEED};
+use crate::summary::{Row, Table};
 use crate::timing::{Times, medians};
 use fixedbitset::FixedBitSet;
 use harness::families::{grid, path};
@@ -147,22 +148,26 @@ fn times(matrices: &[Given], answer: usize) -> Times {
     Times { ours, rust, making: 0.0 }
 }
 
-fn print_row(kind: &str, shape: Shape, matrices: &[Rows], answer: usize) {
+fn print_row(kind: &str, shape: Shape, matrices: &[Rows], answer: usize) -> Row {
     let given: Vec<Given> = matrices.iter().map(|rows| Given::new(rows, shape)).collect();
     let t = times(&given, answer);
     let solution = if answer == 1 { "yes" } else { "no" };
-    print!("| {kind} | {} | {} | {} | {} ", matrices.len(), shape.rows, shape.cols, shape.sides);
-    println!("| {solution} | {:.1} | {:.1} | {:.2} |", t.ours, t.rust, t.ratio());
+    let Shape { rows, cols, sides } = shape;
+    print!("| {kind} | {} | {rows} | {cols} | {sides} | {solution} ", matrices.len());
+    println!("| {:.1} | {:.1} | {:.2} |", t.ours, t.rust, t.ratio());
+    Row { table: Table::Solve, name: format!("{kind}, {cols} columns, solution: {solution}"), n: rows, times: t }
 }
 
-pub fn print() {
+pub fn print() -> Vec<Row> {
     println!("| coefficients | matrices | rows | columns | right sides | solution | ours µs | Rust µs | Rust / ours |");
     println!("|---|---|---|---|---|---|---|---|---|");
+    let mut rows = Vec::new();
     for (kind, shape) in KINDS.into_iter().flat_map(|kind| SHAPES.map(|shape| (kind, shape))) {
         let random = &mut Random::new(SEED);
         let solvable: Vec<Rows> = coefficients(kind, random).iter().map(|rows| solvable(rows, shape, random)).collect();
         let unsolvable: Vec<Rows> = solvable.iter().map(|rows| unsolvable(rows, shape)).collect();
-        print_row(kind, shape, &solvable, 1);
-        print_row(kind, shape, &unsolvable, 0);
+        rows.push(print_row(kind, shape, &solvable, 1));
+        rows.push(print_row(kind, shape, &unsolvable, 0));
     }
+    rows
 }

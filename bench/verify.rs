@@ -1,6 +1,7 @@
 //! The verifier, from the bytes of a job and a found flow to 'accepted'.
 
 use crate::families::{FAMILIES, Family, SIZES};
+use crate::summary::{Row, Table};
 use crate::timing::{Times, medians};
 use harness::flows::found;
 use harness::jobs::Job;
@@ -38,9 +39,10 @@ fn times(files: &[Vec<u8>]) -> Times {
     Times { ours, rust, making }
 }
 
-pub fn print() {
+pub fn print() -> Vec<Row> {
     println!("| verified flows of | n | flows | ours µs | Rust µs | Rust / ours | without reading |");
     println!("|---|---|---|---|---|---|---|");
+    let mut rows = Vec::new();
     for (family, n) in FAMILIES.iter().flat_map(|family| SIZES.map(|n| (family, n))) {
         let files = files_of(family, n);
         if files.is_empty() {
@@ -49,5 +51,7 @@ pub fn print() {
         let t = times(&files);
         print!("| {} | {n} | {} | {:.2} | {:.2} ", family.name, files.len(), t.ours, t.rust);
         println!("| {:.2} | {:.2} |", t.ratio(), t.ratio_without_reading());
+        rows.push(Row { table: Table::Verify, name: family.name.to_string(), n, times: t });
     }
+    rows
 }
