@@ -1,11 +1,16 @@
-//! The proved library against the original, in one process.
+//! The proved library against the original, in one process. With a call, a file and a number: ours alone, so many times.
 
 mod families;
 mod find;
+mod repeat;
 mod solve;
 mod summary;
 mod timing;
 mod verify;
+
+use harness::ours::Answer;
+use std::process::ExitCode;
+use std::{env, fs};
 
 fn print_tables() {
     let mut rows = Vec::new();
@@ -16,6 +21,22 @@ fn print_tables() {
     summary::print(&rows);
 }
 
-fn main() {
-    print_tables();
+fn print_last(call: fn(&[u8], usize) -> Option<Answer>, file: &str, repeats: &str) {
+    let bytes = fs::read(file).expect("the file can be read");
+    let repeats = repeats.parse().expect("the repeats are a number");
+    println!("{:?}", call(&bytes, repeats));
+}
+
+fn main() -> ExitCode {
+    let words: Vec<String> = env::args().skip(1).collect();
+    match words.iter().map(String::as_str).collect::<Vec<_>>()[..] {
+        [] => print_tables(),
+        ["find", file, repeats] => print_last(repeat::find, file, repeats),
+        ["verify", file, repeats] => print_last(repeat::verify, file, repeats),
+        _ => {
+            eprintln!("usage: bench [find FILE REPEATS | verify FILE REPEATS]");
+            return ExitCode::from(2);
+        }
+    }
+    ExitCode::SUCCESS
 }
