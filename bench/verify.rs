@@ -11,7 +11,7 @@ use harness::theirs;
 /// A run takes at least so many microseconds.
 const RUN: f64 = 50_000.0;
 /// The bytes of 0014.
-pub const ACCEPTED_BYTES: usize = 6;
+const ACCEPTED_BYTES: usize = 6;
 
 /// Each job of the family that has a flow, with that flow behind it.
 fn files_of(family: &Family, n: usize) -> Vec<Vec<u8>> {
