@@ -10,6 +10,13 @@ pub enum Table {
     Solve,
 }
 
+impl Table {
+    /// The single jobs' runs are too short for a difference of times, and the solver reads nothing.
+    fn has_column_without_reading(self) -> bool {
+        matches!(self, Table::Families | Table::Verify)
+    }
+}
+
 /// What one row of a table is about, or one of the single jobs, and its times.
 pub struct Row {
     pub table: Table,
@@ -51,7 +58,11 @@ pub fn print(rows: &[Row]) {
     println!("|---|---|---|---|---|---|");
     for (name, belongs) in GROUPS {
         let group: Vec<&Row> = rows.iter().filter(|row| belongs(row)).collect();
-        let (all, search) = (least(&group, Times::ratio), least(&group, Times::ratio_without_reading));
-        println!("| {name} | {} | {all} | {search} |", group.len());
+        print!("| {name} | {} | {} ", group.len(), least(&group, Times::ratio));
+        if group.iter().all(|row| row.table.has_column_without_reading()) {
+            println!("| {} |", least(&group, Times::ratio_without_reading));
+        } else {
+            println!("| - | - |");
+        }
     }
 }
