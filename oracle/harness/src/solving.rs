@@ -6,7 +6,7 @@ use crate::tally::{Tally, hex};
 use fixedbitset::FixedBitSet;
 use original::internal::gf2_linalg::GF2Solver;
 
-const ROW_BYTES: usize = 16;
+pub const ROW_BYTES: usize = 16;
 const MOST: usize = 128;
 /// So many right sides of a matrix are solved.
 const SIDES_TRIED: usize = 6;
@@ -14,10 +14,12 @@ const SIDES_TRIED: usize = 6;
 const OLD_BITS: [u8; ROW_BYTES] = [0xA5; ROW_BYTES];
 
 #[derive(Clone, Copy, Debug)]
-struct Shape {
-    rows: usize,
-    cols: usize,
-    sides: usize,
+pub struct Shape {
+    pub rows: usize,
+    /// Columns of coefficients.
+    pub cols: usize,
+    /// Right sides.
+    pub sides: usize,
 }
 
 fn bit(bytes: &[u8], i: usize) -> bool {
@@ -43,7 +45,8 @@ fn matrix(shape: Shape, random: &mut Random) -> Vec<u8> {
     bytes
 }
 
-fn rows_of(bytes: &[u8], width: usize) -> Vec<FixedBitSet> {
+/// A matrix of so many bits a row as the original has it.
+pub fn rows_of(bytes: &[u8], width: usize) -> Vec<FixedBitSet> {
     let row = |bytes: &[u8]| {
         let mut set = FixedBitSet::with_capacity(width);
         (0..width).for_each(|i| set.set(i, bit(bytes, i)));
@@ -52,7 +55,8 @@ fn rows_of(bytes: &[u8], width: usize) -> Vec<FixedBitSet> {
     bytes.chunks(ROW_BYTES).map(row).collect()
 }
 
-fn bytes_of(bits: &FixedBitSet) -> [u8; ROW_BYTES] {
+/// The original's solution as ours writes it.
+pub fn bytes_of(bits: &FixedBitSet) -> [u8; ROW_BYTES] {
     let mut bytes = [0; ROW_BYTES];
     bits.ones().for_each(|i| bytes[i / 8] |= 1 << (i % 8));
     bytes

@@ -77,12 +77,23 @@ fn write(found: Option<(Sets, Layer)>, out: &mut Vec<u8>) {
     put_record(out, 0x0012, &entries);
 }
 
-/// Only what the harness does before the original is called in mode 2 or 3: its graph, sets and measurements are made of the bytes.
-pub fn prepare(file: &[u8]) -> usize {
-    let records = payloads(file);
-    let job = read(&records);
+/// How many nodes and measurements the job in the records has, once the original's graph, sets and table are made of them.
+fn made(records: &[&[u8]]) -> usize {
+    let job = read(records);
     let measured = if job.mode == PLANES { table(job.measured, plane).len() } else { table(job.measured, pauli).len() };
     job.graph.len() + measured
+}
+
+/// Only what the harness does before the original's finder is called in mode 2 or 3: its arguments are made of the bytes.
+pub fn prepare(file: &[u8]) -> usize {
+    made(&payloads(file))
+}
+
+/// The same before its verifier is called, on a job and a flow file.
+pub fn prepare_verify(file: &[u8]) -> usize {
+    let records = payloads(file);
+    let (sets, layers) = flow_of(&records);
+    made(&records) + sets.len() + layers.len()
 }
 
 /// The causal flow with sets of one node each.
@@ -112,6 +123,11 @@ fn sets_of(mut bytes: &[u8]) -> Sets {
     sets
 }
 
+/// The flow in the two records behind the job's.
+fn flow_of(records: &[&[u8]]) -> (Sets, Layer) {
+    (sets_of(records[6]), records[5].iter().map(|&l| l as usize).collect())
+}
+
 /// Document 01's number for the original's error, with a and b.
 fn numbers(error: &FlowValidationError) -> (u8, usize, usize) {
     use FlowValidationError::*;
@@ -130,8 +146,7 @@ fn numbers(error: &FlowValidationError) -> (u8, usize, usize) {
 pub fn verify(file: &[u8]) -> (u8, usize, usize) {
     let records = payloads(file);
     let job = read(&records);
-    let layers: Layer = records[5].iter().map(|&l| l as usize).collect();
-    let sets = sets_of(records[6]);
+    let (sets, layers) = flow_of(&records);
     let verdict = match job.mode {
         CAUSAL => {
             let one = |(u, set): (usize, Nodes)| (u, *set.iter().next().expect("one member, by question 9"));
