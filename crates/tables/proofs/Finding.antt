@@ -11,7 +11,7 @@ use lib.Dec.{T, eqb, leb, ltb}
 use lib.ListN.{length, getD, drop}
 use Rattle.nodes.specs.Row.{allBelow}
 use Rattle.nodes.specs.NodeSet.{member, highest, capacity}
-use Rattle.nodes.specs.SetTable.{setAt}
+use Rattle.nodes.specs.SetTable.{setAt, tableWords}
 use Rattle.nodes.specs.declared.utils.NodeSet.{NodeSet}
 use Rattle.nodes.proofs.Logic.{is-true}
 use Rattle.nodes.proofs.Row.{all-in}
@@ -19,7 +19,7 @@ use Rattle.flows.specs.Job.{Job}
 use Rattle.flows.specs.Search.{Progress, found}
 use Rattle.flows.specs.Planes as Planes
 use Rattle.flows.specs.Paulis as Paulis
-use Rattle.finder.specs.Finder.{jobIn, tableWords, sizesFit, layerBytes, setTable, progressAt}
+use Rattle.finder.specs.Finder.{jobIn, sizesFit, layerBytes, setTable, progressAt}
 use Rattle.finder.specs.Finding.{isPlane, planesGiven, answerOf, searched, refused, searchCall}
 use Rattle.finder.specs.declared.gflow.Search.the-variants.{Flow, NoFlow, WrongArguments}
 use Rattle.finder.proofs.Below.{progress-below}

@@ -13,7 +13,7 @@ use lib.Seq.{length-take-le, getD-take}
 use Rattle.nodes.specs.Bit.{bit}
 use Rattle.nodes.specs.Row.{members}
 use Rattle.nodes.specs.NodeSet.{wordBits, highest, capacity}
-use Rattle.nodes.specs.SetTable.{setWords, setAt}
+use Rattle.nodes.specs.SetTable.{setWords, setAt, tableWords}
 use Rattle.nodes.proofs.Logic.{is-false, lt-or-ge}
 use Rattle.nodes.proofs.Row.{ltb-yes, ltb-no}
 use Rattle.nodes.proofs.Members.{members-ext, members-past}
@@ -24,7 +24,7 @@ use Rattle.solver.proofs.Bytes.{length-listOf, getD-listOf, is-listOf}
 use Rattle.solver.proofs.WorkMatrix.{bit-digits}
 use Rattle.flows.specs.Job.{Job}
 use Rattle.flows.specs.Search.{Progress}
-use Rattle.finder.specs.Finder.{tableWords, layerBytes, setTable}
+use Rattle.finder.specs.Finder.{layerBytes, setTable}
 use Rattle.finder.proofs.Below.{Below}
 use Rattle.records.specs.Records.{written, kindLayers, kindSets}
 use Rattle.records.specs.JobFile.{all}

@@ -9,12 +9,12 @@ use lib.ListN.{length}
 use lib.ListN.{replicate, length-replicate}
 use Rattle.nodes.specs.NodeSet.{member, capacity}
 use Rattle.flows.specs.Search.{Progress}
-use Rattle.finder.specs.Finder.{tableWords, progressAt}
+use Rattle.finder.specs.Finder.{progressAt}
 use Rattle.finder.specs.Finding.{Outcome, searched, searchCall}
 use Rattle.records.specs.JobFile.{JobFile, Measured, modePlanes, jobOf}
 use Rattle.records.specs.Views.{bytesAt, fileAt}
 use Rattle.records.specs.Splice.{putFirst, putCount}
-use Rattle.nodes.specs.SetTable.{zeros}
+use Rattle.nodes.specs.SetTable.{zeros, tableWords}
 use Rattle.solver.specs.Solver.{workBytes}
 use Rattle.verdicts.specs.Calls.{foundBytes}
 use Rattle.tables.specs.Replies.{putReply, recordsFor}

@@ -6,9 +6,8 @@ use lib.Dec.{eqb}
 use lib.ListN.{length, getD, drop, length-replicate}
 use borrow.Author.Tests.{le-leb}
 use Rattle.nodes.specs.NodeSet.{member, highest, capacity}
-use Rattle.nodes.specs.SetTable.{setWords, setAt}
+use Rattle.nodes.specs.SetTable.{setWords, setAt, tableWords}
 use Rattle.nodes.proofs.Logic.{and-all}
-use Rattle.finder.specs.Finder.{tableWords}
 use Rattle.nodes.specs.Lists.{has}
 use Rattle.records.specs.FlowFile.{entriesOf, framed, listed, allEntries, entryBelow, setIn, entryIn}
 use Rattle.records.specs.Views.{between}
