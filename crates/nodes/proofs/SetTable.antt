@@ -1,14 +1,14 @@
 -- A table of sets: the words of one set, what a set that is put in leaves of the others, and a table of empty sets.
-use Prim.Native.Nat.{ℕ, zero, suc, _+_, _-_, _*_, _/_, _%_, _≤_, _<_}
+use Prim.Native.Nat.{ℕ, zero, suc, _+_, _-_, _*_, _/_, _%_, _^_, _≤_, _<_}
 use mathlib.Core.Path.{_≡_, refl, sym, ap, ap₂, _∙_, subst, fun-ext}
 use mathlib.Core.Bool.{Bool, true, false, cond, not, _&&_}
-use mathlib.Core.List.{List, [], _∷_, _++_, append-assoc}
+use mathlib.Core.List.{List, [], _∷_, _++_, append-assoc, append-nil}
 use mathlib.Core.Logic.{_≢_, _⊎_, inl, inr}
 use native.Mathlib.Nat.{min-le-left}
 use native.Mathlib.Decide.{ℕ-discrete}
 use native.Mathlib.Omega.{arith}
 use native.Mathlib.Numerals.{lt-of-le-of-ne}
-use lib.Bits.{bitXor, xor-zero-r}
+use lib.Bits.{bitAnd, bitXor, xor-zero-r}
 use lib.Dec.{T, eqb, leb, ltb, leb→le, le→leb, eqb→eq}
 use lib.ListN.{length, getD, set, take, drop, length-append, length-take, length-drop, length-replicate, length-set, List·getD-append, List·getD-eq-default, getD-replicate, replicate-append-replicate}
 use lib.Seq.{getD-set-same, getD-set-other, length-take-le, take-length, take-at, drop-at, take-suc-set, getD-take, getD-drop, getD-append-add, sets-eq}
@@ -16,12 +16,15 @@ use Rattle.nodes.specs.Bit.{_⊕_, bit}
 use Rattle.nodes.specs.Row.{parity, anyBelow, lowest, members, membersFrom}
 use Rattle.nodes.specs.NodeSet.{wordBits, capacity, memberOf, member, wordsOf}
 use Rattle.nodes.specs.declared.utils.NodeSet.{NodeSet}
-use Rattle.nodes.specs.SetTable.{setWords, tableWords, setAt, putSet, addWords, addSet, addSets, zeros}
-use Rattle.nodes.proofs.Logic.{is-true, is-false, dec, and-none, and-all, ⊕-none, ⊕-assoc, lt-or-ge, le-or-lt, cond-t, cond-f, eqb-no, eqb-yes}
-use Rattle.nodes.proofs.Row.{parity-none, any-in, dot-comm, ltb-yes, ltb-no}
-use Rattle.nodes.proofs.Remove.{removed, parity-lowest}
+use Rattle.nodes.specs.SetTable.{setWords, tableWords, setAt, putSet, addWords, addSet, addSets, moved, zeros}
+use Rattle.nodes.proofs.Logic.{is-true, is-false, from-false, dec, and-none, and-all, ⊕-none, ⊕-assoc, lt-or-ge, le-or-lt, cond-t, cond-f, eqb-no, eqb-yes}
+use Rattle.nodes.proofs.Row.{parity-none, any-in, any-out, dot-comm, ltb-yes, ltb-no}
+use Rattle.nodes.proofs.Members.{members-snoc, members-ext, members-none}
+use Rattle.nodes.proofs.Remove.{removed, parity-lowest, members-cons}
+use Rattle.nodes.proofs.Digits.{bit-drop}
 use Rattle.nodes.proofs.Bit.{bit-zero, bit-xor}
-use Rattle.nodes.proofs.NodeSet.{member-past}
+use Rattle.nodes.proofs.NodeSet.{member-head, member-tail, member-past}
+use Rattle.nodes.proofs.NodeSetCount.{word-some}
 
 -- ---- the words of one set
 part-at : (n m : ℕ) (ws : List ℕ) (q : ℕ) → q < m → getD (take m (drop n ws)) q 0 ≡ getD ws (n + q) 0
@@ -244,6 +247,56 @@ pub sets-length : (us ws x : List ℕ) → length (addSets ws us x) ≡ length w
 unfolding addSets
 sets-length [] ws x = refl
 sets-length (u ∷ us) ws x = sets-length us (addSet ws u x) x ∙ add-length x ws (setWords * u)
+
+pub sets-append : (us vs ws x : List ℕ) → addSets ws (us ++ vs) x ≡ addSets (addSets ws us x) vs x
+unfolding addSets
+sets-append [] vs ws x = refl
+sets-append (u ∷ us) vs ws x = sets-append us vs (addSet ws u x) x
+
+-- ---- members word by word
+moved-none : (l : List ℕ) → moved 0 l ≡ l
+unfolding moved
+moved-none [] = refl
+moved-none (k ∷ l) = let e : 0 + k ≡ k = omega arith in ap₂ (λ (a : ℕ) (m : List ℕ). a ∷ m) e (moved-none l)
+
+moved-append : (base : ℕ) (l m : List ℕ) → moved base (l ++ m) ≡ moved base l ++ moved base m
+unfolding moved
+moved-append base [] m = refl
+moved-append base (k ∷ l) m = ap (λ (r : List ℕ). (base + k) ∷ r) (moved-append base l m)
+
+members-split : (m n : ℕ) (s : ℕ → Bool) → members (m + n) s ≡ members m s ++ moved m (members n (λ k. s (m + k)))
+unfolding membersFrom moved
+members-split m zero s = let e : m + 0 ≡ m = omega arith in ap (λ (k : ℕ). members k s) e ∙ sym (append-nil (members m s))
+members-split m (suc n) s =
+    let e : m + suc n ≡ suc (m + n) = omega arith in
+    ap (λ (k : ℕ). members k s) e ∙ members-snoc (m + n) s
+    ∙ ap (λ (l : List ℕ). l ++ cond (s (m + n)) ((m + n) ∷ []) []) (members-split m n s)
+    ∙ append-assoc (members m s) (moved m (members n (λ k. s (m + k)))) (cond (s (m + n)) ((m + n) ∷ []) [])
+    ∙ ap (λ (l : List ℕ). members m s ++ l)
+    (ap (λ (l : List ℕ). moved m (members n (λ k. s (m + k))) ++ l) (by (s (m + n)))
+    ∙ sym (moved-append m (members n (λ k. s (m + k))) (cond (s (m + n)) (n ∷ []) [])) ∙ ap (moved m) (sym (members-snoc n (λ k. s (m + k)))))
+  where
+    by : (b : Bool) → cond b ((m + n) ∷ []) [] ≡ moved m (cond b (n ∷ []) [])
+    by true = refl
+    by false = refl
+
+pub members-words : (among : NodeSet) → members capacity (member among) ≡ moved 0 (members wordBits (bit (among .low))) ++ moved wordBits (members wordBits (bit (among .high)))
+members-words among =
+    members-split wordBits wordBits (member among)
+    ∙ ap₂ (λ (l m : List ℕ). l ++ moved wordBits m)
+    (members-ext wordBits (member among) (bit (among .low)) (λ k h. member-head (among .low) (among .high ∷ []) k h) ∙ sym (moved-none (members wordBits (bit (among .low)))))
+    (members-ext wordBits (λ k. member among (wordBits + k)) (bit (among .high)) (λ k h. member-tail (among .low) (among .high ∷ []) k ∙ member-head (among .high) [] k h))
+
+-- the node of the lowest digit, and then those of the others
+pub word-cons : (base w : ℕ) → w < 2 ^ wordBits → w ≢ 0 → moved base (members wordBits (bit w)) ≡ (base + lowest wordBits (bit w)) ∷ moved base (members wordBits (bit (bitAnd w (w - 1))))
+unfolding moved
+word-cons base w h n =
+    ap (moved base) (members-cons wordBits (bit w) (word-some w [] h n)
+    ∙ ap (λ (l : List ℕ). lowest wordBits (bit w) ∷ l) (members-ext wordBits (removed (bit w) (lowest wordBits (bit w))) (bit (bitAnd w (w - 1))) (λ k l. sym (bit-drop wordBits w k h))))
+
+pub word-nil : (base : ℕ) → moved base (members wordBits (bit 0)) ≡ []
+unfolding moved
+word-nil base = ap (moved base) (members-none wordBits (bit 0) (λ t. let (k, l, q) = any-out wordBits (bit 0) t in from-false (bit 0 k) (bit-zero k) q))
 
 -- of the n sets from k on
 added-from : (n k : ℕ) (s : ℕ → Bool) (ws x : List ℕ) → length x ≡ setWords → length ws ≡ tableWords → k + n ≤ capacity → (v i : ℕ)

@@ -1,14 +1,14 @@
 // Sets of nodes, a digit for each node, and tables of such sets.
 ghost use mathlib.Core.Path.{_≡_};
 ghost use mathlib.Core.Bool.{Bool, true, false, not, _&&_, _||_};
-ghost use Prim.Native.Nat.{ℕ, _%_, _^_};
+ghost use Prim.Native.Nat.{ℕ, _%_, _^_, _≤_};
 ghost use lib.Dec.{eqb, leb, ltb};
 ghost use lib.Bits.{bitXor};
 ghost use lib.ListN.{length, getD, set};
-ghost use Rattle.nodes.specs.Bit.{_⊕_};
+ghost use Rattle.nodes.specs.Bit.{bit, _⊕_};
 ghost use Rattle.nodes.specs.Row.{anyBelow, allBelow, count, lowest, members, parity};
 ghost use Rattle.nodes.specs.NodeSet.{wordBits, highest, capacity, wordsOf, member};
-ghost use Rattle.nodes.specs.SetTable.{setAt, putSet, addSet, addSets, zeros};
+ghost use Rattle.nodes.specs.SetTable.{setAt, putSet, addSet, addSets, moved, zeros};
 
 const WORD_BITS: u8 = 64;
 
@@ -238,15 +238,24 @@ fn add_set(table: &mut [u64], u: u8, x: NodeSet)
     add_word(table, at + 1, x.high);
 }
 
+// x is added to the set of each node whose digit the word has; the word begins with node `base`.
+fn add_in_word(table: &mut [u64], base: u8, word: u64, x: NodeSet)
+    requires { ⌜ base ≤ capacity ⌝ }
+    ensures { λ _. ⌜ now (table .exit) ≡ addSets (now (table .entry)) (moved base (members wordBits (bit word))) (wordsOf x) ⌝ }
+{
+    let mut left = word;
+    while left != 0 {
+        add_set(table, base + u64::trailing_zeros(left) as u8, x);
+        left &= left - 1;
+    }
+}
+
 // x is added mod 2 to the set of each node in `among`, where the table has it.
 pub fn add_to(table: &mut [u64], among: NodeSet, x: NodeSet)
     ensures { λ _. ⌜ now (table .exit) ≡ addSets (now (table .entry)) (members capacity (member among)) (wordsOf x) ⌝ }
 {
-    let mut left = among;
-    while !left.is_empty() {
-        add_set(table, left.lowest(), x);
-        left = left.without_lowest();
-    }
+    add_in_word(table, 0, among.low, x);
+    add_in_word(table, WORD_BITS, among.high, x);
 }
 
 // The nodes that are in the sets of an odd number of kset's members: where the table has each node's
