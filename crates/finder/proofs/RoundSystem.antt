@@ -4,7 +4,7 @@ use mathlib.Core.Path.{_≡_, refl, sym, ap, ap₂, _∙_, subst}
 use mathlib.Core.Bool.{Bool, true, false, cond, not, _&&_, _||_, false≢true}
 use mathlib.Core.List.{List}
 use mathlib.Core.Logic.{_⊎_, inl, inr}
-use mathlib.Core.Option.{Option, none}
+use mathlib.Core.Option.{none}
 use native.Mathlib.Nat.{add-sub-cancel-left}
 use native.Mathlib.Decide.{ℕ-discrete}
 use native.Mathlib.Omega.{arith}
@@ -15,13 +15,13 @@ use Rattle.nodes.specs.Row.{count}
 use Rattle.nodes.specs.NodeSet.{capacity, member}
 use Rattle.nodes.specs.SetTable.{setAt, tableWords}
 use Rattle.nodes.specs.declared.utils.NodeSet.{NodeSet}
-use Rattle.nodes.proofs.Logic.{is-true, is-false, from-false, dec, and-l, and-r, and-none, and-all, or-l, or-r, or-out, ⊕-none, eqb-no, eqb-yes, lt-or-ge}
+use Rattle.nodes.proofs.Logic.{is-true, is-false, dec, and-l, and-r, and-none, and-all, or-l, or-r, or-out, ⊕-none, eqb-no, eqb-yes, lt-or-ge}
 use Rattle.nodes.proofs.Row.{ltb-yes, ltb-no}
 use Rattle.nodes.proofs.NodeSet.{member-lt}
 use Rattle.solver.specs.System.{System, solve}
 use Rattle.solver.specs.Asked.{asking, askedSide}
 use Rattle.solver.specs.WorkMatrix.{entryOf}
-use Rattle.solver.specs.Solver.{rowBytes, mostRows, mostColumns}
+use Rattle.solver.specs.Solver.{rowBytes, mostRows}
 use Rattle.solver.specs.Basis.{Form, answerFrom}
 use Rattle.solver.specs.BasisCalls.{formOf, formFits, isReady, namedEntry, namedSystem, Answering, FormAfter}
 use Rattle.solver.specs.declared.column_basis.Formed.{Formed}
@@ -33,10 +33,10 @@ use Rattle.solver.proofs.BasisTables.{rest-entry, fits-last}
 use Rattle.solver.proofs.BasisForms.{unreached}
 use Rattle.flows.specs.Job.{planeXY}
 use Rattle.flows.specs.Branch.{inSet, inOdd, systemAt, sideAt, withNode, tryBranch}
-use Rattle.flows.specs.Round.{forNode, hasRow, roundSide, askedRow, askedBit, tryRound}
+use Rattle.flows.specs.Round.{forNode, hasRow, roundSide, askedRow, askedBit}
 use Rattle.flows.proofs.Round.{try-round, try-plane}
-use Rattle.flows.proofs.Sizes.{count-disjoint}
-use Rattle.finder.specs.Views.{contextOf, graphJob, Within, RowsApart, SidesApart, rowBit, LaidOut, Seeing, Reaching, roundSystem, Answers, sideBit, roundRows, askedColumns, askedOdd, Ready}
+use Rattle.nodes.proofs.Count.{count-disjoint}
+use Rattle.finder.specs.Views.{contextOf, graphJob, RowsApart, SidesApart, rowBit, LaidOut, Reaching, roundSystem, Answers, sideBit, roundRows, askedColumns, askedOdd, Ready}
 use Rattle.finder.specs.declared.Sets.{Sets}
 
 -- ---- the rows of the matrix that are laid out, and those that are left out because no column reaches them

@@ -126,22 +126,6 @@ module _ (try : ℕ → Option (ℕ → Bool)) (r : ℕ) (p : Progress) where
           by (inr a) (inl b) = absurd (a (h u b))
           by (inr a) (inr b) = rw (is-false (among u) a, is-false (fewer u) b)
 
-  -- only the tries of the visited nodes count
-  pub visited-ext : (among : ℕ → Bool) (other : ℕ → Option (ℕ → Bool)) → ((u : ℕ) → T (among u) → try u ≡ other u) → visited among try r p ≡ visited among other r p
-  visited-ext among other h = progress-eq (visited among try r p) (visited among other r p) (λ u. solved′ u (dec (among u))) (λ u. layer′ u (dec (among u))) (λ u. set′ u (dec (among u)))
-    where
-      solved′ : (u : ℕ) → T (among u) ⊎ (T (among u) → ⊥) → p .solved u || (among u && isSome (try u)) ≡ p .solved u || (among u && isSome (other u))
-      solved′ u (inl t) = rw (h u t)
-      solved′ u (inr f) = rw (is-false (among u) f)
-
-      layer′ : (u : ℕ) → T (among u) ⊎ (T (among u) → ⊥) → cond (among u && isSome (try u)) r (p .layer u) ≡ cond (among u && isSome (other u)) r (p .layer u)
-      layer′ u (inl t) = rw (h u t)
-      layer′ u (inr f) = rw (is-false (among u) f)
-
-      set′ : (u : ℕ) → T (among u) ⊎ (T (among u) → ⊥) → cond (among u && isSome (try u)) (orNone (try u)) (p .set u) ≡ cond (among u && isSome (other u)) (orNone (other u)) (p .set u)
-      set′ u (inl t) = rw (h u t)
-      set′ u (inr f) = rw (is-false (among u) f)
-
   -- all unsolved nodes were visited: a round
   pub visited-round : (n : ℕ) (among : ℕ → Bool) (full : ℕ → Option (ℕ → Bool)) → n ≤ capacity → p ≡ cutTo n p
       → among ≡ (λ u. (ltb u n && leb u highest) && not (p .solved u))

@@ -3,7 +3,6 @@ use Prim.Native.Nat.{ℕ, zero, suc, _+_, _<_}
 use mathlib.Core.Path.{_≡_, refl, sym, ap, ap₂, _∙_}
 use mathlib.Core.Bool.{Bool, true, false, cond, not, _||_}
 use mathlib.Core.Option.{Option}
-use lib.Dec.{T}
 use Rattle.nodes.specs.Row.{anyBelow}
 use Rattle.nodes.proofs.Row.{any-ext, all-ext}
 use Rattle.flows.specs.Job.{Job}

@@ -1,15 +1,15 @@
 -- How many numbers below n a set has, and the rank of a member: how many are below it.
-use Prim.Native.Nat.{ℕ, zero, suc, _+_, _-_, _%_, _≤_, _<_}
+use Prim.Native.Nat.{ℕ, zero, suc, _+_, _-_, _%_, _≤_, _<_, zero-le}
 use mathlib.Core.Path.{_≡_, refl, sym, ap, ap₂, _∙_}
-use mathlib.Core.Bool.{Bool, true, false, cond, not, _&&_}
+use mathlib.Core.Bool.{Bool, true, false, cond, not}
 use mathlib.Core.Logic.{_⊎_, inl, inr}
 use native.Mathlib.Omega.{arith}
 use native.Mathlib.Nat.{not-suc-le-zero, le-step, lt-suc-self, eq-or-lt-of-le, le-of-suc-le-suc, le-refl, add-zero, add-suc, mod-lt, zero-lt-suc}
-use lib.Dec.{T, eqb, eqb→eq, eqb-refl}
+use lib.Dec.{T}
 use Rattle.nodes.specs.Bit.{_⊕_, isOne}
 use Rattle.nodes.specs.Row.{parity, count, anyBelow}
-use Rattle.nodes.proofs.Logic.{is-true, is-false, from-false, dec, and-l, and-r, and-in, le-or-lt}
-use Rattle.nodes.proofs.Row.{any-in, any-out}
+use Rattle.nodes.proofs.Logic.{is-true, is-false, dec, le-or-lt}
+use Rattle.nodes.proofs.Row.{any-in}
 
 pub count-le : (n : ℕ) (s : ℕ → Bool) → count n s ≤ n
 unfolding count
@@ -56,12 +56,6 @@ count-split m (suc n) s = ap (λ (x : ℕ). count x s) (add-suc m n) ∙ go (s (
         → cond c (suc (count (m + n) s)) (count (m + n) s) ≡ count m s + cond c (suc (count n (λ k. s (m + k)))) (count n (λ k. s (m + k)))
     go true e = ap suc e ∙ sym (add-suc (count m s) (count n (λ k. s (m + k))))
     go false e = e
-
-pub count-past : (n w : ℕ) (s : ℕ → Bool) → n ≤ w → ((k : ℕ) → n ≤ k → s k ≡ false) → count w s ≡ count n s
-count-past n w s h z =
-    let e : w ≡ n + (w - n) = omega arith in
-    ap (λ (x : ℕ). count x s) e ∙ count-split n (w - n) s
-    ∙ ap (λ (x : ℕ). count n s + x) (count-none (w - n) (λ k. s (n + k)) (λ k l. from-false (s (n + k)) (z (n + k) (omega arith)))) ∙ add-zero (count n s)
 
 -- an odd number of members
 pub parity-count : (n : ℕ) (s : ℕ → Bool) → parity n s ≡ isOne (count n s % 2)
@@ -152,31 +146,14 @@ rank-sur (suc n) c i h = go (dec (c n)) (rank-sur n c i)
         by (inl e) = (n, lt-suc-self n, t, sym e)
         by (inr l) = let (v, m, t, e) = ih l in (v, le-step m, t, e)
 
--- a sum over the members is a sum over their ranks
-pub rank-sum : (n : ℕ) (c g : ℕ → Bool) → parity n (λ k. c k && g (count k c)) ≡ parity (count n c) g
-unfolding parity count
-rank-sum zero c g = refl
-rank-sum (suc n) c g = go (c n) (rank-sum n c g)
+-- two sets without a common member
+pub count-disjoint : (n : ℕ) (a b : ℕ → Bool) → ((k : ℕ) → k < n → T (a k) → T (b k) → ⊥) → count n a + count n b ≤ n
+unfolding count
+count-disjoint zero a b h = zero-le
+count-disjoint (suc n) a b h = go (a n) (b n) (h n (lt-suc-self n)) (count-disjoint n a b (λ k l. h k (le-step l)))
   where
-    go : (q : Bool) → parity n (λ k. c k && g (count k c)) ≡ parity (count n c) g → (q && g (count n c)) ⊕ parity n (λ k. c k && g (count k c)) ≡ parity (cond q (suc (count n c)) (count n c)) g
-    go true ih = rw ih
-    go false ih = ih
-
--- the bit of y at the member of rank i
-abbrev pub ranked : (n : ℕ) (c y : ℕ → Bool) → ℕ → Bool
-ranked n c y i = anyBelow n (λ k. c k && eqb (count k c) i && y k)
-
-pub ranked-at : (n : ℕ) (c y : ℕ → Bool) (k : ℕ) → k < n → T (c k) → ranked n c y (count k c) ≡ y k
-ranked-at n c y k l t = go (dec (y k))
-  where
-    go : T (y k) ⊎ (T (y k) → ⊥) → anyBelow n (λ q. c q && eqb (count q c) (count k c) && y q) ≡ y k
-    go (inl a) =
-        is-true (anyBelow n (λ q. c q && eqb (count q c) (count k c) && y q))
-        (any-in n (λ q. c q && eqb (count q c) (count k c) && y q) k l (and-in (c k && eqb (count k c) (count k c)) (y k) (and-in (c k) (eqb (count k c) (count k c)) t (eqb-refl (count k c))) a))
-        ∙ sym (is-true (y k) a)
-    go (inr f) = is-false (anyBelow n (λ q. c q && eqb (count q c) (count k c) && y q)) (λ s. out (any-out n (λ q. c q && eqb (count q c) (count k c) && y q) s)) ∙ sym (is-false (y k) f)
-      where
-        out : (q : ℕ) × (q < n) × T (c q && eqb (count q c) (count k c) && y q) → ⊥
-        out (q, m, a) =
-            let b = and-l (c q && eqb (count q c) (count k c)) (y q) a in
-            f (rw (rank-inj q k c (and-l (c q) (eqb (count q c) (count k c)) b) t (eqb→eq (count q c) (count k c) (and-r (c q) (eqb (count q c) (count k c)) b))) at (and-r (c q && eqb (count q c) (count k c)) (y q) a))
+    go : (c d : Bool) → (T c → T d → ⊥) → count n a + count n b ≤ n → cond c (suc (count n a)) (count n a) + cond d (suc (count n b)) (count n b) ≤ suc n
+    go true true f l = absurd (f tt tt)
+    go true false f l = omega arith
+    go false true f l = omega arith
+    go false false f l = omega arith

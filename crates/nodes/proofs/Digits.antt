@@ -6,7 +6,7 @@ use native.Mathlib.Nat.{mod-lt, le-dest, zero-lt-suc, mul-mod-left}
 use native.Mathlib.Omega.{arith}
 use lib.Arith.{lt-one}
 use lib.Bits.{bitAnd, and-shr, and-self}
-use lib.Dec.{T, eqb, eqb·suc-suc, eqb·suc-zero}
+use lib.Dec.{eqb, eqb·suc-suc, eqb·suc-zero}
 use lib.Pow.{split, shr-lt, shl-shr, shr-shr, pow-pos, field, mod-mod-pow}
 use lib.Count.{ones, ones-cat, trailingZeros, under}
 use Rattle.nodes.specs.Bit.{bit, isOne}

@@ -1,7 +1,7 @@
 -- A member is taken out of a set: what is left of its count, its sums and its list.
 use Prim.Native.Nat.{ℕ, zero, suc, _+_, _≤_, _<_}
 use mathlib.Core.Path.{_≡_, refl, sym, ap, ap₂, _∙_, subst, fun-ext}
-use mathlib.Core.Bool.{Bool, true, false, cond, not, _&&_, _||_}
+use mathlib.Core.Bool.{Bool, true, false, cond, not, _&&_}
 use mathlib.Core.List.{List, _∷_}
 use mathlib.Core.Logic.{_⊎_, inl, inr, _≢_}
 use native.Mathlib.Decide.{ℕ-discrete}
@@ -11,8 +11,8 @@ use native.Mathlib.Numerals.{lt-of-le-of-ne}
 use lib.Dec.{T, eqb}
 use Rattle.nodes.specs.Bit.{_⊕_}
 use Rattle.nodes.specs.Row.{parity, anyBelow, count, lowestFrom, lowest, membersFrom, members}
-use Rattle.nodes.proofs.Logic.{is-true, is-false, from-true, from-false, lt-or-ge, beq-eq, and-l, and-r, and-in, or-l, or-r, or-out, eqb-no, eqb-yes, and-none, and-all, not-not, ⊕-none}
-use Rattle.nodes.proofs.Row.{parity-ext, parity-⊕, parity-one, any-in, any-out}
+use Rattle.nodes.proofs.Logic.{is-true, is-false, from-true, from-false, lt-or-ge, and-l, eqb-no, eqb-yes, and-none, and-all, not-not, ⊕-none}
+use Rattle.nodes.proofs.Row.{parity-ext, parity-⊕, parity-one}
 use Rattle.nodes.proofs.Count.{count-ext}
 use Rattle.nodes.proofs.Members.{lowest-none, lowest-here, lowest-some, lowest-member}
 
@@ -70,25 +70,6 @@ parity-remove n s f v h t =
 
 pub parity-lowest : (n : ℕ) (s f : ℕ → Bool) → T (anyBelow n s) → parity n (λ k. s k && f k) ≡ f (lowest n s) ⊕ parity n (λ k. removed s (lowest n s) k && f k)
 parity-lowest n s f t = parity-remove n s f (lowest n s) (lowest-some n s t) (lowest-member n s t)
-
--- some of the set, and all of it
-pub any-remove : (n : ℕ) (s f : ℕ → Bool) (v : ℕ) → v < n → T (s v) → anyBelow n (λ k. s k && f k) ≡ f v || anyBelow n (λ k. removed s v k && f k)
-any-remove n s f v h t =
-    beq-eq (anyBelow n (λ k. s k && f k)) (f v || anyBelow n (λ k. removed s v k && f k))
-    (λ a. let (k, l, b) = any-out n (λ k. s k && f k) a in into k l b (ℕ-discrete k v))
-    (λ a. out (or-out (f v) (anyBelow n (λ k. removed s v k && f k)) a))
-  where
-    into : (k : ℕ) → k < n → T (s k && f k) → Dec (k ≡ v) → T (f v || anyBelow n (λ k. removed s v k && f k))
-    into k l b (yes e) = or-l (f v) (anyBelow n (λ k. removed s v k && f k)) (rw e at (and-r (s k) (f k) b))
-    into k l b (no d) =
-        or-r (f v) (anyBelow n (λ k. removed s v k && f k))
-        (any-in n (λ k. removed s v k && f k) k l (rw (eqb-no k v d, and-all (s k)) b))
-
-    out : T (f v) ⊎ T (anyBelow n (λ k. removed s v k && f k)) → T (anyBelow n (λ k. s k && f k))
-    out (inl a) = any-in n (λ k. s k && f k) v h (and-in (s v) (f v) t a)
-    out (inr a) =
-        let (k, l, b) = any-out n (λ k. removed s v k && f k) a in
-        any-in n (λ k. s k && f k) k l (and-in (s k) (f k) (and-l (s k) (not (eqb k v)) (and-l (removed s v k) (f k) b)) (and-r (removed s v k) (f k) b))
 
 -- ---- the list of the members: the least, and then those of the rest
 from-ext : (k n : ℕ) (s t : ℕ → Bool) → ((j : ℕ) → k ≤ j → s j ≡ t j) → membersFrom k n s ≡ membersFrom k n t

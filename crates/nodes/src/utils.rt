@@ -1,7 +1,7 @@
 // Sets of nodes, a digit for each node, and tables of such sets.
 ghost use mathlib.Core.Path.{_≡_};
-ghost use mathlib.Core.Bool.{Bool, true, false, not, _&&_, _||_};
-ghost use Prim.Native.Nat.{ℕ, _%_, _^_, _≤_};
+ghost use mathlib.Core.Bool.{false, not, _&&_, _||_};
+ghost use Prim.Native.Nat.{_%_, _^_, _≤_};
 ghost use lib.Dec.{eqb, leb, ltb};
 ghost use lib.Bits.{bitXor};
 ghost use lib.ListN.{length, getD, set};

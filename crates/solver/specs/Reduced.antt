@@ -1,10 +1,10 @@
 -- The reduced form of a matrix, and what can be read off a matrix: total, whatever the matrix is.
-use Prim.Native.Nat.{ℕ, zero, _<_}
+use Prim.Native.Nat.{ℕ, _<_}
 use mathlib.Core.Path.{_≡_}
 use mathlib.Core.Bool.{Bool, false, cond, _&&_}
 use mathlib.Core.Logic.{_≢_}
 use mathlib.Core.Option.{Option, none, some}
-use lib.Dec.{T, eqb, ltb}
+use lib.Dec.{eqb, ltb}
 use Rattle.nodes.specs.Row.{anyBelow, lowest}
 
 -- the first column below n at which row i has a bit, and n where it has none

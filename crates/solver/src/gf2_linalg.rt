@@ -9,10 +9,10 @@ ghost use Rattle.nodes.specs.Row.{lowestFrom};
 ghost use Rattle.nodes.specs.NodeSet.{member};
 ghost use Rattle.solver.specs.Reduced.{lead, leads};
 ghost use Rattle.solver.specs.WorkMatrix.{entryOf, nothingBeyond, bytesOf};
-ghost use Rattle.solver.specs.Steps.{xorRow, brought, clearOne, clearColumn, State, column, eliminated};
+ghost use Rattle.solver.specs.Steps.{xorRow, brought, clearOne, clearColumn, column, eliminated};
 ghost use Rattle.solver.specs.Steps.{inVain, noSolution, readColumn, leadBytes, withBit, rowEnds};
 ghost use Rattle.solver.specs.Solver.{rowBytes, mostColumns, fits, bothFit, wellShaped, solverAccepts};
-ghost use Rattle.solver.specs.Solver.{MatrixAfter, pivotsOf, eliminateCall, Outcome, outcome, readOffCall, solveCall};
+ghost use Rattle.solver.specs.Solver.{MatrixAfter, pivotsOf, eliminateCall, outcome, readOffCall, solveCall};
 use nodes::utils::NodeSet;
 use nodes::utils::mask;
 

@@ -1,14 +1,14 @@
 use lib.ListN.{length}
 use native.Mathlib.Omega.{arith}
-use mathlib.Core.Path.{_≡_, refl, ap, _∙_}
+use mathlib.Core.Path.{refl, ap, _∙_}
 use mathlib.Core.Bool.{true, false}
 use Prim.Native.Nat.{ℕ, _*_, _≤_}
 use Rattle.nodes.specs.Row.{count}
-use Rattle.nodes.specs.NodeSet.{member, capacity}
+use Rattle.nodes.specs.NodeSet.{member}
 use Rattle.nodes.proofs.NodeSet.{member-lt}
 use Rattle.solver.specs.Solver.{rowBytes}
 use Rattle.finder.specs.Views.{rowBit}
-use Rattle.finder.proofs.Filling.{part-size, both-size, both-upper, both-lower}
+use Rattle.finder.proofs.Filling.{both-size, both-upper, both-lower}
 use borrow.Author.Needs.{needs}
 use Rattle.finder.proofs.fill.Statement.{statement}
 use Rattle.finder.proofs.fill.Tie as tie

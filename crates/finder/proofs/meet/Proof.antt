@@ -1,7 +1,5 @@
-use native.Mathlib.Omega.{arith}
-use mathlib.Core.Path.{_≡_, ap, _∙_}
-use mathlib.Core.Bool.{Bool, not}
-use Prim.Native.Nat.{ℕ}
+use mathlib.Core.Path.{ap, _∙_}
+use mathlib.Core.Bool.{not}
 use Rattle.nodes.specs.Row.{anyBelow}
 use Rattle.nodes.specs.NodeSet.{capacity, member}
 use Rattle.nodes.proofs.Logic.{not-not}

@@ -1,4 +1,3 @@
-use native.Mathlib.Omega.{arith}
 use mathlib.Core.Path.{sym, _∙_}
 use Rattle.nodes.specs.NodeSet.{member}
 use Rattle.flows.specs.Branch.{inOdd}

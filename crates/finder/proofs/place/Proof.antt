@@ -1,13 +1,10 @@
-use native.Mathlib.Omega.{arith}
 use lib.ListN.{length, length-set}
-use lib.Dec.{eqb}
 use mathlib.Core.Bool.{Bool, _||_}
 use Prim.Native.Nat.{ℕ}
 use Rattle.nodes.proofs.SetTable.{put-length}
 use Rattle.finder.specs.declared.Tried.{Tried}
-use Rattle.nodes.specs.NodeSet.{capacity, member}
-use Rattle.nodes.specs.SetTable.{tableWords}
-use mathlib.Core.Path.{_≡_, refl, sym, ap, _∙_}
+use Rattle.nodes.specs.NodeSet.{member}
+use mathlib.Core.Path.{refl, sym, ap, _∙_}
 use Rattle.finder.specs.Views.{triedOf}
 use Rattle.finder.specs.Finding.{placed, progressIn}
 use Rattle.finder.proofs.Finding.{place-none, place-some}

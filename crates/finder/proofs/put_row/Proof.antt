@@ -1,4 +1,3 @@
-use native.Mathlib.Omega.{arith}
 use mathlib.Core.Path.{refl}
 use Rattle.finder.proofs.Filling.{row-put}
 use borrow.Author.Needs.{needs}

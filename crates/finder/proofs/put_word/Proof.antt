@@ -1,7 +1,7 @@
 use native.Mathlib.Omega.{arith}
 use borrow.Author.Needs.{needs}
 use mathlib.Core.Path.{refl}
-use Prim.Native.Nat.{ℕ, _≤_, _-_}
+use Prim.Native.Nat.{_≤_, _-_}
 use Rattle.finder.proofs.Filling.{Putting, putting-start, putting-step, putting-end}
 use borrow.Author.Needs.{needs}
 use Rattle.finder.proofs.put_word.Statement.{statement}

@@ -1,13 +1,13 @@
 use native.Mathlib.Omega.{arith}
 use borrow.Author.Needs.{needs}
-use mathlib.Core.Path.{_≡_, refl, sym, ap, ap₂, _∙_}
-use mathlib.Core.List.{List, _∷_}
+use mathlib.Core.Path.{_≡_, refl, sym, ap, _∙_}
+use mathlib.Core.List.{List}
 use Prim.Native.Nat.{ℕ, _+_, _-_, _^_, _<_}
 use lib.Bits.{bitAnd, and-le-r}
 use lib.Count.{trailing-le}
 use lib.ListN.{length}
 use Rattle.nodes.specs.Bit.{bit}
-use Rattle.nodes.specs.Row.{lowest, members}
+use Rattle.nodes.specs.Row.{members}
 use Rattle.nodes.specs.NodeSet.{wordBits, wordsOf}
 use Rattle.nodes.specs.SetTable.{addSet, addSets, moved}
 use Rattle.nodes.proofs.Digits.{trailing-lowest}

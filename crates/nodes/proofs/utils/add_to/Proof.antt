@@ -1,9 +1,9 @@
-use mathlib.Core.Path.{_≡_, sym, ap, _∙_}
-use mathlib.Core.List.{List, _++_}
+use mathlib.Core.Path.{sym, ap, _∙_}
+use mathlib.Core.List.{List}
 use Prim.Native.Nat.{ℕ}
 use Rattle.nodes.specs.Bit.{bit}
 use Rattle.nodes.specs.Row.{members}
-use Rattle.nodes.specs.NodeSet.{wordBits, capacity, member, wordsOf}
+use Rattle.nodes.specs.NodeSet.{wordBits, wordsOf}
 use Rattle.nodes.specs.SetTable.{addSets, moved}
 use Rattle.nodes.proofs.SetTable.{sets-append, members-words}
 use borrow.Author.Needs.{needs}

@@ -1,5 +1,4 @@
-use native.Mathlib.Omega.{arith}
-use mathlib.Core.Path.{_≡_, ap, _∙_}
+use mathlib.Core.Path.{ap, _∙_}
 use lib.ListN.{length}
 use Rattle.nodes.specs.Row.{anyBelow, lowest}
 use Rattle.nodes.specs.NodeSet.{capacity, member}

@@ -1,4 +1,3 @@
-use native.Mathlib.Omega.{arith}
 use mathlib.Core.Path.{refl}
 use Rattle.solver.proofs.BasisTables.{row-words}
 use borrow.Author.Needs.{needs}

@@ -1,8 +1,7 @@
 use native.Mathlib.Omega.{arith}
 use borrow.Author.Needs.{needs}
-use mathlib.Core.Path.{_≡_, refl, sym, subst}
+use mathlib.Core.Path.{_≡_, refl, subst}
 use Prim.Native.Nat.{ℕ, _+_, _-_, _≤_}
-use lib.ListN.{getD}
 use Rattle.solver.proofs.BasisTables.{Word, word-none, word-more}
 use borrow.Author.Needs.{needs}
 use Rattle.solver.proofs.column_basis.word_at.Statement.{statement}

@@ -1,7 +1,6 @@
-use mathlib.Core.Path.{_≡_, ap, _∙_, fun-ext}
-use mathlib.Core.Bool.{Bool, true, false, not, _&&_}
+use mathlib.Core.Path.{ap, _∙_, fun-ext}
+use mathlib.Core.Bool.{Bool, not, _&&_}
 use Prim.Native.Nat.{ℕ}
-use lib.Dec.{eqb}
 use Rattle.nodes.specs.Row.{lowest}
 use Rattle.nodes.specs.NodeSet.{capacity, member}
 use Rattle.nodes.proofs.Remove.{least-alone}
