@@ -18,6 +18,7 @@ use Rattle.flows.proofs.Branch.{put-out}
 use Rattle.flows.proofs.Tries.{contextAt, tryAt, planes-context, FirstOf, try-first, branch-answer, no-column-u}
 use Rattle.flows.proofs.Flows.{findAt, earlierThan, Found, found-flow, try-ext}
 use Rattle.records.specs.Answer.{Answer as Reply, gives, refuses}
+use Rattle.nodes.specs.Lists.{has}
 use Rattle.records.specs.JobFile.{JobFile, readJob, jobOf, modePlanes, modePauli}
 use Rattle.records.specs.FlowFile.{FlowFile, flowOf, readFlow}
 use Rattle.records.specs.Encoding.{foundFlow}
