@@ -11,7 +11,7 @@ use harness::theirs;
 
 /// A run takes at least so many microseconds, on families and on single jobs.
 const FAMILY_RUN: f64 = 50_000.0;
-const SINGLE_RUN: f64 = 1_000.0;
+const SINGLE_RUN: f64 = 5_000.0;
 /// So many random jobs of each kind are timed one by one.
 const SINGLE_JOBS: usize = 10;
 

@@ -16,7 +16,7 @@ use Rattle.nodes.specs.Bit.{_⊕_, bit}
 use Rattle.nodes.specs.Row.{parity, anyBelow, lowest, members, membersFrom}
 use Rattle.nodes.specs.NodeSet.{wordBits, capacity, memberOf, member, wordsOf}
 use Rattle.nodes.specs.declared.utils.NodeSet.{NodeSet}
-use Rattle.nodes.specs.SetTable.{setWords, tableWords, setAt, putSet, addWords, addSet, addSets, moved, zeros}
+use Rattle.nodes.specs.SetTable.{setWords, tableWords, setAt, putSet, addWords, addSet, addSets, raised, zeros}
 use Rattle.nodes.proofs.Logic.{is-true, is-false, from-false, dec, and-none, and-all, ⊕-none, ⊕-assoc, lt-or-ge, le-or-lt, cond-t, cond-f, eqb-no, eqb-yes}
 use Rattle.nodes.proofs.Row.{parity-none, any-in, any-out, dot-comm, ltb-yes, ltb-no}
 use Rattle.nodes.proofs.Members.{members-snoc, members-ext, members-none}
@@ -254,49 +254,49 @@ sets-append [] vs ws x = refl
 sets-append (u ∷ us) vs ws x = sets-append us vs (addSet ws u x) x
 
 -- ---- members word by word
-moved-none : (l : List ℕ) → moved 0 l ≡ l
-unfolding moved
-moved-none [] = refl
-moved-none (k ∷ l) = let e : 0 + k ≡ k = omega arith in ap₂ (λ (a : ℕ) (m : List ℕ). a ∷ m) e (moved-none l)
+raised-none : (l : List ℕ) → raised 0 l ≡ l
+unfolding raised
+raised-none [] = refl
+raised-none (k ∷ l) = let e : 0 + k ≡ k = omega arith in ap₂ (λ (a : ℕ) (m : List ℕ). a ∷ m) e (raised-none l)
 
-moved-append : (base : ℕ) (l m : List ℕ) → moved base (l ++ m) ≡ moved base l ++ moved base m
-unfolding moved
-moved-append base [] m = refl
-moved-append base (k ∷ l) m = ap (λ (r : List ℕ). (base + k) ∷ r) (moved-append base l m)
+raised-append : (base : ℕ) (l m : List ℕ) → raised base (l ++ m) ≡ raised base l ++ raised base m
+unfolding raised
+raised-append base [] m = refl
+raised-append base (k ∷ l) m = ap (λ (r : List ℕ). (base + k) ∷ r) (raised-append base l m)
 
-members-split : (m n : ℕ) (s : ℕ → Bool) → members (m + n) s ≡ members m s ++ moved m (members n (λ k. s (m + k)))
-unfolding membersFrom moved
+members-split : (m n : ℕ) (s : ℕ → Bool) → members (m + n) s ≡ members m s ++ raised m (members n (λ k. s (m + k)))
+unfolding membersFrom raised
 members-split m zero s = let e : m + 0 ≡ m = omega arith in ap (λ (k : ℕ). members k s) e ∙ sym (append-nil (members m s))
 members-split m (suc n) s =
     let e : m + suc n ≡ suc (m + n) = omega arith in
     ap (λ (k : ℕ). members k s) e ∙ members-snoc (m + n) s
     ∙ ap (λ (l : List ℕ). l ++ cond (s (m + n)) ((m + n) ∷ []) []) (members-split m n s)
-    ∙ append-assoc (members m s) (moved m (members n (λ k. s (m + k)))) (cond (s (m + n)) ((m + n) ∷ []) [])
+    ∙ append-assoc (members m s) (raised m (members n (λ k. s (m + k)))) (cond (s (m + n)) ((m + n) ∷ []) [])
     ∙ ap (λ (l : List ℕ). members m s ++ l)
-    (ap (λ (l : List ℕ). moved m (members n (λ k. s (m + k))) ++ l) (by (s (m + n)))
-    ∙ sym (moved-append m (members n (λ k. s (m + k))) (cond (s (m + n)) (n ∷ []) [])) ∙ ap (moved m) (sym (members-snoc n (λ k. s (m + k)))))
+    (ap (λ (l : List ℕ). raised m (members n (λ k. s (m + k))) ++ l) (by (s (m + n)))
+    ∙ sym (raised-append m (members n (λ k. s (m + k))) (cond (s (m + n)) (n ∷ []) [])) ∙ ap (raised m) (sym (members-snoc n (λ k. s (m + k)))))
   where
-    by : (b : Bool) → cond b ((m + n) ∷ []) [] ≡ moved m (cond b (n ∷ []) [])
+    by : (b : Bool) → cond b ((m + n) ∷ []) [] ≡ raised m (cond b (n ∷ []) [])
     by true = refl
     by false = refl
 
-pub members-words : (among : NodeSet) → members capacity (member among) ≡ moved 0 (members wordBits (bit (among .low))) ++ moved wordBits (members wordBits (bit (among .high)))
+pub members-words : (among : NodeSet) → members capacity (member among) ≡ raised 0 (members wordBits (bit (among .low))) ++ raised wordBits (members wordBits (bit (among .high)))
 members-words among =
     members-split wordBits wordBits (member among)
-    ∙ ap₂ (λ (l m : List ℕ). l ++ moved wordBits m)
-    (members-ext wordBits (member among) (bit (among .low)) (λ k h. member-head (among .low) (among .high ∷ []) k h) ∙ sym (moved-none (members wordBits (bit (among .low)))))
+    ∙ ap₂ (λ (l m : List ℕ). l ++ raised wordBits m)
+    (members-ext wordBits (member among) (bit (among .low)) (λ k h. member-head (among .low) (among .high ∷ []) k h) ∙ sym (raised-none (members wordBits (bit (among .low)))))
     (members-ext wordBits (λ k. member among (wordBits + k)) (bit (among .high)) (λ k h. member-tail (among .low) (among .high ∷ []) k ∙ member-head (among .high) [] k h))
 
 -- the node of the lowest digit, and then those of the others
-pub word-cons : (base w : ℕ) → w < 2 ^ wordBits → w ≢ 0 → moved base (members wordBits (bit w)) ≡ (base + lowest wordBits (bit w)) ∷ moved base (members wordBits (bit (bitAnd w (w - 1))))
-unfolding moved
+pub word-cons : (base w : ℕ) → w < 2 ^ wordBits → w ≢ 0 → raised base (members wordBits (bit w)) ≡ (base + lowest wordBits (bit w)) ∷ raised base (members wordBits (bit (bitAnd w (w - 1))))
+unfolding raised
 word-cons base w h n =
-    ap (moved base) (members-cons wordBits (bit w) (word-some w [] h n)
+    ap (raised base) (members-cons wordBits (bit w) (word-some w [] h n)
     ∙ ap (λ (l : List ℕ). lowest wordBits (bit w) ∷ l) (members-ext wordBits (removed (bit w) (lowest wordBits (bit w))) (bit (bitAnd w (w - 1))) (λ k l. sym (bit-drop wordBits w k h))))
 
-pub word-nil : (base : ℕ) → moved base (members wordBits (bit 0)) ≡ []
-unfolding moved
-word-nil base = ap (moved base) (members-none wordBits (bit 0) (λ t. let (k, l, q) = any-out wordBits (bit 0) t in from-false (bit 0 k) (bit-zero k) q))
+pub word-nil : (base : ℕ) → raised base (members wordBits (bit 0)) ≡ []
+unfolding raised
+word-nil base = ap (raised base) (members-none wordBits (bit 0) (λ t. let (k, l, q) = any-out wordBits (bit 0) t in from-false (bit 0 k) (bit-zero k) q))
 
 -- of the n sets from k on
 added-from : (n k : ℕ) (s : ℕ → Bool) (ws x : List ℕ) → length x ≡ setWords → length ws ≡ tableWords → k + n ≤ capacity → (v i : ℕ)

@@ -36,10 +36,10 @@ unfoldable pub addSets : List ℕ → List ℕ → List ℕ → List ℕ
 addSets ws [] x = ws
 addSets ws (u ∷ us) x = addSets (addSet ws u x) us x
 
--- the numbers of a list, each moved up by `base`
-unfoldable pub moved : ℕ → List ℕ → List ℕ
-moved base [] = []
-moved base (k ∷ l) = (base + k) ∷ moved base l
+-- the numbers of a list, each raised by `base`
+unfoldable pub raised : ℕ → List ℕ → List ℕ
+raised base [] = []
+raised base (k ∷ l) = (base + k) ∷ raised base l
 
 -- n words with no digit
 abbrev pub zeros : ℕ → List ℕ

@@ -8,7 +8,7 @@ ghost use lib.ListN.{length, getD, set};
 ghost use Rattle.nodes.specs.Bit.{bit, _⊕_};
 ghost use Rattle.nodes.specs.Row.{anyBelow, allBelow, count, lowest, members, parity};
 ghost use Rattle.nodes.specs.NodeSet.{wordBits, highest, capacity, wordsOf, member};
-ghost use Rattle.nodes.specs.SetTable.{setAt, putSet, addSet, addSets, moved, zeros};
+ghost use Rattle.nodes.specs.SetTable.{setAt, putSet, addSet, addSets, raised, zeros};
 
 const WORD_BITS: u8 = 64;
 
@@ -241,7 +241,7 @@ fn add_set(table: &mut [u64], u: u8, x: NodeSet)
 // x is added to the set of each node whose digit the word has; the word begins with node `base`.
 fn add_in_word(table: &mut [u64], base: u8, word: u64, x: NodeSet)
     requires { ⌜ base ≤ capacity ⌝ }
-    ensures { λ _. ⌜ now (table .exit) ≡ addSets (now (table .entry)) (moved base (members wordBits (bit word))) (wordsOf x) ⌝ }
+    ensures { λ _. ⌜ now (table .exit) ≡ addSets (now (table .entry)) (raised base (members wordBits (bit word))) (wordsOf x) ⌝ }
 {
     let mut left = word;
     while left != 0 {

@@ -4,7 +4,7 @@ use Prim.Native.Nat.{ℕ}
 use Rattle.nodes.specs.Bit.{bit}
 use Rattle.nodes.specs.Row.{members}
 use Rattle.nodes.specs.NodeSet.{wordBits, wordsOf}
-use Rattle.nodes.specs.SetTable.{addSets, moved}
+use Rattle.nodes.specs.SetTable.{addSets, raised}
 use Rattle.nodes.proofs.SetTable.{sets-append, members-words}
 use borrow.Author.Needs.{needs}
 use Rattle.nodes.proofs.utils.add_to.Statement.{statement}
@@ -20,7 +20,7 @@ same-length : tie.Need-same-length
 same-length c = search needs
 
 returns : tie.Need-returns
-returns c = let a = c .before .before .before .before .before .before .before .before .before .args in let x = wordsOf (a .x) in let l = moved 0 (members wordBits (bit (a .among .low))) in let h = moved wordBits (members wordBits (bit (a .among .high))) in
+returns c = let a = c .before .before .before .before .before .before .before .before .before .args in let x = wordsOf (a .x) in let l = raised 0 (members wordBits (bit (a .among .low))) in let h = raised wordBits (members wordBits (bit (a .among .high))) in
     c .before .before .add-in-word2 .ensures ∙ ap (λ (t : List ℕ). addSets t h x) (c .before .before .before .before .before .before .add-in-word .ensures) ∙ sym (sets-append l h (a .table .now) x) ∙ ap (λ (m : List ℕ). addSets (a .table .now) m x) (sym (members-words (a .among)))
 
 pub add-to-spec : {M : Type 1} → statement M
