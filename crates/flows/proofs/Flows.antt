@@ -1,5 +1,5 @@
--- Both searches, as one: what they find is right, each set by the first solvable branch of its round, and no right layering
--- has a node earlier.
+-- Both searches, as one: what they find is right, each set by the first solvable branch of its round, and every right layering
+-- gives each node at least the layer found.
 use Prim.Native.Nat.{ℕ, _+_, _-_, _≤_, _<_, zero-le}
 use mathlib.Core.Path.{_≡_, refl, sym, ap, _∙_, subst}
 use mathlib.Core.Bool.{Bool, true, false, cond, not, false≢true}
@@ -20,7 +20,7 @@ use Rattle.flows.specs.Planes as Planes
 use Rattle.flows.specs.Paulis as Paulis
 use Rattle.flows.proofs.Conditions.{Ok, more-later}
 use Rattle.flows.proofs.Tries.{contextAt, noColumnAt, tryAt, planes-context, SameContext, node-ext, FirstOf, try-first, try-sound, try-complete}
-use Rattle.flows.proofs.Search.{never, Ended, rounds-end, rounds-pass, fresh-open, Searched, step, searched-start, searched, Early, step-early, earliest}
+use Rattle.flows.proofs.Search.{never, Ended, rounds-end, rounds-pass, fresh-open, Searched, step, searched-start, searched, SmallestTill, step-smallest, rounds-smallest}
 use Rattle.flows.proofs.Premise.{premiseAt, Gone, all-gone, column-left}
 
 abbrev pub findAt : Job → Bool → Option Progress
@@ -86,16 +86,16 @@ module _ (j : Job) (pauli : Bool) (gone gone′ : ℕ → Bool) (same : (v : ℕ
       )
 
 -- ---- what is found
--- the nodes of smaller layers than u's
-abbrev pub earlierThan : (ℕ → ℕ) → ℕ → ℕ → Bool
-earlierThan layer u v = ltb (layer v) (layer u)
+-- v is later than u: its layer is smaller
+abbrev pub laterThan : (ℕ → ℕ) → ℕ → ℕ → Bool
+laterThan layer u v = ltb (layer v) (layer u)
 
 pub record Found (j : Job) (pauli : Bool) (s : Progress) : Type 0 where
   pub output-layer : (u : ℕ) → T (j .output u) → s .layer u ≡ 0
   pub output-set : (u : ℕ) → T (j .output u) → s .set u ≡ noNode
   pub least : (u : ℕ) → u < j .nodes → (T (j .output u) → ⊥) → firstRound pauli ≤ s .layer u
   pub most : (u : ℕ) → u < j .nodes → s .layer u ≤ j .nodes
-  pub by-try : (u : ℕ) → u < j .nodes → (T (j .output u) → ⊥) → tryAt j pauli (earlierThan (s .layer) u) u ≡ some (s .set u)
+  pub by-try : (u : ℕ) → u < j .nodes → (T (j .output u) → ⊥) → tryAt j pauli (laterThan (s .layer) u) u ≡ some (s .set u)
 
 begun-searched : (j : Job) (pauli : Bool) → Searched (j .nodes) (j .output) (tryAt j pauli) (firstRound pauli) 1 (begun j pauli)
 begun-searched j true =
@@ -128,7 +128,7 @@ found-flow j pauli s e = go (found-out (j .nodes) (ended j pauli) s (sym (find-e
       most = λ u l. below (ended j pauli .layer u) (j .nodes) (ended-searched j pauli .below u l (solved u l));
       by-try = λ u l o.
           let t = ended-searched j pauli .tried u l o (solved u l) in
-          try-ext j pauli (earlierThan (ended j pauli .layer) u) (t .gone) (λ v m. sym (t .earlier v m ∙ rw (is-true (ended j pauli .solved v) (solved v m)))) u ∙ t .gave;
+          try-ext j pauli (laterThan (ended j pauli .layer) u) (t .gone) (λ v m. sym (t .later v m ∙ rw (is-true (ended j pauli .solved v) (solved v m)))) u ∙ t .gave;
     }
       where
         solved : (u : ℕ) → u < j .nodes → T (ended j pauli .solved u)
@@ -142,15 +142,15 @@ found-flow j pauli s e = go (found-out (j .nodes) (ended j pauli) s (sym (find-e
 
 -- each set is right, by the nodes of smaller layers
 pub found-ok : (j : Job) (pauli : Bool) → ((u : ℕ) → u < j .nodes → j .measured u < 7) → (s : Progress) → Found j pauli s
-    → (u : ℕ) → u < j .nodes → (T (j .output u) → ⊥) → Ok j pauli (earlierThan (s .layer) u) (s .set u) u
-found-ok j pauli m s f u l o = try-sound j pauli (earlierThan (s .layer) u) u l (m u l) (s .set u) (f .by-try u l o)
+    → (u : ℕ) → u < j .nodes → (T (j .output u) → ⊥) → Ok j pauli (laterThan (s .layer) u) (s .set u) u
+found-ok j pauli m s f u l o = try-sound j pauli (laterThan (s .layer) u) u l (m u l) (s .set u) (f .by-try u l o)
 
 -- each set is that of the first solvable branch in u's row of the table, in the context of u's round
 pub found-first : (j : Job) (pauli : Bool) (s : Progress) → Found j pauli s
-    → (u : ℕ) → u < j .nodes → (T (j .output u) → ⊥) → FirstOf j (contextAt j pauli (earlierThan (s .layer) u) u) u (branches (j .measured u)) (s .set u)
-found-first j pauli s f u l o = try-first j pauli (earlierThan (s .layer) u) u (s .set u) (f .by-try u l o)
+    → (u : ℕ) → u < j .nodes → (T (j .output u) → ⊥) → FirstOf j (contextAt j pauli (laterThan (s .layer) u) u) u (branches (j .measured u)) (s .set u)
+found-first j pauli s f u l o = try-first j pauli (laterThan (s .layer) u) u (s .set u) (f .by-try u l o)
 
--- ---- nothing is earlier
+-- ---- no layer can be smaller
 module _ (j : Job) (pauli : Bool)
     (measured : (u : ℕ) → u < j .nodes → j .measured u < 7)
     (planes : pauli ≡ false → (u : ℕ) → u < j .nodes → j .measured u ≤ 3)
@@ -158,29 +158,29 @@ module _ (j : Job) (pauli : Bool)
     (premise : T (premiseAt j pauli))
     (layer : ℕ → ℕ) (set : ℕ → ℕ → Bool)
     (above : pauli ≡ false → (u : ℕ) → u < j .nodes → (T (j .output u) → ⊥) → 0 < layer u)
-    (ok : (u : ℕ) → u < j .nodes → (T (j .output u) → ⊥) → Ok j pauli (earlierThan layer u) (set u) u) where
+    (ok : (u : ℕ) → u < j .nodes → (T (j .output u) → ⊥) → Ok j pauli (laterThan layer u) (set u) u) where
   complete : (gone x : ℕ → Bool) (u : ℕ) → u < j .nodes → (T (j .output u) → ⊥) → Gone j pauli gone → Ok j pauli gone x u → T (isSome (tryAt j pauli gone u))
   complete gone x u l o g q =
       try-complete j pauli gone u l (measured u l)
       (column-left j u l (measured u l) (loopless u) o pauli (λ e. planes e u l) premise gone x g q) x q
 
-  abbrev EarlyAt : ℕ → Progress → Type 0
-  EarlyAt = Early (j .nodes) (j .output) (tryAt j pauli) (Ok j pauli) (more-later j pauli) (Gone j pauli) (all-gone j pauli) complete layer set ok
+  abbrev SmallestAt : ℕ → Progress → Type 0
+  SmallestAt = SmallestTill (j .nodes) (j .output) (tryAt j pauli) (Ok j pauli) (more-later j pauli) (Gone j pauli) (all-gone j pauli) complete layer set ok
 
-  start-early : (r : ℕ) → ((u : ℕ) → u < j .nodes → layer u < r → T (j .output u)) → EarlyAt r (start (j .output))
-  start-early r h = record { outputs = λ u l o. o; solved = h; early = λ u l t. zero-le }
+  start-smallest : (r : ℕ) → ((u : ℕ) → u < j .nodes → layer u < r → T (j .output u)) → SmallestAt r (start (j .output))
+  start-smallest r h = record { outputs = λ u l o. o; solved = h; smallest = λ u l t. zero-le }
 
   no-less : (u : ℕ) → layer u < 0 → ⊥
   no-less u h = not-suc-le-zero h
 
-  begun-early : EarlyAt 1 (begun j pauli)
-  begun-early = go pauli refl
+  begun-smallest : SmallestAt 1 (begun j pauli)
+  begun-smallest = go pauli refl
     where
-      go : (c : Bool) → pauli ≡ c → EarlyAt 1 (cond c (round (tryAt j pauli noNode) 0 (start (j .output))) (start (j .output)))
+      go : (c : Bool) → pauli ≡ c → SmallestAt 1 (cond c (round (tryAt j pauli noNode) 0 (start (j .output))) (start (j .output)))
       go true e =
-          step-early (j .nodes) (j .output) (tryAt j pauli) (Ok j pauli) (more-later j pauli) (Gone j pauli) (all-gone j pauli) complete layer set ok noNode 0 (start (j .output))
-          (start-early 0 (λ u l h. absurd (no-less u h))) (λ v l h. absurd (no-less v h)) (rw e tt)
-      go false e = start-early 1 (λ u l h. by u l h (dec (j .output u)))
+          step-smallest (j .nodes) (j .output) (tryAt j pauli) (Ok j pauli) (more-later j pauli) (Gone j pauli) (all-gone j pauli) complete layer set ok noNode 0 (start (j .output))
+          (start-smallest 0 (λ u l h. absurd (no-less u h))) (λ v l h. absurd (no-less v h)) (rw e tt)
+      go false e = start-smallest 1 (λ u l h. by u l h (dec (j .output u)))
         where
           by : (u : ℕ) → u < j .nodes → layer u < 1 → T (j .output u) ⊎ (T (j .output u) → ⊥) → T (j .output u)
           by u l h (inl t) = t
@@ -189,10 +189,10 @@ module _ (j : Job) (pauli : Bool)
               none-of : (a : ℕ) → 0 < a → a < 1 → ⊥
               none-of a p q = omega arith
 
-  pub found-earliest : (s : Progress) × (findAt j pauli ≡ some s) × ((u : ℕ) → u < j .nodes → s .layer u ≤ layer u)
-  found-earliest =
-      let f = earliest (j .nodes) (j .output) (tryAt j pauli) (Ok j pauli) (more-later j pauli) (Gone j pauli) (all-gone j pauli) complete layer set ok (j .nodes) 1 (begun j pauli) begun-early (count-le (j .nodes) (λ u. not (begun j pauli .solved u))) in (
+  pub found-smallest : (s : Progress) × (findAt j pauli ≡ some s) × ((u : ℕ) → u < j .nodes → s .layer u ≤ layer u)
+  found-smallest =
+      let f = rounds-smallest (j .nodes) (j .output) (tryAt j pauli) (Ok j pauli) (more-later j pauli) (Gone j pauli) (all-gone j pauli) complete layer set ok (j .nodes) 1 (begun j pauli) begun-smallest (count-le (j .nodes) (λ u. not (begun j pauli .solved u))) in (
         ended j pauli,
         find-ended j pauli ∙ rw (is-true (allBelow (j .nodes) (ended j pauli .solved)) (all-in (j .nodes) (ended j pauli .solved) (f .all))),
-        f .early,
+        f .smallest,
       )

@@ -1,4 +1,5 @@
--- The search by rounds: it ends by its own rule, what it solves was solved by a try at its layer, and no layering is earlier.
+-- The search by rounds: it ends by its own rule, what it solves was solved by a try at its layer, and no right layering has a smaller
+-- layer.
 use Prim.Native.Nat.{ℕ, zero, suc, _+_, _≤_, _<_}
 use mathlib.Core.Path.{_≡_, refl, sym, ap, ap₂, _∙_, fun-ext}
 use mathlib.Core.Bool.{Bool, false, cond, not, _&&_, _||_}
@@ -126,7 +127,7 @@ module _ (n : ℕ) (output : ℕ → Bool) (try : (ℕ → Bool) → ℕ → Opt
   -- u's set is what a try gave it when just the solved nodes of smaller layers were gone
   pub record Tried (s : Progress) (u : ℕ) : Type 0 where
     pub gone : ℕ → Bool
-    pub earlier : (v : ℕ) → v < n → gone v ≡ (s .solved v && ltb (s .layer v) (s .layer u))
+    pub later : (v : ℕ) → v < n → gone v ≡ (s .solved v && ltb (s .layer v) (s .layer u))
     pub gave : try gone u ≡ some (s .set u)
 
   -- the progress before round r, where `first` was the first round
@@ -190,12 +191,12 @@ module _ (n : ℕ) (output : ℕ → Bool) (try : (ℕ → Bool) → ℕ → Opt
         tried′ u l o (inl t) =
             let p = g .tried u l o t in record {
               gone = p .gone;
-              earlier = λ v m. p .earlier v m ∙ sym (ap (λ (q : ℕ). next .solved v && ltb (next .layer v) q) (kept-layer u t) ∙ same-past (s .layer u) v (le-of-suc-le-suc (g .below u l t)));
+              later = λ v m. p .later v m ∙ sym (ap (λ (q : ℕ). next .solved v && ltb (next .layer v) q) (kept-layer u t) ∙ same-past (s .layer u) v (le-of-suc-le-suc (g .below u l t)));
               gave = p .gave ∙ ap some (sym (kept-set u t));
             }
         tried′ u l o (inr f) = record {
           gone = gone;
-          earlier = λ v m. past v m ∙ sym (ap (λ (q : ℕ). next .solved v && ltb (next .layer v) q) (new-layer u f) ∙ same-past r v (omega arith));
+          later = λ v m. past v m ∙ sym (ap (λ (q : ℕ). next .solved v && ltb (next .layer v) q) (new-layer u f) ∙ same-past r v (omega arith));
           gave = some-of (try gone u) (and-r (not (s .solved u)) (isSome (try gone u)) f) ∙ ap some (sym (new-set u f));
         }
 
@@ -243,7 +244,7 @@ module _ (n : ℕ) (output : ℕ → Bool) (try : (ℕ → Bool) → ℕ → Opt
       go (inr (t, p)) ih =
           rw (p, ← shift r k) (ih (r + 1) (omega arith) (round (try (s .solved)) r s) (rw (← suc-one r) (step (s .solved) r from s (later-bound r s g) (all-past r s g))))
 
--- ---- no layering is earlier: over any question Ok of a node's set that depends on which nodes are later
+-- ---- no right layering has a smaller layer: over any question Ok of a node's set that depends on which nodes are later
 module _
     (n : ℕ)
     (output : ℕ → Bool)
@@ -257,16 +258,16 @@ module _
     (set : ℕ → ℕ → Bool)
     (flow : (u : ℕ) → u < n → (T (output u) → ⊥) → Ok (λ v. ltb (layer v) (layer u)) (set u) u)
   where
-    -- before round r: every node of a smaller layer is solved, and no solved node is late
-    pub record Early (r : ℕ) (s : Progress) : Type 0 where
+    -- before round r: every node of a smaller layer is solved, and no solved node has a larger layer
+    pub record SmallestTill (r : ℕ) (s : Progress) : Type 0 where
       pub outputs : (u : ℕ) → u < n → T (output u) → T (s .solved u)
       pub solved : (u : ℕ) → u < n → layer u < r → T (s .solved u)
-      pub early : (u : ℕ) → u < n → T (s .solved u) → s .layer u ≤ layer u
+      pub smallest : (u : ℕ) → u < n → T (s .solved u) → s .layer u ≤ layer u
 
-    -- all are solved, and none is late
-    pub record Earliest (s : Progress) : Type 0 where
+    -- all are solved, and none has a larger layer
+    pub record Smallest (s : Progress) : Type 0 where
       pub all : (u : ℕ) → u < n → T (s .solved u)
-      pub early : (u : ℕ) → u < n → s .layer u ≤ layer u
+      pub smallest : (u : ℕ) → u < n → s .layer u ≤ layer u
 
     -- an unsolved node all of whose smaller layers are gone is solved
     pub can : (gone : ℕ → Bool) (s : Progress) (u : ℕ) → u < n → (T (output u) → T (s .solved u)) → Gone gone → Within n (λ v. ltb (layer v) (layer u)) gone → (T (s .solved u) → ⊥) → T (solvedNow (try gone) s u)
@@ -274,11 +275,11 @@ module _
         and-in (not (s .solved u)) (isSome (try gone u)) (not-in (s .solved u) f)
         (complete gone (set u) u l (λ o. f (outs o)) q (more (λ v. ltb (layer v) (layer u)) gone w (set u) u (flow u l (λ o. f (outs o)))))
 
-    pub step-early : (gone : ℕ → Bool) (r : ℕ) (s : Progress) → Early r s → ((v : ℕ) → v < n → layer v < r → T (gone v)) → Gone gone → Early (suc r) (round (try gone) r s)
-    step-early gone r s b past ready = record {
+    pub step-smallest : (gone : ℕ → Bool) (r : ℕ) (s : Progress) → SmallestTill r s → ((v : ℕ) → v < n → layer v < r → T (gone v)) → Gone gone → SmallestTill (suc r) (round (try gone) r s)
+    step-smallest gone r s b past ready = record {
       outputs = λ u l o. or-l (s .solved u) (solvedNow (try gone) s u) (b .outputs u l o);
       solved = λ u l h. solved′ u l h (dec (s .solved u));
-      early = λ u l t. early′ u l (dec (solvedNow (try gone) s u)) (or-out (s .solved u) (solvedNow (try gone) s u) t) (le-or-lt r (layer u));
+      smallest = λ u l t. smallest′ u l (dec (solvedNow (try gone) s u)) (or-out (s .solved u) (solvedNow (try gone) s u) t) (le-or-lt r (layer u));
     }
       where
         solved′ : (u : ℕ) → u < n → layer u < suc r → T (s .solved u) ⊎ (T (s .solved u) → ⊥) → T (s .solved u || solvedNow (try gone) s u)
@@ -287,15 +288,15 @@ module _
             or-r (s .solved u) (solvedNow (try gone) s u)
             (can gone s u l (b .outputs u l) ready (λ v m d. let e : layer v < layer u = ltb→lt (layer v) (layer u) d in past v m (omega arith)) f)
 
-        early′ : (u : ℕ) → u < n → T (solvedNow (try gone) s u) ⊎ (T (solvedNow (try gone) s u) → ⊥) → T (s .solved u) ⊎ T (solvedNow (try gone) s u) → (r ≤ layer u) ⊎ (layer u < r)
+        smallest′ : (u : ℕ) → u < n → T (solvedNow (try gone) s u) ⊎ (T (solvedNow (try gone) s u) → ⊥) → T (s .solved u) ⊎ T (solvedNow (try gone) s u) → (r ≤ layer u) ⊎ (layer u < r)
             → cond (solvedNow (try gone) s u) r (s .layer u) ≤ layer u
-        early′ u l (inl f) q (inl h) = rw (cond-t (solvedNow (try gone) s u) r (s .layer u) f) h
-        early′ u l (inl f) q (inr h) = absurd (fresh-open (try gone) s u (b .solved u l h) f)
-        early′ u l (inr m) (inl t) h = rw (cond-f (solvedNow (try gone) s u) r (s .layer u) m) (b .early u l t)
-        early′ u l (inr m) (inr f) h = absurd (m f)
+        smallest′ u l (inl f) q (inl h) = rw (cond-t (solvedNow (try gone) s u) r (s .layer u) f) h
+        smallest′ u l (inl f) q (inr h) = absurd (fresh-open (try gone) s u (b .solved u l h) f)
+        smallest′ u l (inr m) (inl t) h = rw (cond-f (solvedNow (try gone) s u) r (s .layer u) m) (b .smallest u l t)
+        smallest′ u l (inr m) (inr f) h = absurd (m f)
 
     -- a round that solves nothing is a fixpoint: by induction on a bound for the layer, all is solved
-    fixpoint : (r : ℕ) (s : Progress) → Early r s → (T (anyBelow n (solvedNow (try (s .solved)) s)) → ⊥) → (m u : ℕ) → u < n → layer u < m → T (s .solved u)
+    fixpoint : (r : ℕ) (s : Progress) → SmallestTill r s → (T (anyBelow n (solvedNow (try (s .solved)) s)) → ⊥) → (m u : ℕ) → u < n → layer u < m → T (s .solved u)
     fixpoint r s b f zero u l h = absurd (not-suc-le-zero h)
     fixpoint r s b f (suc m) u l h = go (dec (s .solved u)) (fixpoint r s b f m)
       where
@@ -306,15 +307,15 @@ module _
             (f (any-in n (solvedNow (try (s .solved)) s) u l
             (can (s .solved) s u l (b .outputs u l) (all-gone (s .solved) (b .outputs)) (λ v k d. let e : layer v < layer u = ltb→lt (layer v) (layer u) d in ih v k (omega arith)) g)))
 
-    earliest-end : (r : ℕ) (s : Progress) → Early r s → anyBelow n (solvedNow (try (s .solved)) s) ≡ false → Earliest s
-    earliest-end r s b e =
+    end-smallest : (r : ℕ) (s : Progress) → SmallestTill r s → anyBelow n (solvedNow (try (s .solved)) s) ≡ false → Smallest s
+    end-smallest r s b e =
         let all′ : (u : ℕ) → u < n → T (s .solved u) = λ u l. fixpoint r s b (from-false (anyBelow n (solvedNow (try (s .solved)) s)) e) (suc (layer u)) u l (lt-suc-self (layer u)) in
-        record { all = all′; early = λ u l. b .early u l (all′ u l) }
+        record { all = all′; smallest = λ u l. b .smallest u l (all′ u l) }
 
-    pub earliest : (k r : ℕ) (s : Progress) → Early r s → count n (λ u. not (s .solved u)) ≤ k → Earliest (rounds never try n k r s)
+    pub rounds-smallest : (k r : ℕ) (s : Progress) → SmallestTill r s → count n (λ u. not (s .solved u)) ≤ k → Smallest (rounds never try n k r s)
     unfolding rounds
-    earliest zero r s b c = earliest-end r s b (any-none n (solvedNow (try (s .solved)) s) (λ u l t. fresh-open (try (s .solved)) s u (none-left never try n s c u l) t))
-    earliest (suc k) r s b c = go (rounds-step never try n k r s) (earliest k)
+    rounds-smallest zero r s b c = end-smallest r s b (any-none n (solvedNow (try (s .solved)) s) (λ u l t. fresh-open (try (s .solved)) s u (none-left never try n s c u l) t))
+    rounds-smallest (suc k) r s b c = go (rounds-step never try n k r s) (rounds-smallest k)
       where
         suc-one : (r : ℕ) → suc r ≡ r + 1
         suc-one r = omega arith
@@ -325,8 +326,8 @@ module _
 
         go : (Ended never try n s × (rounds never try n (suc k) r s ≡ s))
             ⊎ (T (anyBelow n (solvedNow (try (s .solved)) s)) × (rounds never try n (suc k) r s ≡ rounds never try n k (r + 1) (round (try (s .solved)) r s)))
-            → ((r : ℕ) (s : Progress) → Early r s → count n (λ u. not (s .solved u)) ≤ k → Earliest (rounds never try n k r s)) → Earliest (rounds never try n (suc k) r s)
-        go (inl (e, p)) ih = rw p (earliest-end r s b (ended e))
+            → ((r : ℕ) (s : Progress) → SmallestTill r s → count n (λ u. not (s .solved u)) ≤ k → Smallest (rounds never try n k r s)) → Smallest (rounds never try n (suc k) r s)
+        go (inl (e, p)) ih = rw p (end-smallest r s b (ended e))
         go (inr (t, p)) ih =
             let l = fewer never try n r s t in
-            rw p (ih (r + 1) (round (try (s .solved)) r s) (rw (← suc-one r) (step-early (s .solved) r s b (b .solved) (all-gone (s .solved) (b .outputs)))) (omega arith))
+            rw p (ih (r + 1) (round (try (s .solved)) r s) (rw (← suc-one r) (step-smallest (s .solved) r s b (b .solved) (all-gone (s .solved) (b .outputs)))) (omega arith))

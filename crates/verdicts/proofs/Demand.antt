@@ -1,5 +1,5 @@
--- Demand 3, for both modes: the finder's flow is accepted, no accepted flow has a node earlier, and 'no flow' is said
--- exactly where no flow is accepted.
+-- Demand 3, for both modes: the finder's flow is accepted, every accepted flow gives each node at least the layer of
+-- the finder's, and 'no flow' is said exactly where no flow is accepted.
 use Prim.Native.Nat.{ℕ, _+_, _≤_, _<_}
 use mathlib.Core.Path.{_≡_, refl, sym, ap, ap₂, _∙_, subst}
 use mathlib.Core.Bool.{Bool, true, false, cond, not, _&&_, _||_}
@@ -19,7 +19,7 @@ use Rattle.flows.specs.Planes as Planes
 use Rattle.flows.specs.Paulis as Paulis
 use Rattle.flows.proofs.Conditions.{Ok}
 use Rattle.flows.proofs.Premise.{premiseAt}
-use Rattle.flows.proofs.Flows.{findAt, earlierThan, Found, found-flow, found-ok, found-earliest, firstRound}
+use Rattle.flows.proofs.Flows.{findAt, laterThan, Found, found-flow, found-ok, found-smallest, firstRound}
 use Rattle.records.specs.Answer.{Answer, gives, refuses, refusal, asks, _>>_}
 use Rattle.records.specs.Records.{written, kindNoFlow}
 use Rattle.records.specs.JobFile.{JobFile, readJob, jobOf, modeCausal, modePlanes, modePauli}
@@ -123,9 +123,9 @@ module _ (file : List ℕ) (f : JobFile) (reads : readJob file ≡ gives f) (end
     abbrev g : FlowFile
     g = foundFlow j s
 
-    node-ok : (u : ℕ) → Measured j u → Ok j pauli (earlierThan (flowOf g .layer) u) (flowOf g .set u) u
+    node-ok : (u : ℕ) → Measured j u → Ok j pauli (laterThan (flowOf g .layer) u) (flowOf g .set u) u
     node-ok u m =
-        ok-ext j pauli (earlierThan (s .layer) u) (earlierThan (flowOf g .layer) u) (s .set u) (flowOf g .set u)
+        ok-ext j pauli (laterThan (s .layer) u) (laterThan (flowOf g .layer) u) (s .set u) (flowOf g .set u)
         (λ k l. sym (ap₂ ltb (found-layer j s k l) (found-layer j s u (m .0))))
         (λ k l. sym (found-set j s u k (m .0) l ∙ rw (is-false (j .output u) (m .1)))) u (m .0)
         (found-ok j pauli measured s flow-found u (m .0) (m .1))
@@ -164,19 +164,19 @@ module _ (file : List ℕ) (f : JobFile) (reads : readJob file ≡ gives f) (end
     pub found-judged : Judged f (flowBytes j (some s)) g
     found-judged = record { reads = found-reads j s (valid .few); nothing = refl; single = (true, one-member-other (f .mode) (g .sets) not-causal); accepted = found-verified }
 
-  -- ---- (b) no accepted flow is earlier
+  -- ---- (b) every accepted flow gives each node at least the layer of the found one
   module _ (p : T (premise f)) (other : List ℕ) (h : FlowFile) (q : Judged f other h) where
     asked : Preliminary j (flowOf h) (f .mode)
     asked = verify-preliminary j (flowOf h) (f .mode) (q .accepted)
 
-    other-ok : (u : ℕ) → u < j .nodes → (T (j .output u) → ⊥) → Ok j pauli (earlierThan (flowOf h .layer) u) (flowOf h .set u) u
+    other-ok : (u : ℕ) → u < j .nodes → (T (j .output u) → ⊥) → Ok j pauli (laterThan (flowOf h .layer) u) (flowOf h .set u) u
     other-ok u l o =
         node-out j (flowOf h) (f .mode) u (λ k m t i. asked .inputs u k l m t i)
         (rw (is-false (eqb (f .mode) modeCausal) (λ t. not-causal (eqb→eq (f .mode) modeCausal t))) at (verify-nodes j (flowOf h) (f .mode) (q .accepted) u (l, o)))
 
-    pub earliest-found : (s : Progress) × (findAt j pauli ≡ some s) × ((u : ℕ) → u < j .nodes → s .layer u ≤ flowOf h .layer u)
-    earliest-found =
-        found-earliest j pauli measured low (λ u. edge-loop f valid u) (rw premise-mode at p) (flowOf h .layer) (flowOf h .set)
+    pub smallest-found : (s : Progress) × (findAt j pauli ≡ some s) × ((u : ℕ) → u < j .nodes → s .layer u ≤ flowOf h .layer u)
+    smallest-found =
+        found-smallest j pauli measured low (λ u. edge-loop f valid u) (rw premise-mode at p) (flowOf h .layer) (flowOf h .set)
         (λ e u l o. asked .others (λ m. from-false pauli e (subst (λ (m : ℕ). T (eqb m modePauli)) (sym m) tt)) u (l, o)) other-ok
 
   -- ---- the three parts, of the bytes that the finder writes
@@ -202,19 +202,19 @@ module _ (file : List ℕ) (f : JobFile) (reads : readJob file ≡ gives f) (end
   pub reads-back : (s : Progress) → findAt j pauli ≡ some s → FlowBytes (f .n) (foundBytes f) (foundFlow j s)
   reads-back s e = (rw (wrote-flow s e) (found-reads j s (valid .few)), refl)
 
-  other-earliest : T (premise f) → (other : List ℕ) → Accepted file other
+  other-smallest : T (premise f) → (other : List ℕ) → Accepted file other
       → (g h : FlowFile) × FlowBytes (f .n) (foundBytes f) g × FlowBytes (f .n) other h × ((u : ℕ) → u < f .n → layerIn g u ≤ layerIn h u)
-  other-earliest p other a =
+  other-smallest p other a =
       let (h, q) = judged-out file f reads ends other true a in
-      let (s, e, l) = earliest-found p other h q in
+      let (s, e, l) = smallest-found p other h q in
       (foundFlow j s, h, reads-back s e, (q .reads, q .nothing), λ u m. subst (λ (x : ℕ). x ≤ layerIn h u) (sym (found-layer j s u m)) (l u m))
 
   pub demand-holds : DemandHolds file f (foundBytes f)
   demand-holds = record {
     flowOrNone = flow-or-none found-cases;
     accepts = λ g r. accepts′ g (r .0) found-cases;
-    earliest = other-earliest;
-    noFlow = λ p. ((λ e other a. let (g, h, r, k, l) = other-earliest p other a in no-flow-unread (f .n) g (subst (λ (x : List ℕ). readFlow (f .n) x ≡ gives g) e (r .0))), λ n. by-none n found-cases);
+    smallest = other-smallest;
+    noFlow = λ p. ((λ e other a. let (g, h, r, k, l) = other-smallest p other a in no-flow-unread (f .n) g (subst (λ (x : List ℕ). readFlow (f .n) x ≡ gives g) e (r .0))), λ n. by-none n found-cases);
   }
     where
       flow-or-none : (findAt j pauli ≡ none) ⊎ ((s : Progress) × (findAt j pauli ≡ some s)) → ((g : FlowFile) × FlowBytes (f .n) (foundBytes f) g) ⊎ (foundBytes f ≡ written kindNoFlow [])

@@ -13,7 +13,7 @@ use Rattle.nodes.proofs.Row.{any-in, any-out, parity-none}
 use Rattle.nodes.proofs.Members.{lowest-unique}
 use Rattle.flows.specs.Job.{Job, odd, own, isXorY, isYorZ, planeXY, planeYZ, planeXZ, pauliX, pauliY, pauliZ}
 use Rattle.flows.proofs.Conditions.{Ok}
-use Rattle.flows.proofs.Flows.{earlierThan}
+use Rattle.flows.proofs.Flows.{laterThan}
 use Rattle.flows.proofs.Table.{needs-one}
 use Rattle.records.specs.Answer.{Refusal}
 use Rattle.records.specs.JobFile.{modeCausal, modePlanes, modePauli}
@@ -149,10 +149,10 @@ module _ (j : Job) (f : Flow) (r : Readable j f) where
   measured-inputs : (mode : ℕ) → Preliminary j f mode → NoOtherInputs j (f .set)
   measured-inputs mode p i k s l t q = p .inputs i k (s .0) l t q
 
-  later-lt : (i k : ℕ) → T (earlierThan (f .layer) i k) → f .layer k < f .layer i
+  later-lt : (i k : ℕ) → T (laterThan (f .layer) i k) → f .layer k < f .layer i
   later-lt i k t = ltb→lt (f .layer k) (f .layer i) t
 
-  lt-later : (i k : ℕ) → f .layer k < f .layer i → T (earlierThan (f .layer) i k)
+  lt-later : (i k : ℕ) → f .layer k < f .layer i → T (laterThan (f .layer) i k)
   lt-later i k l = lt→ltb (f .layer k) (f .layer i) l
 
   decide : {A : Type 0} (i k : ℕ) → (k ≢ i → A) → (k ≡ i) ⊎ A
@@ -167,7 +167,7 @@ module _ (j : Job) (f : Flow) (r : Readable j f) where
     plane : (i : ℕ) → Measured j i → (j .measured i ≡ planeXY) ⊎ ((j .measured i ≡ planeYZ) ⊎ (j .measured i ≡ planeXZ))
     plane i s = one-to-three (j .measured i) (r .measured i s .0) (planes i s)
 
-    planes-ok : PlaneConditions j (byLayer (f .layer)) (f .set) → NoOtherInputs j (f .set) → (i : ℕ) → Measured j i → Ok j false (earlierThan (f .layer) i) (f .set i) i
+    planes-ok : PlaneConditions j (byLayer (f .layer)) (f .set) → NoOtherInputs j (f .set) → (i : ℕ) → Measured j i → Ok j false (laterThan (f .layer) i) (f .set i) i
     planes-ok p n i s = record {
       inputs = λ k l t q. n i k s l t q;
       members = λ k l t. decide i k (λ d. inl (lt-later i k (p .members i k s l t d)));
@@ -181,7 +181,7 @@ module _ (j : Job) (f : Flow) (r : Readable j f) where
         own′ (inr (inl e)) = rw (own-yz (f .set i i) (odd j (f .set i) i) (j .measured i) e) (pair-swap (f .set i i) (odd j (f .set i) i) (p .yz i s e .0) (p .yz i s e .1))
         own′ (inr (inr e)) = rw (own-xz (f .set i i) (odd j (f .set i) i) (j .measured i) e) (and-in (f .set i i) (odd j (f .set i) i) (p .xz i s e .0) (p .xz i s e .1))
 
-    ok-planes : ((i : ℕ) → Measured j i → Ok j false (earlierThan (f .layer) i) (f .set i) i) → PlaneConditions j (byLayer (f .layer)) (f .set)
+    ok-planes : ((i : ℕ) → Measured j i → Ok j false (laterThan (f .layer) i) (f .set i) i) → PlaneConditions j (byLayer (f .layer)) (f .set)
     ok-planes ok = record {
       order = by-layer (f .layer);
       members = λ i k s l t d. late i k (ok i s .members k l t) d;
@@ -191,7 +191,7 @@ module _ (j : Job) (f : Flow) (r : Readable j f) where
       yz = λ i s e. swap-pair (f .set i i) (odd j (f .set i) i) (rw (own-yz (f .set i i) (odd j (f .set i) i) (j .measured i) e) at (ok i s .owns));
     }
       where
-        late : (i k : ℕ) → (k ≡ i) ⊎ (T (earlierThan (f .layer) i k) ⊎ ⊥) → k ≢ i → f .layer k < f .layer i
+        late : (i k : ℕ) → (k ≡ i) ⊎ (T (laterThan (f .layer) i k) ⊎ ⊥) → k ≢ i → f .layer k < f .layer i
         late i k (inl e) d = absurd (d e)
         late i k (inr (inl t)) d = later-lt i k t
         late i k (inr (inr x)) d = absurd x
@@ -237,19 +237,19 @@ module _ (j : Job) (f : Flow) (r : Readable j f) where
           large : (m : ℕ) → suc (suc (suc (suc (suc (suc (suc m)))))) < 7 → ⊥
           large m h = omega arith
 
-  excused : (i k : ℕ) (c : Bool) → ((T c → ⊥) → f .layer k < f .layer i) → T (earlierThan (f .layer) i k) ⊎ T c
+  excused : (i k : ℕ) (c : Bool) → ((T c → ⊥) → f .layer k < f .layer i) → T (laterThan (f .layer) i k) ⊎ T c
   excused i k c g = go (dec c)
     where
-      go : T c ⊎ (T c → ⊥) → T (earlierThan (f .layer) i k) ⊎ T c
+      go : T c ⊎ (T c → ⊥) → T (laterThan (f .layer) i k) ⊎ T c
       go (inl t) = inr t
       go (inr d) = inl (lt-later i k (g d))
 
-  paulis-ok : PauliConditions j (byLayer (f .layer)) (f .set) → NoOtherInputs j (f .set) → (i : ℕ) → Measured j i → Ok j true (earlierThan (f .layer) i) (f .set i) i
+  paulis-ok : PauliConditions j (byLayer (f .layer)) (f .set) → NoOtherInputs j (f .set) → (i : ℕ) → Measured j i → Ok j true (laterThan (f .layer) i) (f .set i) i
   paulis-ok p n i s = record {
     inputs = λ k l t q. n i k s l t q;
     members = λ k l t. decide i k (λ d. excused i k (isXorY (j .measured k)) (p .members i k s l t d));
     odds = λ k l t. decide i k (λ d. excused i k (isYorZ (j .measured k)) (p .odds i k s l t d));
-    ys = λ k l t. decide i k (λ d. y′ k l (eqb→eq (j .measured k) pauliY t) d (dec (earlierThan (f .layer) i k)));
+    ys = λ k l t. decide i k (λ d. y′ k l (eqb→eq (j .measured k) pauliY t) d (dec (laterThan (f .layer) i k)));
     owns = pauli-cases i s (λ m. T (own m (f .set i i) (odd j (f .set i) i)))
         (λ e. rw (own-xy (f .set i i) (odd j (f .set i) i) planeXY refl) (pairs-in (f .set i i) (odd j (f .set i) i) (p .xy i s e .0) (p .xy i s e .1)))
         (λ e. rw (own-yz (f .set i i) (odd j (f .set i) i) planeYZ refl) (pair-swap (f .set i i) (odd j (f .set i) i) (p .yz i s e .0) (p .yz i s e .1)))
@@ -265,11 +265,11 @@ module _ (j : Job) (f : Flow) (r : Readable j f) where
       same false true q = absurd (q .1 tt)
       same false false q = refl
 
-      y′ : (k : ℕ) → k < j .nodes → j .measured k ≡ pauliY → k ≢ i → T (earlierThan (f .layer) i k) ⊎ (T (earlierThan (f .layer) i k) → ⊥) → T (earlierThan (f .layer) i k) ⊎ (odd j (f .set i) k ≡ f .set i k)
+      y′ : (k : ℕ) → k < j .nodes → j .measured k ≡ pauliY → k ≢ i → T (laterThan (f .layer) i k) ⊎ (T (laterThan (f .layer) i k) → ⊥) → T (laterThan (f .layer) i k) ⊎ (odd j (f .set i) k ≡ f .set i k)
       y′ k l e d (inl t) = inl t
       y′ k l e d (inr m) = inr (same (f .set i k) (odd j (f .set i) k) (p .ys i k s l e d (λ q. m (lt-later i k q))))
 
-  ok-paulis : ((i : ℕ) → Measured j i → Ok j true (earlierThan (f .layer) i) (f .set i) i) → PauliConditions j (byLayer (f .layer)) (f .set)
+  ok-paulis : ((i : ℕ) → Measured j i → Ok j true (laterThan (f .layer) i) (f .set i) i) → PauliConditions j (byLayer (f .layer)) (f .set)
   ok-paulis ok = record {
     order = by-layer (f .layer);
     members = λ i k s l t d m. late i k (isXorY (j .measured k)) (ok i s .members k l t) d m;
@@ -283,12 +283,12 @@ module _ (j : Job) (f : Flow) (r : Readable j f) where
     y = λ i s e. xor-out (f .set i i) (odd j (f .set i) i) (rw (own-y (f .set i i) (odd j (f .set i) i) (j .measured i) e) at (ok i s .owns));
   }
     where
-      late : (i k : ℕ) (c : Bool) → (k ≡ i) ⊎ (T (earlierThan (f .layer) i k) ⊎ T c) → k ≢ i → (T c → ⊥) → f .layer k < f .layer i
+      late : (i k : ℕ) (c : Bool) → (k ≡ i) ⊎ (T (laterThan (f .layer) i k) ⊎ T c) → k ≢ i → (T c → ⊥) → f .layer k < f .layer i
       late i k c (inl e) d m = absurd (d e)
       late i k c (inr (inl t)) d m = later-lt i k t
       late i k c (inr (inr x)) d m = absurd (m x)
 
-      both : (i k : ℕ) → (k ≡ i) ⊎ (T (earlierThan (f .layer) i k) ⊎ (odd j (f .set i) k ≡ f .set i k)) → k ≢ i → (f .layer k < f .layer i → ⊥) → (T (f .set i k) ↔ T (odd j (f .set i) k))
+      both : (i k : ℕ) → (k ≡ i) ⊎ (T (laterThan (f .layer) i k) ⊎ (odd j (f .set i) k ≡ f .set i k)) → k ≢ i → (f .layer k < f .layer i → ⊥) → (T (f .set i k) ↔ T (odd j (f .set i) k))
       both i k (inl e) d m = absurd (d e)
       both i k (inr (inl t)) d m = absurd (m (later-lt i k t))
       both i k (inr (inr e)) d m = ((λ t. rw e t), λ t. rw e at t)

@@ -16,7 +16,7 @@ use Rattle.flows.specs.Branch.{Context, branches, systemAt, sideAt, inSet, with
 use Rattle.flows.specs.Search.{Progress}
 use Rattle.flows.proofs.Branch.{put-out}
 use Rattle.flows.proofs.Tries.{contextAt, tryAt, planes-context, FirstOf, try-first, branch-answer, no-column-u}
-use Rattle.flows.proofs.Flows.{findAt, earlierThan, Found, found-flow, try-ext}
+use Rattle.flows.proofs.Flows.{findAt, laterThan, Found, found-flow, try-ext}
 use Rattle.records.specs.Answer.{Answer as Reply, gives, refuses}
 use Rattle.nodes.specs.Lists.{has}
 use Rattle.records.specs.JobFile.{JobFile, readJob, jobOf, modePlanes, modePauli}
@@ -68,7 +68,7 @@ module _ (f : JobFile) (searched : (f .mode ≡ modePlanes) ⊎ (f .mode ≡ mod
         go (inr e) = rw e
 
     tried : tryAt j pauli gone u ≡ some (s .set u)
-    tried = try-ext j pauli gone (earlierThan (s .layer) u) (λ v l. ap₂ ltb (found-layer j s v l) (found-layer j s u (m .0))) u ∙ found .by-try u (m .0) (m .1)
+    tried = try-ext j pauli gone (laterThan (s .layer) u) (λ v l. ap₂ ltb (found-layer j s v l) (found-layer j s u (m .0))) u ∙ found .by-try u (m .0) (m .1)
 
     first : FirstOf j (contextAt j pauli gone u) u (branches (j .measured u)) (s .set u)
     first = try-first j pauli gone u (s .set u) tried

@@ -10,7 +10,7 @@ use Rattle.nodes.specs.Row.{anyBelow}
 use Rattle.nodes.proofs.Logic.{is-true, is-false, from-true, from-false, dec, or-l, or-r, not-in, not-out, eqb-no}
 use Rattle.flows.specs.Job.{Job, odd, own, isXorY, isYorZ, pauliY}
 use Rattle.flows.proofs.Conditions.{Ok}
-use Rattle.flows.proofs.Flows.{earlierThan}
+use Rattle.flows.proofs.Flows.{laterThan}
 use Rattle.records.specs.Answer.{Refusal}
 use Rattle.records.specs.JobFile.{modeCausal, modePauli}
 use Rattle.records.specs.FlowFile.{Flow}
@@ -159,7 +159,7 @@ module _ (j : Job) (f : Flow) where
     node-same k (inl e) = inl (rw e (eqb-refl i))
     node-same k (inr a) = inr a
 
-    pub node-in : Ok j pauli (earlierThan (f .layer) i) (f .set i) i → Q.nodeAsk j f mode i ≡ none
+    pub node-in : Ok j pauli (laterThan (f .layer) i) (f .set i) i → Q.nodeAsk j f mode i ≡ none
     unfolding Q.nodeAsk
     node-in ok =
         next-in membersAsk (oddsAsk next ysAsk next Q.ownAsk j f i)
@@ -176,7 +176,7 @@ module _ (j : Job) (f : Flow) where
         (both-in (pauli && eqb (j .measured k) pauliY) (f .set i k) (odd j (f .set i) k) (eqb k i) (Q.later j f i k) (λ a. node-same k (ok .ys k l a)))))
         (ask-in (own (j .measured i) (f .set i i) (odd j (f .set i) i)) 19 i 0 (ok .owns))))
 
-    pub node-out : ((k : ℕ) → k < j .nodes → T (f .set i k) → T (j .input k) → k ≡ i) → Q.nodeAsk j f mode i ≡ none → Ok j pauli (earlierThan (f .layer) i) (f .set i) i
+    pub node-out : ((k : ℕ) → k < j .nodes → T (f .set i k) → T (j .input k) → k ≡ i) → Q.nodeAsk j f mode i ≡ none → Ok j pauli (laterThan (f .layer) i) (f .set i) i
     unfolding Q.nodeAsk
     node-out inputs e = record {
       inputs = inputs;

@@ -32,7 +32,7 @@ layerIn g u = getD (g .layers) u 0
 pub record DemandHolds (file : List ℕ) (job : JobFile) (wrote : List ℕ) : Type 0 where
   pub flowOrNone : ((g : FlowFile) × FlowBytes (job .n) wrote g) ⊎ (wrote ≡ written kindNoFlow [])
   pub accepts : (g : FlowFile) → FlowBytes (job .n) wrote g → Accepted file wrote
-  pub earliest : T (premise job) → (other : List ℕ) → Accepted file other
+  pub smallest : T (premise job) → (other : List ℕ) → Accepted file other
       → (g h : FlowFile) × FlowBytes (job .n) wrote g × FlowBytes (job .n) other h × ((u : ℕ) → u < job .n → layerIn g u ≤ layerIn h u)
   pub noFlow : T (premise job) → (wrote ≡ written kindNoFlow [] ↔ ((other : List ℕ) → Accepted file other → ⊥))
 
