@@ -1,4 +1,14 @@
-/* The table compiler for programs in C. Link with libcapi.a, made by `rt staticlib capi`. */
+/* The table compiler for programs in C99 or C++. Link with libcapi.a, made by `rt staticlib capi` for x86_64-unknown-linux-gnu.
+
+   For the caller to see to, since no proof reaches beyond the calls:
+   - A pointer and its length name that many bytes that may be read, or for a buffer that is not const, read and written. With length 0 the
+     pointer may be null.
+   - The buffers of one call do not overlap.
+   - A call needs stack: about 8 kB for bolz_find, 5 kB for bolz_verify and 1 kB for bolz_solve (measured; `bash examples/c/run` measures again).
+
+   What a call leaves: a refusal leaves every buffer as it was, but RESULT_TOO_LONG (20) leaves the finder's work buffer all zero. An answer leaves
+   the result at the front of the result buffer, the bytes behind it as they were, and the finder's work buffer all zero. No call allocates, keeps a
+   pointer or looks at anything else. */
 #ifndef BOLZSIMEG_H
 #define BOLZSIMEG_H
 
@@ -8,6 +18,9 @@
 #ifdef __cplusplus
 extern "C" {
 #endif
+
+/* Lengths are 64 bits wide. */
+typedef char bolz_size_t_has_64_bits[sizeof(size_t) == 8 ? 1 : -1];
 
 /* Grows with each change of a file's format, of a size or of a refusal. */
 #define BOLZ_VERSION 1

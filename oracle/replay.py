@@ -1,10 +1,11 @@
 #!/usr/bin/env python3
 """Makes the data of crate replay, stdin and what the program should print: python3 oracle/replay.py SAMPLE crates/replay
 
-SAMPLE is what oracle/export wrote: jobs and flows with the original's answers. Behind them stands a table, made here from document 01
-alone, that reaches every refusal at each record where it can occur, on both sides of its boundary; and one entry that is wrong on purpose.
-An entry: kind, number, a, b, then two bytes each, lowest first: length of work buffer, of result buffer, of query, of result; then
-query and result. Number 0 is an answer. Kinds: f finder, v verifier, s solver, r the original's verdict (18 stands for 18 or 19)."""
+First stand cases A to N of document 01 and its edges, each claim by its name. SAMPLE is what oracle/export wrote: jobs and flows with the
+original's answers. Behind them stands a table, made here from document 01 alone as the cases are, that reaches every refusal at each record where it
+can occur, on both sides of its boundary; and one entry that is wrong on purpose.
+An entry: kind, number, a, b, then two bytes each, lowest first: length of work buffer, of result buffer, of name, of query, of result; then
+name, query and result. Number 0 is an answer. Kinds: f finder, v verifier, s solver, r the original's verdict (18 stands for 18 or 19)."""
 import struct
 import sys
 
@@ -14,11 +15,12 @@ CAUSAL, PLANES, PAULI = 1, 2, 3
 XY, YZ, XZ, X, Y, Z = 1, 2, 3, 4, 5, 6
 ACCEPTED = b"\0\0\0\0\x14\0"
 NO_FLOW = b"\0\0\0\0\x13\0"
+WRAPS = 65535
 
 
-def entry(kind, query, result=b"", number=0, a=0, b=0, work=WORK, out=OUT):
-    lengths = struct.pack("<HHHH", work, out, len(query), len(result))
-    return bytes([ord(kind), number, a, b]) + lengths + query + result
+def entry(kind, query, result=b"", number=0, a=0, b=0, work=WORK, out=OUT, name=""):
+    lengths = struct.pack("<HHHHH", work, out, len(name), len(query), len(result))
+    return bytes([ord(kind), number, a, b]) + lengths + name.encode() + query + result
 
 
 def record(kind, payload):
@@ -40,6 +42,77 @@ def job(*words, **more):
 
 def flow(layers, *sets):
     return b"".join(flow_records(layers, sets))
+
+
+# ---- Cases A to N of document 01, and its edges.
+
+def path_job(mode, first, second):
+    return job(3, mode, [(0, 1), (1, 2)], [0], [2], [first, second, 0])
+
+
+def path_flow(*layers):
+    return flow(layers, (0, [1]), (1, [2]))
+
+
+def isolated(mode, measurement):
+    return job(2, mode, [], [], [1], [measurement, 0])
+
+
+def found(name, query, result, *others):
+    """The finder writes this flow, which is accepted, and so is each of the others."""
+    yield entry("f", query, result, name=f"{name} found")
+    yield from accepted(name, query, result, *others)
+
+
+def not_found(name, query, *others):
+    """The finder says that there is no flow, and yet each of these is accepted."""
+    yield entry("f", query, NO_FLOW, name=f"{name} no flow")
+    yield from accepted(name, query, *others)
+
+
+def accepted(name, query, *flows):
+    for at, flow in enumerate(flows):
+        yield entry("v", query + flow, ACCEPTED, name=f"{name} accepted" + " too" * at)
+
+
+def refused(name, query, number, a, b):
+    yield entry("v", query, number=number, a=a, b=b, name=name)
+
+
+def cases():
+    edge = bytes.fromhex("02000000 0100 0202 02000000 0200 0001 01000000 0300 00 01000000 0400 01 02000000 0500 0100")
+    edge_flow = bytes.fromhex("02000000 1100 0100 03000000 1200 000101")
+    own = flow([1, 0], (0, [0]))
+    alone = job(1, PLANES, measured=[YZ])
+    yield from found("A", edge, edge_flow)
+    yield from found("B", job(0, PLANES), flow([]))
+    yield from not_found("C", alone, flow([1], (0, [0])))
+    yield from found("D", isolated(PLANES, YZ), own)
+    yield from found("E", isolated(PAULI, Z), own, flow([0, 0], (0, [0])))
+    yield from found("F", job(2, PLANES, [(0, 1)], [0], [1], [YZ, 0]), own)
+    yield from found("G", path_job(PLANES, XY, XY), path_flow(2, 1, 0))
+    yield from not_found("H", job(2, PLANES, [(0, 1)], [0, 1], [1], [XY, 0]))
+    yield from found("I", path_job(PAULI, XY, X), path_flow(1, 1, 0))
+    yield solve(1, 2, 1, 0, row(0, 1, 2), 0, row(0), name="J")
+    yield solve(1, 1, 1, 0, row(1), 0, name="K")
+    yield solve(2, 2, 1, 0, row(1, 2) + row(0, 1), 0, row(0, 1), name="L")
+    yield from refused("M", path_job(PLANES, XY, XY) + path_flow(1, 1, 0), 18, 0, 1)
+    yield from refused("N", edge + flow([1, 1], (0, [1])), 15, 1, 1)
+    big = list(range(128))
+    yield entry("f", job(128, PLANES, outputs=big, measured=[0] * 128), flow([0] * 128), name="128 nodes")
+    yield entry("f", job(129, PLANES, outputs=big, measured=[0] * 129), number=4, name="129 nodes (4)")
+    yield entry("f", edge, edge_flow, out=17, name="17 bytes hold A")
+    yield entry("f", edge, number=20, out=16, name="16 bytes do not (20)")
+
+
+# ---- Where the papers, the original and this port part: docs/DIFFERENCES.md.
+
+def differences():
+    one = flow([0], (0, [0]))
+    yield from refused("an output in layer 1 (15)", job(1, PLANES, outputs=[0], measured=[0]) + flow([1]), 15, 0, 1)
+    yield from refused("a YZ node in layer 0 (16)", job(1, PLANES, measured=[YZ]) + one, 16, 0, 0)
+    yield from found("F in mode 3", job(2, PAULI, [(0, 1)], [0], [1], [YZ, 0]), flow([1, 0], (0, [0])))
+    yield from not_found("a Z node alone", job(1, PAULI, measured=[Z]), one)
 
 
 # ---- The original's answers.
@@ -129,6 +202,7 @@ def flows():
         yield from read_flow(changed(PATH_FLOW, 1, record(0x12, sets)), number)
     yield entry("v", b"".join(PATH + PATH_FLOW) + b"\0", number=8)
     yield entry("f", b"".join(PATH) + b"\0", number=8)
+    yield entry("f", b"".join(PATH + PATH_FLOW), number=8)
     causal = job_records(2, CAUSAL, [(0, 1)], [0], [1], [XY, 0])
     for sets, number in [([(0, [1])], 0), ([(0, [])], 9), ([(0, [0, 1])], 9)]:
         yield from read_flow(flow_records([1, 0], sets), number, causal)
@@ -236,9 +310,9 @@ def causal_order():
 
 # ---- The solver: 11 and 12.
 
-def solve(rows, cols, sides, side, matrix, number=0, bits=b"", out=16):
+def solve(rows, cols, sides, side, matrix, number=0, bits=b"", out=16, name=""):
     query = struct.pack("<HHHH", rows, cols, sides, side) + matrix
-    return entry("s", query, bits, number, out=out)
+    return entry("s", query, bits, number, out=out, name=name)
 
 
 def row(*bits):
@@ -247,9 +321,6 @@ def row(*bits):
 
 def solver():
     first = row(0)
-    yield solve(1, 2, 1, 0, row(0, 1, 2), 0, first)
-    yield solve(1, 1, 1, 0, row(1), 0)
-    yield solve(2, 2, 1, 0, row(1, 2) + row(0, 1), 0, row(0, 1))
     yield solve(0, 1, 1, 0, b"", 11)
     yield solve(1, 0, 1, 0, row(0), 11)
     yield solve(1, 1, 0, 0, row(0), 11)
@@ -266,13 +337,20 @@ def solver():
     yield solve(1, 1, 1, 0, row(0, 1, 2), 11)
     yield solve(1, 1, 1, 0, row(0, 1, 127), 11)
     yield solve(1, 1, 2, 1, row(0, 1), 0, row())
+    yield solve(1, 1, 1, 1, row(0, 1), 12)
     yield solve(1, 1, 2, 2, row(0, 1), 12)
-    yield solve(1, 1, 1, 65535, row(0, 1), 12)
+    # 65535 stands for a size to which nothing can be added
+    yield solve(1, WRAPS, 1, 0, row(0), 11)
+    yield solve(1, 1, WRAPS, 0, row(0), 11)
+    yield solve(WRAPS, 1, 1, 0, row(0, 1), 11)
+    yield solve(1, 1, 1, WRAPS, row(0, 1), 12)
 
 
 def expected(entries, wrong):
-    """What the program prints: the wrong entry, and how many of each number are as stored."""
-    lines = [f"entry {wrong}: DIFFERENT"]
+    """What the program prints: the entries with a name, the wrong entry, and how many of each number are as stored."""
+    names = [e[14:14 + struct.unpack_from("<H", e, 8)[0]].decode() for e in entries]
+    lines = [f"{name}: as document 01 says" for name in names if name]
+    lines.append(f"entry {wrong}: DIFFERENT")
     for number in range(21):
         count = sum(e[1] == number for at, e in enumerate(entries) if at != wrong)
         lines.append(f"number {number}: {count} as stored")
@@ -282,8 +360,9 @@ def expected(entries, wrong):
 
 def main():
     sample, folder = sys.argv[1:]
+    entries = list(cases()) + list(differences())
     with open(sample, "rb") as file:
-        entries = list(original(file.read()))
+        entries.extend(original(file.read()))
     # wrong on purpose: case A with its node in layer 2
     wrong = len(entries)
     entries.append(entry("f", job(2, PLANES, [(0, 1)], [0], [1], [XY, 0]), flow([2, 0], (0, [1]))))

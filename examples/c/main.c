@@ -29,12 +29,14 @@ int main(void)
 {
     uint64_t found = bolz_find(job, sizeof job, work, sizeof work, flow, sizeof flow);
     tell("find", found);
+    if (BOLZ_NUMBER(found) != 0)
+        return 1; /* refused: nothing was written, and found is no count */
     for (uint64_t i = 0; i < found; i++)
         printf("%02x%s", flow[i], i + 1 == found ? "\n" : " ");
 
-    uint8_t both[sizeof job + 64];
+    uint8_t both[sizeof job + sizeof flow];
     memcpy(both, job, sizeof job);
-    memcpy(both + sizeof job, flow, found);
+    memcpy(both + sizeof job, flow, (size_t)found);
     uint8_t verdict[6];
     tell("verify", bolz_verify(both, sizeof job + found, verdict, sizeof verdict));
 

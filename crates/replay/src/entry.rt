@@ -1,57 +1,34 @@
-// An entry: twelve bytes, then the query and the result. The twelve: kind, number, a, b, and lowest byte first, two bytes each, the
-// lengths of work buffer, result buffer, query and result. An answer has number 0.
+// An entry: a head of fourteen bytes, then its name, the query and the result. The head: kind, number, a, b, and lowest byte first, two
+// bytes each, the lengths of work buffer, result buffer, name, query and result. An answer has number 0; most entries have no name.
+ghost use Prim.Native.Nat.{_≤_};
 
-const HEAD_BYTES: usize = 12;
+pub(crate) const HEAD_BYTES: usize = 14;
 
-pub struct Entry {
-    pub kind: u8,
-    pub number: u8,
-    pub a: u8,
-    pub b: u8,
-    pub work_len: usize,
-    pub out_len: usize,
-    pub query: usize,
-    pub result: usize,
-    pub end: usize,
+pub(crate) fn byte(bytes: &[u8], at: usize) -> u8 {
+    if at < bytes.len() {
+        return bytes[at];
+    }
+    0
 }
 
-pub enum Next {
-    Entry(Entry),
-    Cut,
-}
-
-pub(crate) fn two_bytes(low: u8, high: u8) -> usize {
+pub(crate) fn two_bytes(low: u8, high: u8) -> usize
+    ensures { λ r. ⌜ r ≤ 65535 ⌝ }
+{
     low as usize + 256 * (high as usize)
 }
 
-// The entry at this place; query, result and end are places in the bytes.
-pub(crate) fn entry_at(bytes: &[u8], at: usize) -> Next {
-    let len = bytes.len();
-    if len < HEAD_BYTES {
-        return Next::Cut;
-    }
-    if at > len - HEAD_BYTES {
-        return Next::Cut;
-    }
-    let query = at + HEAD_BYTES;
-    let query_len = two_bytes(bytes[at + 8], bytes[at + 9]);
-    let result_len = two_bytes(bytes[at + 10], bytes[at + 11]);
-    if query_len > len - query {
-        return Next::Cut;
-    }
-    let result = query + query_len;
-    if result_len > len - result {
-        return Next::Cut;
-    }
-    Next::Entry(Entry {
-        kind: bytes[at],
-        number: bytes[at + 1],
-        a: bytes[at + 2],
-        b: bytes[at + 3],
-        work_len: two_bytes(bytes[at + 4], bytes[at + 5]),
-        out_len: two_bytes(bytes[at + 6], bytes[at + 7]),
-        query,
-        result,
-        end: result + result_len,
-    })
+pub(crate) fn kind(head: &[u8]) -> u8 {
+    byte(head, 0)
+}
+
+pub(crate) fn number(head: &[u8]) -> u8 {
+    byte(head, 1)
+}
+
+pub(crate) fn work_len(head: &[u8]) -> usize {
+    two_bytes(byte(head, 4), byte(head, 5))
+}
+
+pub(crate) fn out_len(head: &[u8]) -> usize {
+    two_bytes(byte(head, 6), byte(head, 7))
 }

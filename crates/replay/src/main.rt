@@ -1,12 +1,12 @@
 // Stored answers, run again on the library through its entries for C. Standard input holds entries one after another, each a
-// call and what it should answer and leave; oracle/README.md says how they were made. One entry is wrong on purpose: a run
-// that does not report it compares nothing.
-mod entry; // entry.rt: where an entry lies in the bytes, and what it says
+// call and what it should answer and leave: cases A to N of document 01 and its edges, by name; the original's answers; each refusal at
+// its boundary. oracle/README.md says how they were made. One entry is wrong on purpose: a run that does not report it compares nothing.
+mod entry; // entry.rt: what the head of an entry says
 mod run; // run.rt: the call of one entry, compared
 
-use entry::Next;
-use entry::entry_at;
-use run::NUMBERS;
+use entry::HEAD_BYTES;
+use entry::number;
+use entry::two_bytes;
 use run::as_stored;
 
 const STANDARD_INPUT: i32 = 0;
@@ -16,6 +16,9 @@ const STANDARD_OUTPUT: i32 = 1;
 // No file of entries is longer.
 const MOST_DATA: usize = 262144;
 
+// Document 01's numbers, and 0 for an answer.
+const NUMBERS: usize = 21;
+
 fn print(words: &[u8]) {
     io::write_all(STANDARD_OUTPUT, words);
 }
@@ -23,11 +26,6 @@ fn print(words: &[u8]) {
 fn print_count(words: &[u8], count: u64) {
     print(words);
     io::print_decimal(STANDARD_OUTPUT, count);
-}
-
-fn tell_different(entry: u64) {
-    print_count(b"entry ", entry);
-    print(b": DIFFERENT\n");
 }
 
 // How many entries of each number were as stored; 0 is the number of an answer.
@@ -52,34 +50,61 @@ fn count(equal: &mut [u64], number: u8) {
     }
 }
 
-// The entry at this place, its number among all; the answer is the place behind it.
-fn replay_one(bytes: &[u8], at: usize, number: u64, equal: &mut [u64]) -> usize {
-    let Next::Entry(e) = entry_at(bytes, at) else {
-        print(b"an entry is cut off\n");
-        return at;
-    };
-    if as_stored(bytes, e) {
-        count(equal, e.number);
-    } else {
-        tell_different(number);
+// An entry with a name is told in any case, another where it is different.
+fn tell(name: &[u8], entry: u64, same: bool) {
+    if name.len() > 0 {
+        print(name);
+    } else if !same {
+        print_count(b"entry ", entry);
     }
-    e.end
+    if !same {
+        print(b": DIFFERENT\n");
+    } else if name.len() > 0 {
+        print(b": as document 01 says\n");
+    }
+}
+
+// The entry that stands first, its number among all; the answer is how many bytes it takes.
+fn replay_one(bytes: &[u8], entry: u64, equal: &mut [u64]) -> usize {
+    let len = bytes.len();
+    if len < HEAD_BYTES {
+        return 0;
+    }
+    let name = HEAD_BYTES + two_bytes(bytes[8], bytes[9]);
+    let query = name + two_bytes(bytes[10], bytes[11]);
+    let end = query + two_bytes(bytes[12], bytes[13]);
+    if end > len {
+        return 0;
+    }
+    let head = &bytes[0..HEAD_BYTES];
+    let same = as_stored(head, &bytes[name..query], &bytes[query..end]);
+    tell(&bytes[HEAD_BYTES..name], entry, same);
+    if same {
+        count(equal, number(head));
+    }
+    end
+}
+
+fn cut(entries: u64) -> u64 {
+    print(b"an entry is cut off\n");
+    entries
 }
 
 // All entries in turn; the answer is how many there are.
 fn replay_all(bytes: &[u8], equal: &mut [u64]) -> u64 {
+    let len = bytes.len();
     let mut at = 0;
     let mut entries: u64 = 0;
-    while at < bytes.len() {
-        let end = replay_one(bytes, at, entries, equal);
-        if end <= at {
-            return entries;
+    while at < len {
+        let taken = replay_one(&bytes[at..len], entries, equal);
+        if taken == 0 {
+            return cut(entries);
         }
-        if end > bytes.len() {
-            return entries;
+        if taken > len - at {
+            return cut(entries);
         }
         entries += 1;
-        at = end;
+        at += taken;
     }
     entries
 }

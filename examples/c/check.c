@@ -1,0 +1,197 @@
+/* Holds the header against the library: each refusal by its name, the sizes on both sides, null pointers, the stack that a call needs. With
+   an argument it prints the header's words instead, each as the programs print them with a = 3 and b = 7. */
+#define _DEFAULT_SOURCE
+#include <pthread.h>
+#include <stdio.h>
+#include <stdlib.h>
+#include <string.h>
+#include <sys/mman.h>
+
+#include "bolzsimeg.h"
+
+/* Files as hexadecimal digits: the records of two joined nodes, input 0, output 1, node 0 in plane XY, and of their flow. */
+#define OPEN "020000000100" "0202"
+#define CAUSAL "020000000100" "0201"
+#define PAULI "020000000100" "0203"
+#define EDGES "020000000200" "0001"
+#define INPUTS "010000000300" "00"
+#define OUTPUTS "010000000400" "01"
+#define MEASURED "020000000500" "0100"
+#define LAYERS "020000001100" "0100"
+#define SETS "030000001200" "000101"
+#define REST EDGES INPUTS OUTPUTS MEASURED
+#define JOB OPEN REST
+#define FLOW LAYERS SETS
+
+static uint8_t bytes[1024];
+static uint8_t work[BOLZ_WORK_BYTES + 1];
+static uint8_t out[BOLZ_MOST_OUTPUT];
+static int wrong;
+
+static size_t bytes_of(const char *digits, uint8_t *to)
+{
+    size_t n = strlen(digits) / 2;
+    for (size_t i = 0; i < n; i++) {
+        char two[3] = {digits[2 * i], digits[2 * i + 1], 0};
+        to[i] = (uint8_t)strtoul(two, NULL, 16);
+    }
+    return n;
+}
+
+static uint64_t find(const char *file, size_t work_len, size_t out_len)
+{
+    return bolz_find(bytes, bytes_of(file, bytes), work, work_len, out, out_len);
+}
+
+static uint64_t verify(const char *file)
+{
+    return bolz_verify(bytes, bytes_of(file, bytes), out, sizeof out);
+}
+
+static uint64_t solve(size_t matrix_len, size_t bits_len, size_t cols, size_t side)
+{
+    static uint8_t matrix[BOLZ_ROW_BYTES] = {1};
+    static uint8_t bits[2 * BOLZ_ROW_BYTES];
+    return bolz_solve(matrix, matrix_len, bits, bits_len, 1, cols, 1, side);
+}
+
+static void want(const char *what, uint64_t result, unsigned number)
+{
+    if (BOLZ_NUMBER(result) == number)
+        return;
+    printf("%s: %u and not %u\n", what, BOLZ_NUMBER(result), number);
+    wrong = 1;
+}
+
+static void refusals(void)
+{
+    size_t w = BOLZ_WORK_BYTES, o = BOLZ_MOST_OUTPUT;
+    want("an empty file", find("", w, o), BOLZ_NO_RECORD);
+    want("a cut payload", find("020000000100" "02", w, o), BOLZ_CUT_PAYLOAD);
+    want("an opening of one byte", find("010000000100" "02", w, o), BOLZ_WRONG_LENGTH);
+    want("mode 0", find("020000000100" "0200" REST, w, o), BOLZ_WRONG_OPENING);
+    want("node 2 of 2", find(OPEN "020000000200" "0002", w, o), BOLZ_NODE_TOO_LARGE);
+    want("an edge 1, 0", find(OPEN "020000000200" "0100", w, o), BOLZ_NOT_ASCENDING);
+    want("an output in XY", find(OPEN EDGES INPUTS OUTPUTS "020000000500" "0101", w, o), BOLZ_WRONG_MEASUREMENT);
+    want("a byte too many", find(JOB "00", w, o), BOLZ_BYTES_LEFT);
+    want("a causal entry without a member", verify(CAUSAL REST LAYERS "020000001200" "0000"), BOLZ_NOT_ONE_MEMBER);
+    want("a causal search", find(CAUSAL REST, w, o), BOLZ_MODE_NOT_SEARCHED);
+    want("no right side 1", solve(BOLZ_ROW_BYTES, BOLZ_ROW_BYTES, 1, 1), BOLZ_NO_SUCH_EQUATION);
+    want("an input in the set of 0", verify(OPEN EDGES "010000000300" "01" OUTPUTS MEASURED FLOW), BOLZ_INVALID_FLOW_CODOMAIN);
+    want("no set", verify(JOB LAYERS "000000001200"), BOLZ_INVALID_FLOW_DOMAIN);
+    want("an output in layer 1", verify(JOB "020000001100" "0101" SETS), BOLZ_EXCESSIVE_NON_ZERO_LAYER);
+    want("layer 0", verify(JOB "020000001100" "0000" SETS), BOLZ_EXCESSIVE_ZERO_LAYER);
+    want("an entry of an output", verify(JOB LAYERS "050000001200" "0001010100"), BOLZ_INVALID_MEASUREMENT_SPEC);
+    want("no edge, mode 1", verify(CAUSAL "000000000200" INPUTS OUTPUTS MEASURED FLOW), BOLZ_INCONSISTENT_FLOW_ORDER);
+    want("a set for YZ", verify(OPEN EDGES INPUTS OUTPUTS "020000000500" "0200" FLOW), BOLZ_INCONSISTENT_FLOW_PLANE);
+    want("17 bytes", find(JOB, w, 17), 0);
+    want("16 bytes", find(JOB, w, 16), BOLZ_RESULT_TOO_LONG);
+}
+
+/* n nodes, all of them outputs, and no edge. */
+static uint64_t find_nodes(unsigned n)
+{
+    uint8_t *file = bytes;
+    size_t at = bytes_of("020000000100" "0002" "000000000200" "000000000300", file);
+    file[6] = (uint8_t)n;
+    bytes_of("000000000400", file + at);
+    file[at] = (uint8_t)n;
+    for (unsigned u = 0; u < n; u++)
+        file[at + 6 + u] = (uint8_t)u;
+    at += 6 + n;
+    bytes_of("000000000500", file + at);
+    file[at] = (uint8_t)n;
+    memset(file + at + 6, 0, n);
+    return bolz_find(file, at + 6 + n, work, BOLZ_WORK_BYTES, out, sizeof out);
+}
+
+static void sizes(void)
+{
+    size_t o = BOLZ_MOST_OUTPUT, r = BOLZ_ROW_BYTES;
+    want("the most nodes", find_nodes(BOLZ_MOST_NODES), 0);
+    want("one node more", find_nodes(BOLZ_MOST_NODES + 1), BOLZ_WRONG_OPENING);
+    want("the work buffer", find(JOB, BOLZ_WORK_BYTES, o), 0);
+    want("a byte less", find(JOB, BOLZ_WORK_BYTES - 1, o), BOLZ_WRONG_SHAPE);
+    want("a byte more", find(JOB, BOLZ_WORK_BYTES + 1, o), BOLZ_WRONG_SHAPE);
+    want("a row", solve(r, r, 1, 0), 0);
+    want("a row and a byte less", solve(r - 1, r, 1, 0), BOLZ_WRONG_SHAPE);
+    want("out bits and a byte more", solve(r, r + 1, 1, 0), BOLZ_WRONG_SHAPE);
+    want("columns of a row", solve(r, r, 8 * r - 1, 0), 0);
+    want("a column more", solve(r, r, 8 * r, 0), BOLZ_WRONG_SHAPE);
+}
+
+static void null_pointers(void)
+{
+    want("nothing to find", bolz_find(NULL, 0, NULL, 0, NULL, 0), BOLZ_NO_RECORD);
+    want("nothing to verify", bolz_verify(NULL, 0, NULL, 0), BOLZ_NO_RECORD);
+    want("nothing to solve", bolz_solve(NULL, 0, NULL, 0, 0, 0, 0, 0), BOLZ_WRONG_SHAPE);
+}
+
+/* ---- The stack: each call runs in a thread whose stack was painted. */
+
+#define STACK (1 << 20)
+static char *stack;
+
+static void *idle(void *nothing) { return nothing; }
+static void *in_find(void *file) { find(file, BOLZ_WORK_BYTES, sizeof out); return NULL; }
+static void *in_verify(void *file) { verify(file); return NULL; }
+static void *in_solve(void *file) { solve(BOLZ_ROW_BYTES, BOLZ_ROW_BYTES, 1, 0); return file; }
+
+static long used(void *(*call)(void *), void *file)
+{
+    pthread_attr_t attr;
+    pthread_t thread;
+    long at = 0;
+    memset(stack, 0x5A, STACK);
+    if (pthread_attr_init(&attr) || pthread_attr_setstack(&attr, stack, STACK) || pthread_create(&thread, &attr, call, file) || pthread_join(thread, NULL))
+        exit(1);
+    while (at < STACK && stack[at] == 0x5A)
+        at++;
+    return STACK - at;
+}
+
+static void stack_of(const char *name, void *(*call)(void *), char *first, char *second, char *third, long most)
+{
+    long bytes = used(call, first);
+    if (second && used(call, second) > bytes)
+        bytes = used(call, second);
+    if (third && used(call, third) > bytes)
+        bytes = used(call, third);
+    bytes -= used(idle, NULL);
+    printf("stack of %s: %s %ld bytes\n", name, bytes > most ? "more than" : "at most", most);
+    if (bytes > most)
+        wrong = 1;
+    if (getenv("TELL"))
+        fprintf(stderr, "%s: %ld\n", name, bytes);
+}
+
+static void words(void)
+{
+    for (unsigned number = 1; number <= 21; number++) {
+        printf("refused %u: ", number);
+        for (const char *c = bolz_words(number); *c; c++)
+            if (*c == 'A' || *c == 'B')
+                printf("%d", *c == 'A' ? 3 : 7);
+            else
+                putchar(*c);
+        putchar('\n');
+    }
+}
+
+int main(int count, char **arguments)
+{
+    (void)arguments;
+    if (count > 1) {
+        words();
+        return 0;
+    }
+    refusals();
+    sizes();
+    null_pointers();
+    stack = mmap(NULL, STACK, PROT_READ | PROT_WRITE, MAP_PRIVATE | MAP_ANONYMOUS, -1, 0);
+    stack_of("bolz_find", in_find, JOB, PAULI REST, NULL, BOLZ_FIND_STACK);
+    stack_of("bolz_verify", in_verify, JOB FLOW, PAULI REST FLOW, CAUSAL REST FLOW, BOLZ_VERIFY_STACK);
+    stack_of("bolz_solve", in_solve, NULL, NULL, NULL, BOLZ_SOLVE_STACK);
+    puts(wrong ? "the header and the library differ" : "the header and the library agree");
+    return wrong;
+}
