@@ -4,11 +4,12 @@
    - A pointer and its length name that many bytes that may be read, or for a buffer that is not const, read and written. With length 0 the
      pointer may be null.
    - The buffers of one call do not overlap.
-   - A call needs stack: about 8 kB for bolz_find, 5 kB for bolz_verify and 1 kB for bolz_solve (measured; `bash examples/c/run` measures again).
+   - A call needs stack: about 16 kB for bolz_find, 5 kB for bolz_verify, less than 1 kB for bolz_solve (measured; `bash examples/c/run` measures
+     again and compares with the sizes below).
 
-   What a call leaves: a refusal leaves every buffer as it was, but RESULT_TOO_LONG (20) leaves the finder's work buffer all zero. An answer leaves
-   the result at the front of the result buffer, the bytes behind it as they were, and the finder's work buffer all zero. No call allocates, keeps a
-   pointer or looks at anything else. */
+   What a call leaves. A refusal leaves every buffer as it was, but RESULT_TOO_LONG (20) leaves the finder's work buffer all zero. An answer leaves
+   the result at the front of the result buffer, the bytes behind it as they were, and the finder's work buffer all zero. No call allocates, and
+   none keeps a pointer. */
 #ifndef BOLZSIMEG_H
 #define BOLZSIMEG_H
 
@@ -29,6 +30,11 @@ typedef char bolz_size_t_has_64_bits[sizeof(size_t) == 8 ? 1 : -1];
 #define BOLZ_ROW_BYTES 16      /* a row of the work matrix, and the solver's out bits, lowest bit first */
 #define BOLZ_WORK_BYTES 2048   /* the finder's work buffer, exactly */
 #define BOLZ_MOST_OUTPUT 16780 /* no result is longer */
+
+/* The stack that a call needs, in bytes, measured with some room. */
+#define BOLZ_FIND_STACK 20480
+#define BOLZ_VERIFY_STACK 8192
+#define BOLZ_SOLVE_STACK 1024
 
 /* Refusals, numbered as the questions that they answer with 'no'. */
 enum bolz_refusal {
@@ -94,7 +100,7 @@ uint64_t bolz_find(const uint8_t *file, size_t file_len, uint8_t *work, size_t w
 uint64_t bolz_verify(const uint8_t *file, size_t file_len, uint8_t *out, size_t out_len);
 
 /* The solver: matrix of rows times 16 bytes, cols coefficients and then `sides` right sides in each row; it is eliminated in place.
-   1: right side `side` has a solution, which is in `bits`; 0: it has none; or a refusal. */
+   1: right side `side` has a solution, which is in `bits`; 0: it has none, and `bits` are as they were; or a refusal. */
 uint64_t bolz_solve(uint8_t *matrix, size_t matrix_len, uint8_t *bits, size_t bits_len, size_t rows, size_t cols, size_t sides, size_t side);
 
 #ifdef __cplusplus
