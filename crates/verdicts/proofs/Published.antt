@@ -12,7 +12,7 @@ use Rattle.nodes.proofs.Logic.{is-false, dec, and-l, and-r, and-in, eqb-no, eqb
 use Rattle.nodes.proofs.Row.{any-in, any-out, parity-none}
 use Rattle.nodes.proofs.Members.{lowest-unique}
 use Rattle.flows.specs.Job.{Job, odd, own, isXorY, isYorZ, planeXY, planeYZ, planeXZ, pauliX, pauliY, pauliZ}
-use Rattle.flows.proofs.Conditions.{Ok}
+use Rattle.flows.specs.Conditions.{Ok}
 use Rattle.flows.proofs.Flows.{laterThan}
 use Rattle.flows.proofs.Table.{needs-one}
 use Rattle.records.specs.Answer.{Refusal}
