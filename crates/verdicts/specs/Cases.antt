@@ -27,13 +27,19 @@ pub data Case : Type 0 where
   verifier : (job flow wrote : List ℕ) → Case
   -- the solver answers so on these rows, and leaves the out bits so; before, they are all 1
   solver : (matrix : List ℕ) (rows cols sides side : ℕ) (solvable : Bool) (out : List ℕ) → Case
-  -- the flow is accepted for the job, and its paper calls it no flow, whatever the order
+  -- the flow is accepted for the job, and the paper of its mode calls it none, whatever the order
   unpublished : (job flow : List ℕ) → Case
-  -- the verifier writes these bytes for the job followed by the flow, and its paper calls it a flow, in the order of its layers
+  -- the verifier writes these bytes for the job followed by the flow, and the paper calls it a flow in the order of its layers
   published : (job flow wrote : List ℕ) → Case
 
+abbrev pub verifies : (job flow wrote : List ℕ) → Bool
+verifies job flow wrote = equal (verifyProgram (job ++ flow)) wrote
+
+abbrev pub accepted : List ℕ
+accepted = written kindAccepted []
+
 abbrev pub accepts : List ℕ → List ℕ → Bool
-accepts job flow = equal (verifyProgram (job ++ flow)) (written kindAccepted [])
+accepts job flow = verifies job flow accepted
 
 abbrev pub acceptsAll : List ℕ → List (List ℕ) → Bool
 acceptsAll job [] = true
@@ -58,17 +64,17 @@ leaves solvable out o = answers solvable (o .answer) && equal (o .out) out
 
 abbrev pub holds : Case → Bool
 holds (finder job wrote flows) = equal (findProgram job) wrote && acceptsAll job flows
-holds (verifier job flow wrote) = equal (verifyProgram (job ++ flow)) wrote
+holds (verifier job flow wrote) = verifies job flow wrote
 holds (solver matrix rows cols sides side solvable out) = leaves solvable out (Solver.solveCall matrix (bits 255 255) rows cols sides side)
 holds (unpublished job flow) = accepts job flow
-holds (published job flow wrote) = equal (verifyProgram (job ++ flow)) wrote
+holds (published job flow wrote) = verifies job flow wrote
 
 abbrev pub allHold : List Case → Bool
 allHold [] = true
 allHold (c ∷ cs) = holds c && allHold cs
 
 -- ---- what the papers say
--- the bytes are a job and a flow file for it, of which the paper says so
+-- the bytes are a job and a flow file for it, and of the two this is said
 abbrev pub Of : (job flow : List ℕ) (says : ℕ → Job → Flow → Type 1) → Type 1
 Of job flow says = (f : JobFile) × (g : FlowFile) × (readJob job ≡ gives f) × FlowBytes (f .n) flow g × says (f .mode) (jobOf f) (flowOf g)
 
@@ -78,7 +84,7 @@ IsFlow mode j f = Lift {0, 1} (PublishedFlow mode j (byLayer (f .layer)) (f .set
 abbrev pub IsNoFlow : ℕ → Job → Flow → Type 1
 IsNoFlow mode j f = (before : ℕ → ℕ → Type 0) → PublishedFlow mode j before (f .set) → ⊥
 
--- the cases of the last two kinds have such a claim
+-- the cases of the last two kinds make such a claim
 abbrev pub PapersSay : List Case → Type 1
 PapersSay [] = Lift {0, 1} (T true)
 PapersSay (finder job wrote flows ∷ cs) = PapersSay cs
@@ -101,9 +107,6 @@ flow layers sets = written kindLayers layers ++ written kindSets sets
 
 abbrev pub noFlow : List ℕ
 noFlow = written kindNoFlow []
-
-abbrev pub accepted : List ℕ
-accepted = written kindAccepted []
 
 abbrev pub refused : (number a b : ℕ) → List ℕ
 refused number a b = written kindRefusal (number ∷ a ∷ b ∷ [])
