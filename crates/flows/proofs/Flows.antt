@@ -18,7 +18,8 @@ use Rattle.flows.specs.Branch.{Context, branches, tryNode}
 use Rattle.flows.specs.Search.{Progress, noNode, start, solvedNow, round, rounds, found}
 use Rattle.flows.specs.Planes as Planes
 use Rattle.flows.specs.Paulis as Paulis
-use Rattle.flows.proofs.Conditions.{Ok, more-later}
+use Rattle.flows.specs.Conditions.{Ok}
+use Rattle.flows.proofs.Conditions.{more-later}
 use Rattle.flows.proofs.Tries.{contextAt, noColumnAt, tryAt, planes-context, SameContext, node-ext, FirstOf, try-first, try-sound, try-complete}
 use Rattle.flows.proofs.Search.{never, Ended, rounds-end, rounds-pass, fresh-open, Searched, step, searched-start, searched, SmallestTill, step-smallest, rounds-smallest}
 use Rattle.flows.proofs.Premise.{premiseAt, Gone, all-gone, column-left}

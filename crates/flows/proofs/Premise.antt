@@ -12,7 +12,7 @@ use Rattle.nodes.proofs.Count.{rank-sur}
 use Rattle.flows.specs.Job.{Job, odd, isXorY, isYorZ, planeYZ}
 use Rattle.flows.specs.Premise.{planesPremise, paulisPremise}
 use Rattle.flows.proofs.Table.{needs-odd}
-use Rattle.flows.proofs.Conditions.{Ok}
+use Rattle.flows.specs.Conditions.{Ok}
 use Rattle.flows.proofs.Tries.{contextAt, needs-column}
 
 abbrev pub premiseAt : Job → Bool → Bool

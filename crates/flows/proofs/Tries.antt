@@ -19,7 +19,7 @@ use Rattle.flows.specs.Paulis as Paulis
 use Rattle.flows.proofs.Branch.{Fits, fits-some, some-fits}
 use Rattle.nodes.specs.Lists.{has}
 use Rattle.flows.proofs.Table.{branch-own, branchOf, own-branch}
-use Rattle.flows.proofs.Conditions.{Ok}
+use Rattle.flows.specs.Conditions.{Ok}
 
 -- ---- one context: with Paulis the excused nodes are columns from the start and leave the rows
 abbrev pub contextAt : Job → Bool → (ℕ → Bool) → ℕ → Context

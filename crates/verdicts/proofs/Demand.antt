@@ -17,7 +17,7 @@ use Rattle.flows.specs.Job.{Job, odd}
 use Rattle.flows.specs.Search.{Progress}
 use Rattle.flows.specs.Planes as Planes
 use Rattle.flows.specs.Paulis as Paulis
-use Rattle.flows.proofs.Conditions.{Ok}
+use Rattle.flows.specs.Conditions.{Ok}
 use Rattle.flows.proofs.Premise.{premiseAt}
 use Rattle.flows.proofs.Flows.{findAt, laterThan, Found, found-flow, found-ok, found-smallest, firstRound}
 use Rattle.records.specs.Answer.{Answer, gives, refuses, refusal, asks, _>>_}
@@ -202,19 +202,22 @@ module _ (file : List ℕ) (f : JobFile) (reads : readJob file ≡ gives f) (end
   pub reads-back : (s : Progress) → findAt j pauli ≡ some s → FlowBytes (f .n) (foundBytes f) (foundFlow j s)
   reads-back s e = (rw (wrote-flow s e) (found-reads j s (valid .few)), refl)
 
-  other-smallest : T (premise f) → (other : List ℕ) → Accepted file other
-      → (g h : FlowFile) × FlowBytes (f .n) (foundBytes f) g × FlowBytes (f .n) other h × ((u : ℕ) → u < f .n → layerIn g u ≤ layerIn h u)
-  other-smallest p other a =
-      let (h, q) = judged-out file f reads ends other true a in
-      let (s, e, l) = smallest-found p other h q in
-      (foundFlow j s, h, reads-back s e, (q .reads, q .nothing), λ u m. subst (λ (x : ℕ). x ≤ layerIn h u) (sym (found-layer j s u m)) (l u m))
+  -- bytes are one flow file at most
+  judged-flow : (other : List ℕ) (h : FlowFile) → FlowBytes (f .n) other h → Accepted file other → Judged f other h
+  judged-flow other h r a = let (g, q) = judged-out file f reads ends other true a in subst (Judged f other) (give-inj (sym (q .reads) ∙ r .0)) q
+
+  other-smallest : T (premise f) → (other : List ℕ) (h : FlowFile) → FlowBytes (f .n) other h → Accepted file other
+      → (g : FlowFile) × FlowBytes (f .n) (foundBytes f) g × ((u : ℕ) → u < f .n → layerIn g u ≤ layerIn h u)
+  other-smallest p other h r a =
+      let (s, e, l) = smallest-found p other h (judged-flow other h r a) in
+      (foundFlow j s, reads-back s e, λ u m. subst (λ (x : ℕ). x ≤ layerIn h u) (sym (found-layer j s u m)) (l u m))
 
   pub demand-holds : DemandHolds file f (foundBytes f)
   demand-holds = record {
     flowOrNone = flow-or-none found-cases;
     accepts = λ g r. accepts′ g (r .0) found-cases;
     smallest = other-smallest;
-    noFlow = λ p. ((λ e other a. let (g, h, r, k, l) = other-smallest p other a in no-flow-unread (f .n) g (subst (λ (x : List ℕ). readFlow (f .n) x ≡ gives g) e (r .0))), λ n. by-none n found-cases);
+    noFlow = λ p. ((λ e other h k a. let (g, r, l) = other-smallest p other h k a in no-flow-unread (f .n) g (subst (λ (x : List ℕ). readFlow (f .n) x ≡ gives g) e (r .0))), λ n. by-none n found-cases);
   }
     where
       flow-or-none : (findAt j pauli ≡ none) ⊎ ((s : Progress) × (findAt j pauli ≡ some s)) → ((g : FlowFile) × FlowBytes (f .n) (foundBytes f) g) ⊎ (foundBytes f ≡ written kindNoFlow [])
@@ -225,9 +228,9 @@ module _ (file : List ℕ) (f : JobFile) (reads : readJob file ≡ gives f) (end
       accepts′ g r (inl e) = absurd (no-flow-unread (f .n) g (subst (λ (x : List ℕ). readFlow (f .n) x ≡ gives g) (wrote-none e) r))
       accepts′ g r (inr (s, e)) = found-accepted s e
 
-      by-none : ((other : List ℕ) → Accepted file other → ⊥) → (findAt j pauli ≡ none) ⊎ ((s : Progress) × (findAt j pauli ≡ some s)) → foundBytes f ≡ written kindNoFlow []
+      by-none : ((other : List ℕ) (h : FlowFile) → FlowBytes (f .n) other h → Accepted file other → ⊥) → (findAt j pauli ≡ none) ⊎ ((s : Progress) × (findAt j pauli ≡ some s)) → foundBytes f ≡ written kindNoFlow []
       by-none n (inl e) = wrote-none e
-      by-none n (inr (s, e)) = absurd (n (foundBytes f) (found-accepted s e))
+      by-none n (inr (s, e)) = absurd (n (foundBytes f) (foundFlow j s) (reads-back s e) (found-accepted s e))
 
 -- ---- the call
 -- what the finder's questions let through

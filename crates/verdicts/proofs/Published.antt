@@ -12,7 +12,7 @@ use Rattle.nodes.proofs.Logic.{is-false, dec, and-l, and-r, and-in, eqb-no, eqb
 use Rattle.nodes.proofs.Row.{any-in, any-out, parity-none}
 use Rattle.nodes.proofs.Members.{lowest-unique}
 use Rattle.flows.specs.Job.{Job, odd, own, isXorY, isYorZ, planeXY, planeYZ, planeXZ, pauliX, pauliY, pauliZ}
-use Rattle.flows.proofs.Conditions.{Ok}
+use Rattle.flows.specs.Conditions.{Ok}
 use Rattle.flows.proofs.Flows.{laterThan}
 use Rattle.flows.proofs.Table.{needs-one}
 use Rattle.records.specs.Answer.{Refusal}
@@ -20,7 +20,7 @@ use Rattle.records.specs.JobFile.{modeCausal, modePlanes, modePauli}
 use Rattle.records.specs.FlowFile.{Flow}
 use Rattle.verdicts.specs.Verdict as Q
 use Rattle.verdicts.specs.Verdict.{_next_, each}
-use Rattle.verdicts.specs.Published.{StrictOrder, Measured, CausalFlow, PlaneConditions, PauliConditions, byLayer, NoOtherInputs, OutputsAtZero, OthersAboveZero, Domain, CausalAccepted, PlanesAccepted, PaulisAccepted}
+use Rattle.verdicts.specs.Published.{StrictOrder, Measured, CausalFlow, PlaneConditions, PauliConditions, byLayer, NoOtherInputs, OutputsAtZero, OthersAboveZero, LayerRule, Domain, NoInputs, PublishedFlow, AcceptedFlow, CausalAccepted, PlanesAccepted, PaulisAccepted}
 use Rattle.verdicts.proofs.Questions.{ask-in, ask-out, next-in, next-l, next-r, each-in, each-out, when-in, when-out, late-in, late-out}
 use Rattle.verdicts.proofs.Verdict.{Preliminary, verify-in, verify-preliminary, verify-nodes, node-in, node-out}
 
@@ -429,3 +429,16 @@ module _ (j : Job) (f : Flow) (r : Readable j f) where
 
         is-f : (i k : ℕ) → Measured j i → k < j .nodes → T (f .set i k) → k ≡ a .flow .0 i
         is-f i k s l t = eqb→eq k (a .flow .0 i) (rw (w i k s l) at t)
+
+-- ---- the published flows themselves
+module _ (mode : ℕ) (j : Job) (f : Flow) where
+  pub published-conditions : Domain j (f .entry) → LayerRule mode j (f .layer) → PublishedFlow mode j (byLayer (f .layer)) (f .set) → AcceptedFlow mode j f
+  published-conditions d r (inl (q, c)) = inl (q, record { domain = d; outputs = r .outputs; others = λ u m. omega (arith, c .1 .successor u m); flow = c })
+  published-conditions d r (inr (inl (q, p))) =
+      inr (inl (q, record { domain = d; outputs = r .outputs; others = r .others q; inputs = λ i k s l t h. absurd (p .noInputs i k s l t h); conditions = p .conditions }))
+  published-conditions d r (inr (inr (q, p))) = inr (inr (q, record { domain = d; outputs = r .outputs; inputs = λ i k s l t h. absurd (p .noInputs i k s l t h); conditions = p .conditions }))
+
+  pub conditions-published : NoInputs j (f .set) → AcceptedFlow mode j f → Domain j (f .entry) × LayerRule mode j (f .layer) × PublishedFlow mode j (byLayer (f .layer)) (f .set)
+  conditions-published i (inl (q, a)) = (a .domain, record { outputs = a .outputs; others = λ e. a .others }, inl (q, a .flow))
+  conditions-published i (inr (inl (q, a))) = (a .domain, record { outputs = a .outputs; others = λ e. a .others }, inr (inl (q, record { noInputs = i; conditions = a .conditions })))
+  conditions-published i (inr (inr (q, a))) = (a .domain, record { outputs = a .outputs; others = λ e. absurd (omega (arith, q, e)) }, inr (inr (q, record { noInputs = i; conditions = a .conditions })))

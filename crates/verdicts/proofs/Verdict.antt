@@ -9,7 +9,7 @@ use Rattle.nodes.specs.Bit.{_⊕_}
 use Rattle.nodes.specs.Row.{anyBelow}
 use Rattle.nodes.proofs.Logic.{is-true, is-false, from-true, from-false, dec, or-l, or-r, not-in, not-out, eqb-no}
 use Rattle.flows.specs.Job.{Job, odd, own, isXorY, isYorZ, pauliY}
-use Rattle.flows.proofs.Conditions.{Ok}
+use Rattle.flows.specs.Conditions.{Ok}
 use Rattle.flows.proofs.Flows.{laterThan}
 use Rattle.records.specs.Answer.{Refusal}
 use Rattle.records.specs.JobFile.{modeCausal, modePauli}

@@ -28,13 +28,13 @@ FlowBytes n bytes g = (readFlow n bytes ≡ gives g) × (g .after ≡ [])
 abbrev pub layerIn : FlowFile → ℕ → ℕ
 layerIn g u = getD (g .layers) u 0
 
--- of a finder's call that gave `wrote` bytes for the job that file holds
+-- Of a finder's call that gave `wrote` bytes for the job that file holds. 'A flow is any flow file whatever': so is every other.
 pub record DemandHolds (file : List ℕ) (job : JobFile) (wrote : List ℕ) : Type 0 where
   pub flowOrNone : ((g : FlowFile) × FlowBytes (job .n) wrote g) ⊎ (wrote ≡ written kindNoFlow [])
   pub accepts : (g : FlowFile) → FlowBytes (job .n) wrote g → Accepted file wrote
-  pub smallest : T (premise job) → (other : List ℕ) → Accepted file other
-      → (g h : FlowFile) × FlowBytes (job .n) wrote g × FlowBytes (job .n) other h × ((u : ℕ) → u < job .n → layerIn g u ≤ layerIn h u)
-  pub noFlow : T (premise job) → (wrote ≡ written kindNoFlow [] ↔ ((other : List ℕ) → Accepted file other → ⊥))
+  pub smallest : T (premise job) → (other : List ℕ) (h : FlowFile) → FlowBytes (job .n) other h → Accepted file other
+      → (g : FlowFile) × FlowBytes (job .n) wrote g × ((u : ℕ) → u < job .n → layerIn g u ≤ layerIn h u)
+  pub noFlow : T (premise job) → (wrote ≡ written kindNoFlow [] ↔ ((other : List ℕ) (h : FlowFile) → FlowBytes (job .n) other h → Accepted file other → ⊥))
 
 -- Wherever no question refuses the finder's call, 20 included: the bytes written are the first `k` of the result buffer.
 abbrev pub Demand3 : Type 0

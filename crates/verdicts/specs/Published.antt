@@ -3,9 +3,10 @@
 use Prim.Native.Nat.{ℕ, _<_}
 use mathlib.Core.Path.{_≡_}
 use mathlib.Core.Bool.{Bool}
-use mathlib.Core.Logic.{_≢_, _↔_}
+use mathlib.Core.Logic.{_≢_, _↔_, _⊎_}
 use lib.Dec.{T, eqb}
 use Rattle.flows.specs.Job.{Job, odd, planeXY, planeYZ, planeXZ, pauliX, pauliY, pauliZ, isXorY, isYorZ}
+use Rattle.records.specs.JobFile.{modeCausal, modePlanes, modePauli}
 use Rattle.records.specs.FlowFile.{Flow}
 
 pub record StrictOrder (before : ℕ → ℕ → Type 0) : Type 0 where
@@ -24,6 +25,10 @@ pub record CausalFlow (j : Job) (before : ℕ → ℕ → Type 0) (f : ℕ → �
   pub adjacent : (i : ℕ) → Measured j i → T (j .edge (f i) i)
   pub successor : (i : ℕ) → Measured j i → before i (f i)
   pub neighbours : (i k : ℕ) → Measured j i → k < j .nodes → T (j .edge (f i) k) → k ≢ i → before i k
+
+-- a causal flow as sets of one member each, f(i)
+abbrev pub CausalSets : Job → (before : ℕ → ℕ → Type 0) (g : ℕ → ℕ → Bool) → Type 0
+CausalSets j before g = (f : ℕ → ℕ) × CausalFlow j before f × ((i k : ℕ) → Measured j i → k < j .nodes → g i k ≡ eqb k (f i))
 
 -- the sets hold non-inputs only
 abbrev pub NoInputs : Job → (ℕ → ℕ → Bool) → Type 0
@@ -59,6 +64,14 @@ pub record PauliFlow (j : Job) (before : ℕ → ℕ → Type 0) (p : ℕ → �
   pub noInputs : NoInputs j p
   pub conditions : PauliConditions j before p
 
+-- ---- by mode: 1 has Danos and Kashefi's flow, 2 Backens et al.'s, 3 Simmons'
+abbrev pub ByMode : (mode : ℕ) (causal planes paulis : Type 0) → Type 0
+ByMode mode causal planes paulis = ((mode ≡ modeCausal) × causal) ⊎ (((mode ≡ modePlanes) × planes) ⊎ ((mode ≡ modePauli) × paulis))
+
+-- the paper of the mode calls the sets a flow in this order
+abbrev pub PublishedFlow : ℕ → Job → (before : ℕ → ℕ → Type 0) (g : ℕ → ℕ → Bool) → Type 0
+PublishedFlow mode j before g = ByMode mode (CausalSets j before g) (PlaneFlow j before g) (PauliFlow j before g)
+
 -- ---- the verifier's order: a smaller layer is later
 abbrev pub byLayer : (ℕ → ℕ) → ℕ → ℕ → Type 0
 byLayer layer i k = layer k < layer i
@@ -76,6 +89,11 @@ OutputsAtZero j layer = (u : ℕ) → u < j .nodes → T (j .output u) → layer
 abbrev pub OthersAboveZero : Job → (ℕ → ℕ) → Type 0
 OthersAboveZero j layer = (u : ℕ) → Measured j u → 0 < layer u
 
+-- the two together: what is asked of the layers besides their order. In mode 1 that order has the others above 0 already.
+pub record LayerRule (mode : ℕ) (j : Job) (layer : ℕ → ℕ) : Type 0 where
+  pub outputs : OutputsAtZero j layer
+  pub others : mode ≡ modePlanes → OthersAboveZero j layer
+
 -- the file has an entry for each non-output and for no other node: the domain of the published functions
 abbrev pub Domain : Job → (ℕ → Bool) → Type 0
 Domain j entry = (u : ℕ) → u < j .nodes → (T (entry u) ↔ (T (j .output u) → ⊥))
@@ -85,7 +103,7 @@ pub record CausalAccepted (j : Job) (f : Flow) : Type 0 where
   pub domain : Domain j (f .entry)
   pub outputs : OutputsAtZero j (f .layer)
   pub others : OthersAboveZero j (f .layer)
-  pub flow : (s : ℕ → ℕ) × CausalFlow j (byLayer (f .layer)) s × ((i k : ℕ) → Measured j i → k < j .nodes → f .set i k ≡ eqb k (s i))
+  pub flow : CausalSets j (byLayer (f .layer)) (f .set)
 
 pub record PlanesAccepted (j : Job) (f : Flow) : Type 0 where
   pub domain : Domain j (f .entry)
@@ -99,3 +117,6 @@ pub record PaulisAccepted (j : Job) (f : Flow) : Type 0 where
   pub outputs : OutputsAtZero j (f .layer)
   pub inputs : NoOtherInputs j (f .set)
   pub conditions : PauliConditions j (byLayer (f .layer)) (f .set)
+
+abbrev pub AcceptedFlow : ℕ → Job → Flow → Type 0
+AcceptedFlow mode j f = ByMode mode (CausalAccepted j f) (PlanesAccepted j f) (PaulisAccepted j f)

@@ -1,0 +1,47 @@
+//! What the original answers on a file, and what ours does: a job is searched, a job with a flow file behind it is judged.
+
+use harness::finders::find_theirs;
+use harness::jobs::{Flow, payloads};
+use harness::ours::{self, Answer, OUT_BYTES, WORK_BYTES};
+use harness::theirs;
+
+/// The records of a job; a flow file behind it adds two.
+const JOB_RECORDS: usize = 5;
+
+fn flow(bytes: &[u8]) -> String {
+    let told = |flow: Flow| format!("layers {:?}, sets {:?}", flow.layers, flow.sets);
+    Flow::read(bytes).map_or("no flow".to_string(), told)
+}
+
+fn refused(number: u8, a: usize, b: usize) -> String {
+    format!("refused {number}, a = {a}, b = {b}")
+}
+
+fn searched(file: &[u8]) -> [String; 2] {
+    let (mut work, mut out) = ([0; WORK_BYTES], [0; OUT_BYTES]);
+    let mine = match ours::find(file, &mut work, &mut out) {
+        Answer::Value(len) => flow(&out[..len]),
+        Answer::Refused(number, a, b) => refused(number, a as usize, b as usize),
+    };
+    [find_theirs(file).map_or("panic".to_string(), |bytes| flow(&bytes)), mine]
+}
+
+fn judged(file: &[u8]) -> [String; 2] {
+    let mine = match ours::verify(file, &mut [0; OUT_BYTES]) {
+        Answer::Value(_) => "accepted".to_string(),
+        Answer::Refused(number, a, b) => refused(number, a as usize, b as usize),
+    };
+    let other = match theirs::verify(file) {
+        (0, _, _) => "accepted".to_string(),
+        (number, a, b) => refused(number, a, b),
+    };
+    [other, mine]
+}
+
+fn main() {
+    for name in std::env::args().skip(1) {
+        let file = std::fs::read(&name).expect("the file can be read");
+        let [other, mine] = if payloads(&file).len() == JOB_RECORDS { searched(&file) } else { judged(&file) };
+        println!("{name}: original: {other}; ours: {mine}");
+    }
+}
