@@ -1,7 +1,7 @@
 // The calls as a program in C sees them: a slice is a pointer and a length, and the answer is one number.
 ghost use mathlib.Core.Path.{_≡_};
 ghost use mathlib.Core.List.{[]};
-ghost use Rattle.solver.specs.Solver.{solverAccepts, MatrixAfter, solveCall};
+ghost use Rattle.solver.specs.Solver.{MatrixAfter, solvedOf, solveAsks, solveCall};
 ghost use Rattle.records.specs.Refusals.{refusalOf};
 ghost use Rattle.verdicts.specs.Calls.{findCall, verifyCall};
 ghost use Rattle.tables.specs.Replies.{replyOf};
@@ -43,7 +43,7 @@ fn reply_code(reply: Reply) -> u64
 }
 
 fn solved_code(solved: Solved) -> u64
-    ensures { λ r. ⌜ r ≡ solvedCode solved ⌝ }
+    ensures { λ r. ⌜ r ≡ solvedCode (solvedOf solved) ⌝ }
 {
     match solved {
         Solved::Solvable => 1,
@@ -81,7 +81,7 @@ pub extern "C" fn bolz_solve(
 ) -> u64
     ensures { λ r. ⌜ record { code = r; out = now (bits .exit) }
         ≡ codedBits (solveCall (now (matrix .entry)) (now (bits .entry)) rows cols sides side) ⌝ }
-    ensures { λ _. ⌜ MatrixAfter (solverAccepts (now (matrix .entry)) (now (bits .entry)) rows cols sides side) rows cols sides
+    ensures { λ _. ⌜ MatrixAfter (solveAsks (now (matrix .entry)) (now (bits .entry)) rows cols sides side) rows cols sides
         (now (matrix .entry)) (now (matrix .exit)) ⌝ }
 {
     solved_code(solve_in_place(matrix, bits, rows, cols, sides, side))

@@ -9,7 +9,7 @@ use borrow.Author.Tests.{leb-true, ltb-true, eqb-true, le-leb}
 use lib.Dec.{eqb, ltb, leb}
 use lib.ListN.{length, getD}
 use Rattle.nodes.specs.NodeSet.{highest}
-use Rattle.records.specs.Answer.{Answer, gives, refuses, refusal, no, passed}
+use Rattle.answers.specs.Answer.{Answer, gives, refuses, refusal, no, passed}
 use Rattle.records.specs.Records.{Part, part, checked, kindOpen}
 use Rattle.nodes.specs.Lists.{has}
 use Rattle.records.specs.JobFile.{mostNodes, all, openNo}
@@ -21,7 +21,8 @@ use Rattle.records.specs.declared.common.Found.{Found}
 use Rattle.records.specs.declared.common.Found.the-variants.{Payload, Refused as NotFound}
 use Rattle.records.specs.declared.common.Checked.{Checked}
 use Rattle.records.specs.declared.common.Checked.the-variants.{Passed, Refused as NotPassed}
-use Rattle.records.proofs.Records.{never, no-out, and-out, checked-passed}
+use Rattle.answers.proofs.Answer.{never, no-out}
+use Rattle.records.proofs.Records.{and-out, checked-passed}
 use Rattle.records.proofs.ReadingHead.{between-at, between-length}
 
 -- ---- the questions, from what the code answers

@@ -3,7 +3,7 @@ use Prim.Native.Nat.{ℕ, _-_, _≤_}
 use mathlib.Core.Bool.{Bool, true}
 use mathlib.Core.List.{List}
 use lib.ListN.{length, take, drop}
-use Rattle.records.specs.Answer.{Answer, gives, refuses}
+use Rattle.answers.specs.Answer.{Answer, gives, refuses}
 use Rattle.records.specs.Records.{Part}
 use Rattle.records.specs.JobFile.{JobFile, openNo, edgesNo, nodesNo}
 use Rattle.records.specs.FlowFile.{FlowFile, entriesOf, listed, layersNo, setsNo}

@@ -5,7 +5,7 @@ ghost use Prim.Native.Nat.{_+_, _%_, _<_, _≤_};
 ghost use lib.Dec.{eqb, leb, ltb};
 ghost use lib.ListN.{length, getD, drop};
 ghost use Rattle.nodes.specs.NodeSet.{member, highest};
-ghost use Rattle.records.specs.Answer.{passed};
+ghost use Rattle.answers.specs.Answer.{passed};
 ghost use Rattle.records.specs.Records.{lengthField, kindField, headBytes, part, checked};
 ghost use Rattle.nodes.specs.Lists.{has};
 ghost use Rattle.nodes.specs.Row.{count};

@@ -10,7 +10,7 @@ use lib.Dec.{eqb, ltb}
 use lib.ListN.{length, getD}
 use Rattle.nodes.specs.NodeSet.{capacity}
 use Rattle.flows.specs.Job.{Job}
-use Rattle.records.specs.Answer.{Refusal, refusal, gives, refuses}
+use Rattle.answers.specs.Answer.{Refusal, refusal, gives, refuses}
 use Rattle.records.specs.Records.{written, kindAccepted}
 use Rattle.nodes.specs.Lists.{has}
 use Rattle.records.specs.JobFile.{JobFile, mostNodes, modeCausal, measuredOf, all, joined, readJob, jobOf}

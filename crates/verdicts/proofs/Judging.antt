@@ -9,14 +9,14 @@ use native.Mathlib.Omega.{arith}
 use lib.Dec.{T, eqb, eqb-refl}
 use Rattle.nodes.proofs.Logic.{is-true, is-false, eqb-comm}
 use Rattle.flows.specs.Job.{Job, planeXZ}
-use Rattle.records.specs.Answer.{Refusal, Answer, gives, refuses, _>>_}
+use Rattle.answers.specs.Answer.{Refusal, Answer, gives, refuses, _>>_}
 use Rattle.records.specs.JobFile.{JobFile, readJob, jobOf, modeCausal, modePlanes, modePauli}
 use Rattle.records.specs.FlowFile.{FlowFile, readFlow, flowOf, nothingLeft, oneMember, entryIn, setIn}
 use Rattle.records.specs.Encoding.{ValidJob, ValidFlow}
 use Rattle.verdicts.specs.Verdict.{verify}
 use Rattle.verdicts.specs.Calls.{verdict, verifyAsks}
 use Rattle.verdicts.specs.Published.{Measured, CausalAccepted, PlanesAccepted, PaulisAccepted}
-use Rattle.records.proofs.Records.{never, bind-out}
+use Rattle.answers.proofs.Answer.{never, bind-out}
 use Rattle.records.proofs.JobFile.{job-asked, job-append, measured-range, output-zero, measured-most, measured-plane}
 use Rattle.records.proofs.FlowFile.{flow-asked, set-entry, members-below, nothing-left, one-member-asked, one-member}
 use Rattle.verdicts.proofs.Published.{one-to-three, Readable, planes-accepts, accepts-planes, paulis-accepts, accepts-paulis, causal-accepts, accepts-causal}

@@ -5,7 +5,7 @@ use Rattle.records.specs.Views.{fileAt, JobLies, flowAt}
 use Rattle.records.proofs.JobFile.{job-asked}
 use Rattle.records.proofs.FlowFile.{flow-asked}
 use Rattle.tables.proofs.LoadingFiles.{job-read, job-not, job-inside, flow-read, flow-not, flow-inside, asks-no-job, asks-no-flow, asks-flow}
-use Rattle.records.specs.Answer.{gives}
+use Rattle.answers.specs.Answer.{gives}
 use Rattle.records.specs.JobFile.{readJob}
 use Rattle.records.specs.FlowFile.{readFlow}
 use borrow.Author.Needs.{needs}
