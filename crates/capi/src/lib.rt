@@ -15,12 +15,12 @@ use tables::find::find;
 use tables::verify;
 
 // The places of a refusal's number and of a.
-pub const NUMBER_UNIT: u64 = 4294967296;
+const NUMBER_UNIT: u64 = 4294967296;
 
 const A_UNIT: u64 = 65536;
 
 // A refusal as one number.
-pub fn code(number: u8, a: u8, b: u8) -> u64
+fn code(number: u8, a: u8, b: u8) -> u64
     ensures { λ r. ⌜ r ≡ refusalCode (record { number = number; a = a; b = b }) ⌝ }
 {
     number as u64 * NUMBER_UNIT + a as u64 * A_UNIT + b as u64

@@ -16,20 +16,20 @@ use trial::holds;
 const FILL: u8 = 0xA5;
 
 // No buffer that is lent here is longer.
-pub const MOST_WORK: usize = WORK_BYTES + 1;
+pub(crate) const MOST_WORK: usize = WORK_BYTES + 1;
 
 const MOST_OUT: usize = 256;
 
 const MOST_ROWS: usize = 4;
 
 // The number of an answer, which is no refusal.
-pub const ANSWER: u8 = 0;
+pub(crate) const ANSWER: u8 = 0;
 
 const RESULT_TOO_LONG: u8 = 20;
 
-pub const SOLVABLE: u8 = 1;
+pub(crate) const SOLVABLE: u8 = 1;
 
-pub const UNSOLVABLE: u8 = 0;
+pub(crate) const UNSOLVABLE: u8 = 0;
 
 const ACCEPTED: [u8; 6] = [0, 0, 0, 0, 0x14, 0];
 

@@ -3,19 +3,19 @@
 
 const HEAD_BYTES: usize = 12;
 
-pub struct Entry {
-    pub kind: u8,
-    pub number: u8,
-    pub a: u8,
-    pub b: u8,
-    pub work_len: usize,
-    pub out_len: usize,
-    pub query: usize,
-    pub result: usize,
-    pub end: usize,
+pub(crate) struct Entry {
+    pub(crate) kind: u8,
+    pub(crate) number: u8,
+    pub(crate) a: u8,
+    pub(crate) b: u8,
+    pub(crate) work_len: usize,
+    pub(crate) out_len: usize,
+    pub(crate) query: usize,
+    pub(crate) result: usize,
+    pub(crate) end: usize,
 }
 
-pub enum Next {
+pub(crate) enum Next {
     Entry(Entry),
     Cut,
 }

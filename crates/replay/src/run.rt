@@ -1,15 +1,13 @@
 // The call of one entry on filled buffers: is its answer, and is each byte that it leaves, as stored?
 use crate::entry::Entry;
 use crate::entry::two_bytes;
-use capi::NUMBER_UNIT;
 use capi::bolz_find;
 use capi::bolz_solve;
 use capi::bolz_verify;
-use capi::code;
 use trial::holds;
 
 // Document 01's numbers, and 0 for an answer.
-pub const NUMBERS: usize = 21;
+pub(crate) const NUMBERS: usize = 21;
 
 const FIND: u8 = 102; // f
 
@@ -37,12 +35,17 @@ const MOST_OUT: usize = 16800;
 // Rows, columns, right sides and the right side that is asked for, two bytes each, stand before the matrix.
 const SHAPE_BYTES: usize = 8;
 
+// The places of a refusal's number and of a, as the header for C has them.
+const NUMBER_UNIT: u64 = 4294967296;
+
+const A_UNIT: u64 = 65536;
+
 // The answer that is stored: a count, or number, a and b.
 fn stored(e: Entry, count: usize) -> u64 {
     if e.number == 0 {
         return count as u64;
     }
-    code(e.number, e.a, e.b)
+    e.number as u64 * NUMBER_UNIT + e.a as u64 * A_UNIT + e.b as u64
 }
 
 // What the finder leaves in each byte of its work buffer.

@@ -83,13 +83,13 @@ slice-aggregate-search : tie.Need-slice-aggregate-search
 slice-aggregate-search c = search needs
 
 sub-search : tie.Need-sub-search
-sub-search c = let i = c .before .before .measured-of .ensures .1 (c .before .before .before .before .before .before .before .before .before .before .before .before .before .before .before .args .file .now) (c .before .before .before .before .before .before .before .before .before .before .before .before .before .before .before .pre .0 .1 .measurements) in omega arith
+sub-search c = let i = c .before .before .measured-of .ensures .1 (c .before .before .before .before .before .before .before .before .before .before .before .before .before .before .before .args .file .now) (c .before .before .before .before .before .before .before .before .before .before .before .before .before .before .before .pre .0 .1 .measurements .1) in omega arith
 
 part-search-start : tie.Need-part-search-start
-part-search-start c = let i = c .before .before .measured-of .ensures .1 (c .before .before .before .before .before .before .before .before .before .before .before .before .before .before .before .args .file .now) (c .before .before .before .before .before .before .before .before .before .before .before .before .before .before .before .pre .0 .1 .measurements) in search needs
+part-search-start c = let i = c .before .before .measured-of .ensures .1 (c .before .before .before .before .before .before .before .before .before .before .before .before .before .before .before .args .file .now) (c .before .before .before .before .before .before .before .before .before .before .before .before .before .before .before .pre .0 .1 .measurements .1) in search needs
 
 part-search-end : tie.Need-part-search-end
-part-search-end c = let i = c .before .before .measured-of .ensures .1 (c .before .before .before .before .before .before .before .before .before .before .before .before .before .before .before .args .file .now) (c .before .before .before .before .before .before .before .before .before .before .before .before .before .before .before .pre .0 .1 .measurements) in search needs
+part-search-end c = let i = c .before .before .measured-of .ensures .1 (c .before .before .before .before .before .before .before .before .before .before .before .before .before .before .before .args .file .now) (c .before .before .before .before .before .before .before .before .before .before .before .before .before .before .before .pre .0 .1 .measurements .1) in search needs
 
 slice-aggregate-search-2 : tie.Need-slice-aggregate-search-2
 slice-aggregate-search-2 c = search needs
