@@ -5,7 +5,7 @@ ghost use Rattle.solver.specs.Solver.{MatrixAfter, solvedOf, solveAsks, solveCa
 ghost use Rattle.records.specs.Refusals.{refusalOf};
 ghost use Rattle.verdicts.specs.Calls.{findCall, verifyCall};
 ghost use Rattle.tables.specs.Replies.{replyOf};
-ghost use Rattle.capi.specs.Codes.{refusalCode, answerCode, coded, solvedCode, codedBits};
+ghost use Rattle.capi.specs.Codes.{refusalCode, answerCode, coded, counted, codedBits};
 use records::common::Refused;
 use records::common::numbers_of;
 use solver::gf2_linalg::Solved;
@@ -43,7 +43,7 @@ fn reply_code(reply: Reply) -> u64
 }
 
 fn solved_code(solved: Solved) -> u64
-    ensures { λ r. ⌜ r ≡ solvedCode (solvedOf solved) ⌝ }
+    ensures { λ r. ⌜ r ≡ answerCode (counted (solvedOf solved)) ⌝ }
 {
     match solved {
         Solved::Solvable => 1,
