@@ -1,15 +1,23 @@
 -- One number for what a call answers, and what the call leaves in the lent buffers.
-use Prim.Native.Nat.{ℕ, _+_, _*_}
+use Prim.Native.Nat.{ℕ, _+_, _*_, _/_, _%_, _≤_, _<_}
+use mathlib.Core.Path.{_≡_}
+use mathlib.Core.Bool.{Bool, true, cond}
 use mathlib.Core.List.{List}
+use lib.Dec.{ltb}
+use Rattle.answers.specs.Answer.{Refusal, Answer, gives, refuses}
 use Rattle.solver.specs.Solver as Solver
-use Rattle.solver.specs.declared.gf2_linalg.Solved.{Solved}
-use Rattle.solver.specs.declared.gf2_linalg.Solved.the-variants.{Solvable, Unsolvable, WrongShape, NoSuchEquation}
-use Rattle.records.specs.Answer.{Refusal, refusal, Answer, gives, refuses}
+use Rattle.records.specs.JobFile.{all}
 use Rattle.verdicts.specs.Calls.{Outcome}
 
--- a refusal: number × 2^32 + a × 2^16 + b
+-- the places of a refusal's number and of a: 2^32 and 2^16
+abbrev pub numberUnit : ℕ
+numberUnit = 4294967296
+
+abbrev pub aUnit : ℕ
+aUnit = 65536
+
 abbrev pub refusalCode : Refusal → ℕ
-refusalCode r = r .number * 4294967296 + r .a * 65536 + r .b
+refusalCode r = r .number * numberUnit + r .a * aUnit + r .b
 
 -- an answer: the count of bytes written
 abbrev pub answerCode : Answer ℕ → ℕ
@@ -25,15 +33,37 @@ abbrev pub coded : Outcome → Coded
 coded o = record { code = answerCode (o .answer); work = o .work; out = o .out }
 
 -- the solver's: 1 for solvable, 0 for not
-abbrev pub solvedCode : Solved → ℕ
-solvedCode Solvable = 1
-solvedCode Unsolvable = 0
-solvedCode WrongShape = refusalCode (refusal (Solver.solverNumber WrongShape))
-solvedCode NoSuchEquation = refusalCode (refusal (Solver.solverNumber NoSuchEquation))
+abbrev pub counted : Answer Bool → Answer ℕ
+counted (gives solvable) = gives (cond solvable 1 0)
+counted (refuses r) = refuses r
 
 pub record CodedBits : Type 0 where
   pub code : ℕ
   pub out : List ℕ
 
 abbrev pub codedBits : Solver.Outcome → CodedBits
-codedBits o = record { code = solvedCode (o .answer); out = o .out }
+codedBits o = record { code = answerCode (counted (o .answer)); out = o .out }
+
+-- ---- what a program in C reads off a code: number, a and b as the header has them
+abbrev pub numberIn : ℕ → ℕ
+numberIn c = c / numberUnit
+
+abbrev pub aIn : ℕ → ℕ
+aIn c = c / aUnit % aUnit
+
+abbrev pub bIn : ℕ → ℕ
+bIn c = c % aUnit
+
+-- an answer is below 2^32, and the code itself; a refusal is not
+abbrev pub Tells : Answer ℕ → (code : ℕ) → Type 0
+Tells (gives k) c = (c < numberUnit) × (c ≡ k)
+Tells (refuses r) c = numberUnit ≤ c
+
+-- a refusal's number, a and b
+abbrev pub TellsWhy : Answer ℕ → (code : ℕ) → Type 0
+TellsWhy (gives k) c = Unit
+TellsWhy (refuses r) c = (numberIn c ≡ r .number) × (aIn c ≡ r .a) × (bIn c ≡ r .b)
+
+-- a file of bytes, as every file of a program is; the definitions of the calls take any numbers
+abbrev pub Bytes : List ℕ → Type 0
+Bytes s = all (λ b. ltb b 256) s ≡ true

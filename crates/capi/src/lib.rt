@@ -1,11 +1,11 @@
 // The calls as a program in C sees them: a slice is a pointer and a length, and the answer is one number.
 ghost use mathlib.Core.Path.{_≡_};
 ghost use mathlib.Core.List.{[]};
-ghost use Rattle.solver.specs.Solver.{solverAccepts, MatrixAfter, solveCall};
+ghost use Rattle.solver.specs.Solver.{MatrixAfter, solvedOf, solveAsks, solveCall};
 ghost use Rattle.records.specs.Refusals.{refusalOf};
 ghost use Rattle.verdicts.specs.Calls.{findCall, verifyCall};
 ghost use Rattle.tables.specs.Replies.{replyOf};
-ghost use Rattle.capi.specs.Codes.{refusalCode, answerCode, coded, solvedCode, codedBits};
+ghost use Rattle.capi.specs.Codes.{refusalCode, answerCode, coded, counted, codedBits};
 use records::common::Refused;
 use records::common::numbers_of;
 use solver::gf2_linalg::Solved;
@@ -15,12 +15,12 @@ use tables::find::find;
 use tables::verify;
 
 // The places of a refusal's number and of a.
-pub const NUMBER_UNIT: u64 = 4294967296;
+const NUMBER_UNIT: u64 = 4294967296;
 
 const A_UNIT: u64 = 65536;
 
 // A refusal as one number.
-pub fn code(number: u8, a: u8, b: u8) -> u64
+fn code(number: u8, a: u8, b: u8) -> u64
     ensures { λ r. ⌜ r ≡ refusalCode (record { number = number; a = a; b = b }) ⌝ }
 {
     number as u64 * NUMBER_UNIT + a as u64 * A_UNIT + b as u64
@@ -43,7 +43,7 @@ fn reply_code(reply: Reply) -> u64
 }
 
 fn solved_code(solved: Solved) -> u64
-    ensures { λ r. ⌜ r ≡ solvedCode solved ⌝ }
+    ensures { λ r. ⌜ r ≡ answerCode (counted (solvedOf solved)) ⌝ }
 {
     match solved {
         Solved::Solvable => 1,
@@ -81,7 +81,7 @@ pub extern "C" fn bolz_solve(
 ) -> u64
     ensures { λ r. ⌜ record { code = r; out = now (bits .exit) }
         ≡ codedBits (solveCall (now (matrix .entry)) (now (bits .entry)) rows cols sides side) ⌝ }
-    ensures { λ _. ⌜ MatrixAfter (solverAccepts (now (matrix .entry)) (now (bits .entry)) rows cols sides side) rows cols sides
+    ensures { λ _. ⌜ MatrixAfter (solveAsks (now (matrix .entry)) (now (bits .entry)) rows cols sides side) rows cols sides
         (now (matrix .entry)) (now (matrix .exit)) ⌝ }
 {
     solved_code(solve_in_place(matrix, bits, rows, cols, sides, side))

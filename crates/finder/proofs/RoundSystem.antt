@@ -1,7 +1,7 @@
 -- The filled work matrix is the system of a round, and what its basis answers for a node is what a try with the node's own rows gives.
 use Prim.Native.Nat.{ℕ, suc, _+_, _-_, _*_, _≤_, _<_}
 use mathlib.Core.Path.{_≡_, refl, sym, ap, ap₂, _∙_, subst}
-use mathlib.Core.Bool.{Bool, true, false, cond, not, _&&_, _||_, false≢true}
+use mathlib.Core.Bool.{Bool, true, false, cond, not, _&&_, _||_}
 use mathlib.Core.List.{List}
 use mathlib.Core.Logic.{_⊎_, inl, inr}
 use mathlib.Core.Option.{none}
@@ -10,6 +10,8 @@ use native.Mathlib.Decide.{ℕ-discrete}
 use native.Mathlib.Omega.{arith}
 use lib.Dec.{T, eqb, ltb, eqb→eq}
 use lib.ListN.{length, drop}
+use Rattle.answers.specs.Answer.{asks}
+use Rattle.answers.proofs.Answer.{never}
 use Rattle.nodes.specs.Bit.{_⊕_}
 use Rattle.nodes.specs.Row.{count}
 use Rattle.nodes.specs.NodeSet.{capacity, member}
@@ -23,7 +25,7 @@ use Rattle.solver.specs.Asked.{asking, askedSide}
 use Rattle.solver.specs.WorkMatrix.{entryOf}
 use Rattle.solver.specs.Solver.{rowBytes, mostRows}
 use Rattle.solver.specs.Basis.{Form, answerFrom}
-use Rattle.solver.specs.BasisCalls.{formOf, formFits, isReady, namedEntry, namedSystem, Answering, FormAfter}
+use Rattle.solver.specs.BasisCalls.{formOf, formFits, formedOf, namedEntry, namedSystem, Answering, FormAfter}
 use Rattle.solver.specs.declared.column_basis.Formed.{Formed}
 use Rattle.solver.specs.declared.column_basis.Formed.the-variants as formed
 use Rattle.solver.specs.declared.column_basis.Echelon.{Echelon}
@@ -289,7 +291,7 @@ pub form-ready : (r : Formed) (e : Echelon) (matrix : List ℕ) (upper lower col
 form-ready r e matrix upper lower column k₀ r₀ p₀ kernel reduced preimage h a = subst (λ (x : Formed). FormAfter x matrix upper lower column k₀ r₀ p₀ kernel reduced preimage) h a
 
 -- the solver never refuses a round
-pub form-refused : (r : Formed) (matrix : List ℕ) (upper lower : ℕ → Bool) (kernel reduced preimage : List ℕ) → r ≡ formed.Refused → isReady r ≡ formFits matrix upper lower kernel reduced preimage
+pub form-refused : (r : Formed) (matrix : List ℕ) (upper lower : ℕ → Bool) (kernel reduced preimage : List ℕ) → r ≡ formed.Refused → formedOf r ≡ asks 11 (formFits matrix upper lower kernel reduced preimage)
     → (count capacity upper + count capacity lower) * rowBytes ≤ length matrix → length kernel ≡ tableWords → length reduced ≡ tableWords → length preimage ≡ tableWords → ⊥
 form-refused r matrix upper lower kernel reduced preimage e f a b c d =
-    false≢true (ap isReady (sym e) ∙ f ∙ sym (fits-last matrix upper lower kernel reduced preimage a b c) ∙ ap (λ (x : ℕ). eqb x tableWords) d ∙ eqb-yes tableWords)
+    never (ap formedOf (sym e) ∙ f ∙ ap (asks 11) (sym (fits-last matrix upper lower kernel reduced preimage a b c) ∙ ap (λ (x : ℕ). eqb x tableWords) d ∙ eqb-yes tableWords))

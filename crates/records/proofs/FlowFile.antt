@@ -12,13 +12,14 @@ use lib.Dec.{T, eqb, ltb, leb, eqb→eq, eqb-refl}
 use lib.ListN.{length, getD, take, drop, length-append, take-append-drop}
 use lib.Seq.{length-take-le, take-append-seam, drop-append-seam}
 use Rattle.nodes.proofs.Logic.{is-false, from-false, and-l, and-r, or-l, or-r, or-out, or-none, eqb-yes}
-use Rattle.records.specs.Answer.{Answer, gives, no}
+use Rattle.answers.specs.Answer.{Answer, gives, no}
 use Rattle.records.specs.Records.{checked, written, kindLayers, kindSets}
 use Rattle.nodes.specs.Lists.{has}
 use Rattle.records.specs.JobFile.{mostNodes, modeCausal, all, rises}
 use Rattle.records.specs.FlowFile.{SetEntry, addEntry, entriesIn, entriesOf, framed, listed, allEntries, entryBelow, entriesRise, layersNo, setsNo, FlowFile, readSets, readFlow, setIn, entryIn, nothingLeft, oneMember}
 use Rattle.records.specs.Encoding.{entryBytes, flowFileBytes, ValidFlow}
-use Rattle.records.proofs.Records.{give-inj, asks-yes, bind-out, no-out, and-out, checked-passed, checked-append, checked-written, record-bytes}
+use Rattle.answers.proofs.Answer.{give-inj, asks-yes, bind-out, no-out}
+use Rattle.records.proofs.Records.{and-out, checked-passed, checked-append, checked-written, record-bytes}
 use Rattle.records.proofs.JobFile.{has-below, rises-length}
 
 -- ---- entries and their bytes

@@ -10,12 +10,13 @@ use borrow.Author.Tests.{leb-true, ltb-true, eqb-true, le-leb, lt-ltb, eq-eqb}
 use lib.Dec.{T, eqb, ltb, leb, eqb→eq}
 use lib.ListN.{length, getD, List·getD-eq-default}
 use Rattle.nodes.proofs.Logic.{is-false, and-l, and-r, or-out, or-comm, lt-or-ge}
-use Rattle.records.specs.Answer.{Answer, gives, no}
+use Rattle.answers.specs.Answer.{Answer, gives, no}
 use Rattle.records.specs.Records.{checked, written, kindOpen, kindEdges, kindInputs, kindOutputs, kindMeasurements}
 use Rattle.nodes.specs.Lists.{has}
 use Rattle.records.specs.JobFile.{JobFile, modeCausal, modePlanes, all, rises, pairsRise, highestOf, allows, allAllowed, openNo, edgesNo, nodesNo, measurementsNo, readMeasurements, readOutputs, readInputs, readEdges, readJob, joined, jobOf}
 use Rattle.records.specs.Encoding.{jobBytes, ValidJob}
-use Rattle.records.proofs.Records.{give-inj, bind-out, no-out, and-out, all-more, checked-passed, checked-append, checked-written, record-bytes}
+use Rattle.answers.proofs.Answer.{give-inj, bind-out, no-out}
+use Rattle.records.proofs.Records.{and-out, all-more, checked-passed, checked-append, checked-written, record-bytes}
 
 -- ---- the questions of each record, as facts
 two-bytes : (l : List ℕ) → length l ≡ 2 → l ≡ getD l 0 0 ∷ getD l 1 0 ∷ []

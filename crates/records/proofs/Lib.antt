@@ -1,5 +1,6 @@
 pub mod FlowFile
 pub mod JobFile
+pub mod Places
 pub mod ReadingEntries
 pub mod ReadingHead
 pub mod ReadingLoops

@@ -7,7 +7,7 @@ use native.Mathlib.Omega.{arith}
 use borrow.Author.Tests.{le-leb, lt-leb, eq-eqb, ne-eqb}
 use lib.ListN.{length, getD, drop, length-drop}
 use lib.Seq.{getD-take, getD-drop, drop-drop, length-take-le}
-use Rattle.records.specs.Answer.{gives, refuses, refusal}
+use Rattle.answers.specs.Answer.{gives, refuses, refusal}
 use Rattle.records.specs.Records.{part, lengthField, kindField}
 use Rattle.records.specs.Views.{between}
 

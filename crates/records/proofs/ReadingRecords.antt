@@ -9,19 +9,20 @@ use borrow.Author.Tests.{leb-true, ltb-true, eqb-true, le-leb}
 use lib.Dec.{eqb, ltb, leb}
 use lib.ListN.{length, getD}
 use Rattle.nodes.specs.NodeSet.{highest}
-use Rattle.records.specs.Answer.{Answer, gives, refuses, refusal, no, passed}
+use Rattle.answers.specs.Answer.{Answer, gives, refuses, refusal, no, passed}
 use Rattle.records.specs.Records.{Part, part, checked, kindOpen}
 use Rattle.nodes.specs.Lists.{has}
 use Rattle.records.specs.JobFile.{mostNodes, all, openNo}
 use Rattle.records.specs.Refusals.{refusalOf}
-use Rattle.records.specs.Views.{bytesAt, Lies, checkedOf, partAt, partOf, Inside}
+use Rattle.records.specs.Views.{bytesAt, Lies, LiesBehind, checkedOf, partAt, partOf, Inside}
 use Rattle.records.specs.declared.common.Refused.{Refused}
 use Rattle.records.specs.declared.common.Place.{Place}
 use Rattle.records.specs.declared.common.Found.{Found}
 use Rattle.records.specs.declared.common.Found.the-variants.{Payload, Refused as NotFound}
 use Rattle.records.specs.declared.common.Checked.{Checked}
 use Rattle.records.specs.declared.common.Checked.the-variants.{Passed, Refused as NotPassed}
-use Rattle.records.proofs.Records.{never, no-out, and-out, checked-passed}
+use Rattle.answers.proofs.Answer.{never, no-out}
+use Rattle.records.proofs.Records.{and-out, checked-passed}
 use Rattle.records.proofs.ReadingHead.{between-at, between-length}
 
 -- ---- the questions, from what the code answers
@@ -48,8 +49,8 @@ module _ (s : List ℕ) (r : Found) {m : Answer Part} (e : partOf s r ≡ m) whe
   pub found-no : (q : Refused) → r ≡ NotFound q → m ≡ refuses (refusalOf q)
   found-no q h = sym e ∙ ap (partOf s) h
 
-pub inside-of : (s : List ℕ) (r : Found) → Inside s r → (p : Place) → r ≡ Payload p → Lies s p
-inside-of s r h p e = rw e at h
+pub inside-of : (s : List ℕ) (at : ℕ) (r : Found) → Inside s at r → (p : Place) → r ≡ Payload p → LiesBehind s at p
+inside-of s at r h p e = rw e at h
 
 module _ (s t : List ℕ) (kind : ℕ) (r : Found) (e : partOf s r ≡ part kind t) (test : List ℕ → ℕ) where
   pub checked-stops : (q : Refused) → r ≡ NotFound q → refuses (refusalOf q) ≡ checked kind test t

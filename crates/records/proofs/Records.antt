@@ -9,34 +9,12 @@ use borrow.Author.Tests.{leb-true, ltb-true, eqb-true, le-leb, lt-ltb, eq-eqb}
 use lib.Dec.{eqb, ltb, leb}
 use lib.ListN.{length, getD, take, drop, length-append, length-drop, take-append-drop, List·getD-append}
 use lib.Seq.{length-take-le, take-append-le, drop-append-le, take-append-seam, drop-append-seam}
-use Rattle.records.specs.Answer.{Refusal, Answer, gives, refuses, _>>=_, _>>_, asks, no, passed}
+use Rattle.answers.specs.Answer.{Answer, gives, refuses, _>>=_, _>>_, asks, passed}
+use Rattle.answers.proofs.Answer.{give-inj, never, asks-out}
 use Rattle.records.specs.Records.{Part, part, checked, written, lengthField, kindField}
 use Rattle.records.specs.JobFile.{all}
 
--- ---- answers
-pub give-inj : {A : Type 0} {a b : A} → _≡_ {A = Answer A} (gives a) (gives b) → a ≡ b
-give-inj e = cc
-
--- a refusal gives nothing
-pub never : {A : Type 0} {a : A} {r : Refusal} → _≡_ {A = Answer A} (refuses r) (gives a) → ⊥
-never e = let z : _≡_ {A = ℕ} 0 1 = cc in omega arith
-
-pub asks-out : {B : Type 0} (q : ℕ) (c : Bool) (k : Answer B) (b : B) → (asks q c >> k) ≡ gives b → (c ≡ true) × (k ≡ gives b)
-asks-out q true k b e = (refl, e)
-asks-out q false k b e = absurd (never e)
-
-pub asks-yes : (q : ℕ) (c b : Bool) → asks q c ≡ gives b → c ≡ true
-asks-yes q true b e = refl
-asks-yes q false b e = absurd (never e)
-
-pub bind-out : {A B : Type 0} (m : Answer A) (k : A → Answer B) (b : B) → (m >>= k) ≡ gives b → (a : A) × (m ≡ gives a) × (k a ≡ gives b)
-bind-out (gives a) k b e = (a, refl, e)
-bind-out (refuses r) k b e = absurd (never e)
-
-pub no-out : (q : ℕ) (c : Bool) (rest : ℕ) → no (suc q) c rest ≡ 0 → (c ≡ true) × (rest ≡ 0)
-no-out q true rest e = (refl, e)
-no-out q false rest e = absurd (omega arith)
-
+-- ---- tests
 pub and-out : (a b : Bool) → a && b ≡ true → (a ≡ true) × (b ≡ true)
 and-out true b e = (refl, e)
 and-out false b e = absurd (false≢true e)

@@ -17,14 +17,15 @@ use Rattle.nodes.proofs.Members.{members-snoc}
 use Rattle.solver.specs.WorkMatrix.{listOf}
 use Rattle.flows.specs.Job.{Job}
 use Rattle.flows.specs.Search.{Progress}
-use Rattle.records.specs.Answer.{gives}
+use Rattle.answers.specs.Answer.{gives}
 use Rattle.records.specs.Records.{part, checked, written, kindLayers, kindSets, kindNoFlow}
 use Rattle.nodes.specs.Lists.{has}
 use Rattle.records.specs.JobFile.{mostNodes, all, rises}
 use Rattle.records.specs.FlowFile.{SetEntry, allEntries, entryBelow, entriesRise, FlowFile, readFlow, setIn, entryIn, flowOf}
 use Rattle.records.specs.Encoding.{entryBytes, flowFileBytes, ValidFlow, entriesFor, foundFlow}
 use Rattle.records.specs.Writing.{setBytes, flowBytes, mostOutput}
-use Rattle.records.proofs.Records.{never, and-out, all-append, all-more, written-length, written-bytes}
+use Rattle.answers.proofs.Answer.{never}
+use Rattle.records.proofs.Records.{and-out, all-append, all-more, written-length, written-bytes}
 use Rattle.records.proofs.JobFile.{rises-length}
 use Rattle.records.proofs.FlowFile.{flow-decodes, entries-few, entry-bytes-length}
 

@@ -5,7 +5,7 @@ use mathlib.Core.Option.{Option, none, some}
 use mathlib.Core.List.{List, [], _∷_}
 use lib.Dec.{eqb, ltb, leb}
 use lib.ListN.{length, getD, take, drop}
-use Rattle.records.specs.Answer.{Answer, gives, asks, no, _>>=_, _>>_}
+use Rattle.answers.specs.Answer.{Answer, gives, asks, no, _>>=_, _>>_}
 use Rattle.records.specs.Records.{checked, kindLayers, kindSets}
 use Rattle.nodes.specs.Lists.{has}
 use Rattle.records.specs.JobFile.{all, rises, modeCausal}

@@ -6,7 +6,7 @@ use lib.Dec.{eqb, ltb, leb}
 use lib.ListN.{length, getD}
 use Rattle.nodes.specs.Lists.{has}
 use Rattle.flows.specs.Job.{Job, planeXY, planeXZ, pauliZ}
-use Rattle.records.specs.Answer.{Answer, gives, no, _>>=_}
+use Rattle.answers.specs.Answer.{Answer, gives, no, _>>=_}
 use Rattle.records.specs.Records.{checked, kindOpen, kindEdges, kindInputs, kindOutputs, kindMeasurements}
 
 -- the most nodes a job may have

@@ -1,4 +1,3 @@
-pub mod Answer
 pub mod Encoding
 pub mod FlowFile
 pub mod JobFile

@@ -4,7 +4,7 @@ use mathlib.Core.Bool.{_&&_}
 use mathlib.Core.List.{List, [], _∷_}
 use lib.Dec.{eqb, leb}
 use lib.ListN.{length, getD, take, drop}
-use Rattle.records.specs.Answer.{Answer, gives, _>>=_, _>>_, asks, passed}
+use Rattle.answers.specs.Answer.{Answer, gives, _>>=_, _>>_, asks, passed}
 
 abbrev pub kindOpen : ℕ
 kindOpen = 0x0001

@@ -1,5 +1,5 @@
 -- Document 01's number, a and b for each cause of a refusal.
-use Rattle.records.specs.Answer.{Refusal, refusal}
+use Rattle.answers.specs.Answer.{Refusal, refusal}
 use Rattle.records.specs.declared.common.Numbers.{Numbers}
 use Rattle.records.specs.declared.common.Refused.{Refused}
 use Rattle.records.specs.declared.common.Refused.the-variants.{

@@ -1,10 +1,11 @@
 -- What the code's answers say of the file it was given: the code answers places, the definitions speak of bytes.
-use Prim.Native.Nat.{ℕ, _-_, _≤_}
+use Prim.Native.Nat.{ℕ, _+_, _-_, _≤_}
+use mathlib.Core.Path.{_≡_}
 use mathlib.Core.Bool.{Bool, true}
 use mathlib.Core.List.{List}
 use lib.ListN.{length, take, drop}
-use Rattle.records.specs.Answer.{Answer, gives, refuses}
-use Rattle.records.specs.Records.{Part}
+use Rattle.answers.specs.Answer.{Answer, gives, refuses}
+use Rattle.records.specs.Records.{Part, headBytes}
 use Rattle.records.specs.JobFile.{JobFile, openNo, edgesNo, nodesNo}
 use Rattle.records.specs.FlowFile.{FlowFile, entriesOf, listed, layersNo, setsNo}
 use Rattle.records.specs.Refusals.{refusalOf}
@@ -54,9 +55,13 @@ abbrev pub partOf : List ℕ → Found → Answer Part
 partOf s (Payload p) = gives (partAt s p)
 partOf s (NotFound q) = refuses (refusalOf q)
 
-abbrev pub Inside : List ℕ → Found → Type 0
-Inside s (Payload p) = Lies s p
-Inside s (NotFound q) = Unit
+-- the payload of the record that starts at `at`: behind the record's head, also where it is empty
+abbrev pub LiesBehind : List ℕ → (at : ℕ) → Place → Type 0
+LiesBehind s at p = (p .start ≡ at + headBytes) × Lies s p
+
+abbrev pub Inside : List ℕ → (at : ℕ) → Found → Type 0
+Inside s at (Payload p) = LiesBehind s at p
+Inside s at (NotFound q) = Unit
 
 -- ---- a job
 abbrev pub fileAt : List ℕ → JobPlaces → JobFile
@@ -74,12 +79,16 @@ abbrev pub jobOfRead : List ℕ → JobRead → Answer JobFile
 jobOfRead s (Job p) = gives (fileAt s p)
 jobOfRead s (NoJob q) = refuses (refusalOf q)
 
--- the places lie in the file
+-- the bytes of the first record: its head, the number of nodes and the mode
+abbrev pub openingBytes : ℕ
+openingBytes = headBytes + 2
+
+-- each record starts where the one before it ends
 pub record JobLies (s : List ℕ) (p : JobPlaces) : Type 0 where
-  pub edges : Lies s (p .edges)
-  pub inputs : Lies s (p .inputs)
-  pub outputs : Lies s (p .outputs)
-  pub measurements : Lies s (p .measurements)
+  pub edges : LiesBehind s openingBytes (p .edges)
+  pub inputs : LiesBehind s (p .edges .end) (p .inputs)
+  pub outputs : LiesBehind s (p .inputs .end) (p .outputs)
+  pub measurements : LiesBehind s (p .outputs .end) (p .measurements)
 
 abbrev pub JobInside : List ℕ → JobRead → Type 0
 JobInside s (Job p) = JobLies s p
@@ -97,10 +106,11 @@ abbrev pub flowOfRead : List ℕ → FlowRead → Answer FlowFile
 flowOfRead s (Flow p) = gives (flowAt s p)
 flowOfRead s (NoFlow q) = refuses (refusalOf q)
 
-pub record FlowLies (s : List ℕ) (p : FlowPlaces) : Type 0 where
-  pub layers : Lies s (p .layers)
-  pub sets : Lies s (p .sets)
+-- its first record starts at `at`
+pub record FlowLies (s : List ℕ) (at : ℕ) (p : FlowPlaces) : Type 0 where
+  pub layers : LiesBehind s at (p .layers)
+  pub sets : LiesBehind s (p .layers .end) (p .sets)
 
-abbrev pub FlowInside : List ℕ → FlowRead → Type 0
-FlowInside s (Flow p) = FlowLies s p
-FlowInside s (NoFlow q) = Unit
+abbrev pub FlowInside : List ℕ → (at : ℕ) → FlowRead → Type 0
+FlowInside s at (Flow p) = FlowLies s at p
+FlowInside s at (NoFlow q) = Unit

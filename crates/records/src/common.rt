@@ -5,14 +5,14 @@ ghost use Prim.Native.Nat.{_+_, _%_, _<_, _≤_};
 ghost use lib.Dec.{eqb, leb, ltb};
 ghost use lib.ListN.{length, getD, drop};
 ghost use Rattle.nodes.specs.NodeSet.{member, highest};
-ghost use Rattle.records.specs.Answer.{passed};
+ghost use Rattle.answers.specs.Answer.{passed};
 ghost use Rattle.records.specs.Records.{lengthField, kindField, headBytes, part, checked};
 ghost use Rattle.nodes.specs.Lists.{has};
 ghost use Rattle.nodes.specs.Row.{count};
 ghost use Rattle.records.specs.JobFile.{mostNodes, all, rises, pairsRise, highestOf, allAllowed, openNo, edgesNo, nodesNo, measurementsNo, readJob, readEdges, readInputs, readOutputs, readMeasurements};
 ghost use Rattle.records.specs.FlowFile.{entriesOf, framed, listed, allEntries, entryBelow, entriesRise, layersNo, setsNo, readFlow, readSets};
 ghost use Rattle.records.specs.Refusals.{refusalOf, numbersIn};
-ghost use Rattle.records.specs.Views.{bytesAt, Lies, checkedOf, askOf, partOf, Inside, jobOfRead, JobInside, flowOfRead, FlowInside};
+ghost use Rattle.records.specs.Views.{bytesAt, LiesBehind, openingBytes, checkedOf, askOf, partOf, Inside, jobOfRead, JobInside, flowOfRead, FlowInside};
 use flows::PAULI_Z;
 use flows::PLANE_XY;
 use flows::PLANE_XZ;
@@ -24,19 +24,19 @@ pub const HEAD_BYTES: usize = 6;
 // The bytes of an entry's node and count.
 pub const ENTRY_HEAD_BYTES: usize = 2;
 
-pub const KIND_OPEN: u16 = 0x0001;
+const KIND_OPEN: u16 = 0x0001;
 
-pub const KIND_EDGES: u16 = 0x0002;
+const KIND_EDGES: u16 = 0x0002;
 
-pub const KIND_INPUTS: u16 = 0x0003;
+const KIND_INPUTS: u16 = 0x0003;
 
-pub const KIND_OUTPUTS: u16 = 0x0004;
+const KIND_OUTPUTS: u16 = 0x0004;
 
-pub const KIND_MEASUREMENTS: u16 = 0x0005;
+const KIND_MEASUREMENTS: u16 = 0x0005;
 
 pub const KIND_LAYERS: u16 = 0x0011;
 
-pub const KIND_SETS: u16 = 0x0012;
+pub(crate) const KIND_SETS: u16 = 0x0012;
 
 pub const KIND_NO_FLOW: u16 = 0x0013;
 
@@ -44,7 +44,7 @@ pub const KIND_ACCEPTED: u16 = 0x0014;
 
 pub const KIND_REFUSAL: u16 = 0x001F;
 
-pub const MOST_NODES: u8 = 128;
+const MOST_NODES: u8 = 128;
 
 pub const MODE_CAUSAL: u8 = 1;
 
@@ -205,7 +205,7 @@ fn kind_field(file: &[u8], at: usize) -> usize
 // Are six bytes left with the expected kind (1)? Is the whole payload there (2)?
 fn head(file: &[u8], at: usize, kind: u16) -> Found
     ensures { λ r. ⌜ partOf (now (file .entry)) r ≡ part kind (drop at (now (file .entry))) ⌝ }
-    ensures { λ r. ⌜ Inside (now (file .entry)) r ⌝ }
+    ensures { λ r. ⌜ Inside (now (file .entry)) at r ⌝ }
 {
     let len = file.len();
     if len < HEAD_BYTES {
@@ -552,7 +552,7 @@ fn ask(asks: Asks, payload: &[u8]) -> Checked
 // The record of the expected kind at this place, where its payload passes the questions of its kind.
 fn checked_record(file: &[u8], at: usize, kind: u16, asks: Asks) -> Found
     ensures { λ r. ⌜ partOf (now (file .entry)) r ≡ checked kind (askOf asks) (drop at (now (file .entry))) ⌝ }
-    ensures { λ r. ⌜ Inside (now (file .entry)) r ⌝ }
+    ensures { λ r. ⌜ Inside (now (file .entry)) at r ⌝ }
 {
     match head(file, at, kind) {
         Found::Payload(place) => {
@@ -578,7 +578,7 @@ fn read_measurements(
     outputs: Place,
 ) -> JobRead
     requires { ⌜ (n ≤ mostNodes) × (nodesNo n (bytesAt outputs (now file)) ≡ 0) ⌝ }
-    requires { ⌜ Lies (now file) edges × Lies (now file) inputs × Lies (now file) outputs ⌝ }
+    requires { ⌜ LiesBehind (now file) openingBytes edges × LiesBehind (now file) (edges .end) inputs × LiesBehind (now file) (inputs .end) outputs ⌝ }
     ensures { λ r. ⌜ jobOfRead (now (file .entry)) r ≡ readMeasurements n mode (bytesAt edges (now (file .entry))) (bytesAt inputs (now (file .entry))) (bytesAt outputs (now (file .entry))) (drop (outputs .end) (now (file .entry))) ⌝ }
     ensures { λ r. ⌜ JobInside (now (file .entry)) r ⌝ }
 {
@@ -606,7 +606,7 @@ fn read_measurements(
 
 fn read_outputs(file: &[u8], n: usize, mode: u8, edges: Place, inputs: Place) -> JobRead
     requires { ⌜ n ≤ mostNodes ⌝ }
-    requires { ⌜ Lies (now file) edges × Lies (now file) inputs ⌝ }
+    requires { ⌜ LiesBehind (now file) openingBytes edges × LiesBehind (now file) (edges .end) inputs ⌝ }
     ensures { λ r. ⌜ jobOfRead (now (file .entry)) r ≡ readOutputs n mode (bytesAt edges (now (file .entry))) (bytesAt inputs (now (file .entry))) (drop (inputs .end) (now (file .entry))) ⌝ }
     ensures { λ r. ⌜ JobInside (now (file .entry)) r ⌝ }
 {
@@ -619,7 +619,7 @@ fn read_outputs(file: &[u8], n: usize, mode: u8, edges: Place, inputs: Place) ->
 
 fn read_inputs(file: &[u8], n: usize, mode: u8, edges: Place) -> JobRead
     requires { ⌜ n ≤ mostNodes ⌝ }
-    requires { ⌜ Lies (now file) edges ⌝ }
+    requires { ⌜ LiesBehind (now file) openingBytes edges ⌝ }
     ensures { λ r. ⌜ jobOfRead (now (file .entry)) r ≡ readInputs n mode (bytesAt edges (now (file .entry))) (drop (edges .end) (now (file .entry))) ⌝ }
     ensures { λ r. ⌜ JobInside (now (file .entry)) r ⌝ }
 {
@@ -631,7 +631,7 @@ fn read_inputs(file: &[u8], n: usize, mode: u8, edges: Place) -> JobRead
 }
 
 fn read_edges(file: &[u8], n: usize, mode: u8, at: usize) -> JobRead
-    requires { ⌜ n ≤ mostNodes ⌝ }
+    requires { ⌜ (n ≤ mostNodes) × (at ≡ openingBytes) ⌝ }
     ensures { λ r. ⌜ jobOfRead (now (file .entry)) r ≡ readEdges n mode (drop at (now (file .entry))) ⌝ }
     ensures { λ r. ⌜ JobInside (now (file .entry)) r ⌝ }
 {
@@ -659,13 +659,13 @@ pub fn read_job(file: &[u8]) -> JobRead
 
 // ---- A flow: the records of layers and of sets.
 
-fn read_sets(file: &[u8], n: usize, layers: Place) -> FlowRead
-    requires { ⌜ Lies (now file) layers ⌝ }
+fn read_sets(file: &[u8], at: usize, n: usize, layers: Place) -> FlowRead
+    requires { ⌜ LiesBehind (now file) at layers ⌝ }
     ensures { λ r. ⌜ flowOfRead (now (file .entry)) r ≡ readSets n (bytesAt layers (now (file .entry))) (drop (layers .end) (now (file .entry))) ⌝ }
-    ensures { λ r. ⌜ FlowInside (now (file .entry)) r ⌝ }
+    ensures { λ r. ⌜ FlowInside (now (file .entry)) at r ⌝ }
 {
-    let at = layers.end;
-    match checked_record(file, at, KIND_SETS, Asks::Sets(n)) {
+    let end = layers.end;
+    match checked_record(file, end, KIND_SETS, Asks::Sets(n)) {
         Found::Payload(sets) => FlowRead::Flow(FlowPlaces { layers, sets }),
         Found::Refused(q) => FlowRead::Refused(q),
     }
@@ -674,10 +674,10 @@ fn read_sets(file: &[u8], n: usize, layers: Place) -> FlowRead
 // The flow for n nodes that starts at this place.
 pub fn read_flow(file: &[u8], at: usize, n: usize) -> FlowRead
     ensures { λ r. ⌜ flowOfRead (now (file .entry)) r ≡ readFlow n (drop at (now (file .entry))) ⌝ }
-    ensures { λ r. ⌜ FlowInside (now (file .entry)) r ⌝ }
+    ensures { λ r. ⌜ FlowInside (now (file .entry)) at r ⌝ }
 {
     match checked_record(file, at, KIND_LAYERS, Asks::Layers(n)) {
-        Found::Payload(layers) => read_sets(file, n, layers),
+        Found::Payload(layers) => read_sets(file, at, n, layers),
         Found::Refused(q) => FlowRead::Refused(q),
     }
 }

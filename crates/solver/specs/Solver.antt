@@ -2,11 +2,12 @@
 use Prim.Native.Nat.{ℕ, _+_, _*_, _<_}
 use mathlib.Core.Path.{_≡_}
 use mathlib.Core.Logic.{_↔_}
-use mathlib.Core.Bool.{Bool, true, false, cond, _&&_}
+use mathlib.Core.Bool.{Bool, true, false, _&&_}
 use mathlib.Core.List.{List}
 use mathlib.Core.Option.{Option, none, some}
 use lib.Dec.{T, eqb, leb, ltb}
 use lib.ListN.{length}
+use Rattle.answers.specs.Answer.{Answer, gives, refuses, refusal, asks, _>>_}
 use Rattle.nodes.specs.NodeSet.{member}
 use Rattle.solver.specs.System.{Solves, solve, pivot}
 use Rattle.solver.specs.Reduced.{Reduced, readOff}
@@ -58,10 +59,6 @@ wellShaped matrix out rows cols sides =
 abbrev pub equationExists : ℕ → ℕ → Bool
 equationExists sides side = ltb side sides
 
--- both have a yes, and the call goes ahead
-abbrev pub solverAccepts : List ℕ → List ℕ → ℕ → ℕ → ℕ → ℕ → Bool
-solverAccepts matrix out rows cols sides side = wellShaped matrix out rows cols sides && equationExists sides side
-
 -- ---- what the matrix holds after an elimination, which no definition decides: as many bytes, still no bit beyond the
 -- width, each right side keeps the solutions it had and so its answer, and the coefficients are in reduced form
 pub record Eliminated (rows cols sides : ℕ) (before after : List ℕ) : Type 0 where
@@ -75,51 +72,58 @@ pub record Eliminated (rows cols sides : ℕ) (before after : List ℕ) : Type 0
       ≡ solve (systemOf rowBytes before rows) cols (sideOf rowBytes before cols side)
   pub reduced : Reduced rows cols (entryOf rowBytes after)
 
--- the matrix after a call: eliminated where the call refuses nothing, and else untouched
-abbrev pub MatrixAfter : Bool → ℕ → ℕ → ℕ → List ℕ → List ℕ → Type 0
-MatrixAfter true rows cols sides before after = Eliminated rows cols sides before after
-MatrixAfter false rows cols sides before after = after ≡ before
+-- ---- the answers, with document 01's number of a refusal
+-- the members of the set that an elimination gives
+abbrev pub eliminationOf : Elimination → Answer (ℕ → Bool)
+eliminationOf (Pivots s) = gives (member s)
+eliminationOf Refused = refuses (refusal 11)
+
+-- solvable or not
+abbrev pub solvedOf : Solved → Answer Bool
+solvedOf Solvable = gives true
+solvedOf Unsolvable = gives false
+solvedOf WrongShape = refuses (refusal 11)
+solvedOf NoSuchEquation = refuses (refusal 12)
 
 -- ---- the calls
--- the members of the set that an elimination gives
-abbrev pub pivotsOf : Elimination → Option (ℕ → Bool)
-pivotsOf (Pivots s) = some (member s)
-pivotsOf Refused = none
+-- the matrix after a call: eliminated where the call refuses nothing, and else untouched
+abbrev pub MatrixAfter : {A : Type 0} → Answer A → (rows cols sides : ℕ) (before after : List ℕ) → Type 0
+MatrixAfter (gives a) rows cols sides before after = Eliminated rows cols sides before after
+MatrixAfter (refuses r) rows cols sides before after = after ≡ before
 
--- the pivot columns, and nothing for a wrong shape
-unfoldable pub eliminateCall : List ℕ → ℕ → ℕ → ℕ → Option (ℕ → Bool)
-eliminateCall matrix rows cols sides =
-    cond (fits matrix rows cols sides) (some (λ k. ltb k cols && pivot (systemOf rowBytes matrix rows) k)) none
+-- the pivot columns
+unfoldable pub eliminateCall : (matrix : List ℕ) (rows cols sides : ℕ) → Answer (ℕ → Bool)
+eliminateCall matrix rows cols sides = do
+  asks 11 (fits matrix rows cols sides)
+  gives (λ k. ltb k cols && pivot (systemOf rowBytes matrix rows) k)
+
+-- what is read off the rows as they lie
+unfoldable pub readOffAsks : (matrix out : List ℕ) (rows cols sides side : ℕ) → Answer (Option (ℕ → Bool))
+readOffAsks matrix out rows cols sides side = do
+  asks 11 (bothFit matrix out rows cols sides)
+  asks 12 (equationExists sides side)
+  gives (readOff rows cols (entryOf rowBytes matrix) (sideOf rowBytes matrix cols side))
+
+-- the solution of the equations
+unfoldable pub solveAsks : (matrix out : List ℕ) (rows cols sides side : ℕ) → Answer (Option (ℕ → Bool))
+solveAsks matrix out rows cols sides side = do
+  asks 11 (wellShaped matrix out rows cols sides)
+  asks 12 (equationExists sides side)
+  gives (solve (systemOf rowBytes matrix rows) cols (sideOf rowBytes matrix cols side))
 
 -- an answer, and the out bits as they are left
 pub record Outcome : Type 0 where
-  pub answer : Solved
+  pub answer : Answer Bool
   pub out : List ℕ
 
--- a solution is written, 'no solution' keeps the out bits
-abbrev pub outcome : Option (ℕ → Bool) → List ℕ → Outcome
-outcome none out = record { answer = Unsolvable; out = out }
-outcome (some x) out = record { answer = Solvable; out = bytesOf rowBytes x }
+-- a solution is written; 'no solution' and a refusal keep the out bits
+abbrev pub outcome : Answer (Option (ℕ → Bool)) → List ℕ → Outcome
+outcome (refuses r) out = record { answer = refuses r; out = out }
+outcome (gives none) out = record { answer = gives false; out = out }
+outcome (gives (some x)) out = record { answer = gives true; out = bytesOf rowBytes x }
 
-unfoldable pub readOffCall : List ℕ → List ℕ → ℕ → ℕ → ℕ → ℕ → Outcome
-readOffCall matrix out rows cols sides side =
-    cond (bothFit matrix out rows cols sides)
-    (cond (equationExists sides side)
-    (outcome (readOff rows cols (entryOf rowBytes matrix) (sideOf rowBytes matrix cols side)) out)
-    (record { answer = NoSuchEquation; out = out }))
-    (record { answer = WrongShape; out = out })
+abbrev pub readOffCall : (matrix out : List ℕ) (rows cols sides side : ℕ) → Outcome
+readOffCall matrix out rows cols sides side = outcome (readOffAsks matrix out rows cols sides side) out
 
-unfoldable pub solveCall : List ℕ → List ℕ → ℕ → ℕ → ℕ → ℕ → Outcome
-solveCall matrix out rows cols sides side =
-    cond (wellShaped matrix out rows cols sides)
-    (cond (equationExists sides side)
-    (outcome (solve (systemOf rowBytes matrix rows) cols (sideOf rowBytes matrix cols side)) out)
-    (record { answer = NoSuchEquation; out = out }))
-    (record { answer = WrongShape; out = out })
-
--- the number of document 01: 11 and 12, and 0 for an answer
-abbrev pub solverNumber : Solved → ℕ
-solverNumber WrongShape = 11
-solverNumber NoSuchEquation = 12
-solverNumber Solvable = 0
-solverNumber Unsolvable = 0
+abbrev pub solveCall : (matrix out : List ℕ) (rows cols sides side : ℕ) → Outcome
+solveCall matrix out rows cols sides side = outcome (solveAsks matrix out rows cols sides side) out

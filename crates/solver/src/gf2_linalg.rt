@@ -5,14 +5,15 @@ ghost use mathlib.Core.Bool.{true, false, _&&_, _||_};
 ghost use Prim.Native.Nat.{_+_, _-_, _*_, _<_, _≤_};
 ghost use lib.ListN.{length};
 ghost use lib.Dec.{eqb, ltb};
+ghost use Rattle.answers.specs.Answer.{gives};
 ghost use Rattle.nodes.specs.Row.{lowestFrom};
 ghost use Rattle.nodes.specs.NodeSet.{member};
 ghost use Rattle.solver.specs.Reduced.{lead, leads};
 ghost use Rattle.solver.specs.WorkMatrix.{entryOf, nothingBeyond, bytesOf};
 ghost use Rattle.solver.specs.Steps.{xorRow, brought, clearOne, clearColumn, column, eliminated};
 ghost use Rattle.solver.specs.Steps.{inVain, noSolution, readColumn, leadBytes, withBit, rowEnds};
-ghost use Rattle.solver.specs.Solver.{rowBytes, mostColumns, fits, bothFit, wellShaped, solverAccepts};
-ghost use Rattle.solver.specs.Solver.{MatrixAfter, pivotsOf, eliminateCall, outcome, readOffCall, solveCall};
+ghost use Rattle.solver.specs.Solver.{rowBytes, mostColumns, fits, bothFit, wellShaped};
+ghost use Rattle.solver.specs.Solver.{MatrixAfter, eliminationOf, solvedOf, eliminateCall, outcome, readOffCall, solveAsks, solveCall};
 use nodes::utils::NodeSet;
 use nodes::utils::mask;
 
@@ -265,8 +266,8 @@ fn put_leads(matrix: &[u8], out: &mut [u8], rows: usize, cols: usize, asked: usi
 fn answer(matrix: &[u8], out: &mut [u8], rows: usize, cols: usize, asked: usize) -> Solved
     requires { ⌜ (rows * rowBytes ≤ length (now matrix)) × (cols ≤ mostColumns) × (asked < mostColumns)
         × (length (now out) ≡ rowBytes) ⌝ }
-    ensures { λ r. ⌜ record { answer = r; out = now (out .exit) }
-        ≡ outcome (readColumn rowBytes (now (matrix .entry)) rows cols asked) (now (out .entry)) ⌝ }
+    ensures { λ r. ⌜ record { answer = solvedOf r; out = now (out .exit) }
+        ≡ outcome (gives (readColumn rowBytes (now (matrix .entry)) rows cols asked)) (now (out .entry)) ⌝ }
 {
     if no_solution(matrix, rows, cols, asked) {
         return Solved::Unsolvable;
@@ -353,8 +354,8 @@ fn well_shaped(matrix: &[u8], out: &[u8], rows: usize, cols: usize, sides: usize
 
 // The matrix is brought to reduced form by adding rows to each other; the answer is the set of its pivot columns.
 pub fn eliminate(matrix: &mut [u8], rows: usize, cols: usize, sides: usize) -> Elimination
-    ensures { λ r. ⌜ pivotsOf r ≡ eliminateCall (now (matrix .entry)) rows cols sides ⌝ }
-    ensures { λ _. ⌜ MatrixAfter (fits (now (matrix .entry)) rows cols sides) rows cols sides
+    ensures { λ r. ⌜ eliminationOf r ≡ eliminateCall (now (matrix .entry)) rows cols sides ⌝ }
+    ensures { λ _. ⌜ MatrixAfter (eliminateCall (now (matrix .entry)) rows cols sides) rows cols sides
         (now (matrix .entry)) (now (matrix .exit)) ⌝ }
 {
     if !matrix_fits(matrix, rows, cols, sides) {
@@ -373,7 +374,7 @@ pub fn read_off(
     sides: usize,
     side: usize,
 ) -> Solved
-    ensures { λ r. ⌜ record { answer = r; out = now (out .exit) }
+    ensures { λ r. ⌜ record { answer = solvedOf r; out = now (out .exit) }
         ≡ readOffCall (now (matrix .entry)) (now (out .entry)) rows cols sides side ⌝ }
 {
     if !both_fit(matrix, out, rows, cols, sides) {
@@ -394,9 +395,9 @@ pub fn solve_in_place(
     sides: usize,
     side: usize,
 ) -> Solved
-    ensures { λ r. ⌜ record { answer = r; out = now (out .exit) }
+    ensures { λ r. ⌜ record { answer = solvedOf r; out = now (out .exit) }
         ≡ solveCall (now (matrix .entry)) (now (out .entry)) rows cols sides side ⌝ }
-    ensures { λ _. ⌜ MatrixAfter (solverAccepts (now (matrix .entry)) (now (out .entry)) rows cols sides side) rows cols sides
+    ensures { λ _. ⌜ MatrixAfter (solveAsks (now (matrix .entry)) (now (out .entry)) rows cols sides side) rows cols sides
         (now (matrix .entry)) (now (matrix .exit)) ⌝ }
 {
     if !well_shaped(matrix, out, rows, cols, sides) {

@@ -13,7 +13,7 @@ use Rattle.nodes.specs.NodeSet.{highest, capacity}
 use Rattle.nodes.proofs.Logic.{is-true, is-false, from-true, from-false, and-l, and-r, lt-or-ge}
 use Rattle.nodes.proofs.Row.{any-in}
 use Rattle.nodes.proofs.Members.{lowest-none, lowest-member}
-use Rattle.records.specs.Answer.{Refusal}
+use Rattle.answers.specs.Answer.{Refusal}
 use Rattle.verdicts.specs.Verdict.{ask, _next_, eachFrom, each}
 use Rattle.tables.specs.Loaded.{within, firstIn}
 use Rattle.verdicts.proofs.Questions.{each-in}

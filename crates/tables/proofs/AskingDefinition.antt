@@ -15,7 +15,7 @@ use Rattle.nodes.proofs.Row.{any-in}
 use Rattle.nodes.proofs.Members.{lowest-none, lowest-member}
 use Rattle.nodes.proofs.Remove.{removed, removed-other, removed-same}
 use Rattle.flows.specs.Job.{Job, odd}
-use Rattle.records.specs.Answer.{Refusal}
+use Rattle.answers.specs.Answer.{Refusal}
 use Rattle.records.specs.JobFile.{modeCausal, modePlanes, modePauli}
 use Rattle.records.specs.FlowFile.{Flow}
 use Rattle.verdicts.specs.Verdict.{_next_, each, later, laterAsk, memberAsk, oddAsk, yAsk, ownAsk, nodeAsk, neighbourAsk, adjacentAsk, causalAsk, causalNodeAsk, measuredAsk, definitionAsk, checkDomain, checkInitial, checkDefinition, verify}

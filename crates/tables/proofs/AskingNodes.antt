@@ -13,7 +13,7 @@ use Rattle.nodes.specs.Row.{anyBelow, parity}
 use Rattle.nodes.specs.NodeSet.{highest, capacity}
 use Rattle.nodes.proofs.Logic.{and-l, and-r, and-in, and-none, and-all, or-none, beq-eq, lt-or-ge, le-or-lt}
 use Rattle.nodes.proofs.Row.{any-in, any-out, parity-ext, parity-past, parity-none}
-use Rattle.records.specs.Answer.{Refusal}
+use Rattle.answers.specs.Answer.{Refusal}
 use Rattle.verdicts.specs.Verdict.{ask, each}
 use Rattle.tables.specs.Loaded.{within, firstIn}
 use Rattle.tables.proofs.Asking.{within-yes, each-first}

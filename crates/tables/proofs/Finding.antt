@@ -20,10 +20,12 @@ use Rattle.flows.specs.Search.{Progress, found}
 use Rattle.flows.specs.Planes as Planes
 use Rattle.flows.specs.Paulis as Paulis
 use Rattle.finder.specs.Finder.{jobIn, sizesFit, layerBytes, setTable, progressAt}
-use Rattle.finder.specs.Finding.{isPlane, planesGiven, answerOf, searched, refused, searchCall}
+use Rattle.finder.specs.Finding.{isPlane, planesGiven, searchOf, searched, refused, searchCall}
+use Rattle.finder.specs.declared.gflow.Search.{Search}
 use Rattle.finder.specs.declared.gflow.Search.the-variants.{Flow, NoFlow, WrongArguments}
 use Rattle.finder.proofs.Below.{progress-below}
-use Rattle.records.specs.Answer.{Refusal, Answer, gives, refuses, refusal}
+use Rattle.answers.specs.Answer.{Refusal, Answer, gives, refuses, refusal}
+use Rattle.answers.proofs.Answer.{give-inj, never}
 use Rattle.records.specs.Records.{written, kindNoFlow}
 use Rattle.nodes.specs.Lists.{has}
 use Rattle.records.specs.JobFile.{JobFile, joined, readJob, modePlanes, modePauli, measuredOf, jobOf}
@@ -50,27 +52,15 @@ put-is b out answer o w work p q e = rw (p, q, e) (by (leb (length b) (length ou
     by false = refl
 
 -- what a search's answer says
-module _ (n : ℕ) (solved : ℕ → Bool) where
-  pub told-flow : answerOf n solved ≡ Flow → allBelow n solved ≡ true
-  told-flow e = by (allBelow n solved) e
-    where
-      by : (b : Bool) → cond b Flow NoFlow ≡ Flow → b ≡ true
-      by true e = refl
-      by false e = cc
+module _ (b : Bool) (r : Search) (e : searchOf r ≡ gives b) where
+  pub told-flow : r ≡ Flow → b ≡ true
+  told-flow h = sym (give-inj (rw h at e))
 
-  pub told-none : answerOf n solved ≡ NoFlow → allBelow n solved ≡ false
-  told-none e = by (allBelow n solved) e
-    where
-      by : (b : Bool) → cond b Flow NoFlow ≡ NoFlow → b ≡ false
-      by true e = cc
-      by false e = refl
+  pub told-none : r ≡ NoFlow → b ≡ false
+  told-none h = sym (give-inj (rw h at e))
 
-  pub told-right : answerOf n solved ≡ WrongArguments → ⊥
-  told-right e = by (allBelow n solved) e
-    where
-      by : (b : Bool) → cond b Flow NoFlow ≡ WrongArguments → ⊥
-      by true e = let z : _≡_ {A = ℕ} 0 1 = cc in omega arith
-      by false e = let z : _≡_ {A = ℕ} 0 1 = cc in omega arith
+  pub told-right : r ≡ WrongArguments → ⊥
+  told-right h = never (rw h at e)
 
 -- ---- a job that was read
 module _ (s : List ℕ) (f : JobFile) (read : readJob s ≡ gives f) where

@@ -10,7 +10,7 @@ use lib.Dec.{eqb, ltb}
 use lib.ListN.{length, getD}
 use Rattle.nodes.specs.NodeSet.{capacity}
 use Rattle.flows.specs.Job.{Job}
-use Rattle.records.specs.Answer.{Refusal, refusal, gives, refuses}
+use Rattle.answers.specs.Answer.{Refusal, refusal, gives, refuses}
 use Rattle.records.specs.Records.{written, kindAccepted}
 use Rattle.nodes.specs.Lists.{has}
 use Rattle.records.specs.JobFile.{JobFile, mostNodes, modeCausal, measuredOf, all, joined, readJob, jobOf}
@@ -49,8 +49,8 @@ module _ (s t : List ℕ) (n : ℕ) (r : FlowRead) (e : flowOfRead s r ≡ readF
   pub flow-not : (q : Refused) → r ≡ NoFlow q → readFlow n t ≡ refuses (refusalOf q)
   flow-not q h = sym e ∙ ap (flowOfRead s) h
 
-pub flow-inside : (s : List ℕ) (r : FlowRead) → FlowInside s r → (p : FlowPlaces) → r ≡ AFlow p → FlowLies s p
-flow-inside s r h p t = rw t at h
+pub flow-inside : (s : List ℕ) (at : ℕ) (r : FlowRead) → FlowInside s at r → (p : FlowPlaces) → r ≡ AFlow p → FlowLies s at p
+flow-inside s at r h p t = rw t at h
 
 -- ---- every node that was read fits a set
 pub entries-fit : (n : ℕ) (es : List SetEntry) → n ≤ mostNodes → allEntries (entryBelow n) es ≡ true → allEntries (entryBelow capacity) es ≡ true

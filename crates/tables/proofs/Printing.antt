@@ -13,12 +13,13 @@ use lib.ListN.{length, take, drop}
 use lib.Seq.{take-all, take-length}
 use Rattle.nodes.proofs.Logic.{is-true, le-or-lt}
 use Rattle.flows.specs.Search.{Progress}
-use Rattle.records.specs.Answer.{Refusal, Answer, gives, refuses}
+use Rattle.answers.specs.Answer.{Refusal, Answer, gives, refuses}
 use Rattle.records.specs.Records.{written, kindNoFlow, kindAccepted, kindRefusal}
 use Rattle.records.specs.JobFile.{JobFile, mostNodes, jobOf, measuredOf}
 use Rattle.records.specs.Writing.{flowBytes, mostOutput}
 use Rattle.records.specs.Splice.{putFirst}
-use Rattle.records.proofs.Records.{give-inj, never, written-length}
+use Rattle.answers.proofs.Answer.{give-inj, never}
+use Rattle.records.proofs.Records.{written-length}
 use Rattle.records.proofs.JobFile.{job-asked}
 use Rattle.records.proofs.Writing.{found-most}
 use Rattle.nodes.specs.SetTable.{zeros}

@@ -11,7 +11,7 @@ use Rattle.nodes.specs.NodeSet.{member, highest, capacity}
 use Rattle.nodes.specs.SetTable.{setAt}
 use Rattle.nodes.specs.declared.utils.NodeSet.{NodeSet}
 use Rattle.flows.specs.Job.{pauliY, isXorY, isYorZ}
-use Rattle.records.specs.Answer.{Refusal, Answer, _>>_}
+use Rattle.answers.specs.Answer.{Refusal, Answer, _>>_}
 use Rattle.records.specs.JobFile.{JobFile, measuredOf, jobOf}
 use Rattle.records.specs.FlowFile.{FlowFile, Flow, nothingLeft, oneMember, flowOf}
 use Rattle.verdicts.specs.Verdict.{verify}

@@ -5,7 +5,7 @@ use mathlib.Core.Option.{Option, none, some}
 use mathlib.Core.List.{List, _++_}
 use lib.Dec.{leb}
 use lib.ListN.{length, take, drop}
-use Rattle.records.specs.Answer.{Answer, gives, refuses}
+use Rattle.answers.specs.Answer.{Answer, gives, refuses}
 use Rattle.records.specs.Writing.{mostOutput}
 use Rattle.nodes.specs.SetTable.{zeros}
 use Rattle.solver.specs.Solver.{workBytes}

@@ -8,7 +8,7 @@ use lib.ListN.{take}
 use Rattle.nodes.specs.Row.{members}
 use Rattle.nodes.specs.NodeSet.{highest, capacity}
 use Rattle.nodes.specs.SetTable.{setAt}
-use Rattle.records.specs.Answer.{Answer, gives, refuses, refusal}
+use Rattle.answers.specs.Answer.{Answer, gives, refuses, refusal}
 use Rattle.records.specs.Refusals.{refusalOf}
 use Rattle.records.specs.Writing.{flowRecords}
 use Rattle.tables.specs.declared.Reply.{Reply}

@@ -5,8 +5,8 @@ ghost use Prim.Native.Nat.{_≤_};
 ghost use lib.Dec.{eqb, leb};
 ghost use lib.ListN.{length};
 ghost use Rattle.nodes.specs.NodeSet.{member, highest};
-ghost use Rattle.finder.specs.Finding.{searchCall};
-ghost use Rattle.records.specs.Answer.{gives};
+ghost use Rattle.finder.specs.Finding.{searchOf, searchCall};
+ghost use Rattle.answers.specs.Answer.{gives};
 ghost use Rattle.nodes.specs.Lists.{has};
 ghost use Rattle.records.specs.JobFile.{readJob, modePlanes, modePauli};
 ghost use Rattle.records.specs.Views.{bytesAt, Lies, fileAt, JobLies};
@@ -70,7 +70,7 @@ fn search(
     layers: &mut [u8],
     sets: &mut [u64],
 ) -> Search
-    ensures { λ r. ⌜ record { answer = r; work = now (work .exit); layers = now (layers .exit); sets = now (sets .exit) } ≡ searchCall (not (eqb mode modePlanes)) n (now (graph .entry)) inputs outputs (now (measured .entry)) (now (work .entry)) (now (layers .entry)) (now (sets .entry)) ⌝ }
+    ensures { λ r. ⌜ record { answer = searchOf r; work = now (work .exit); layers = now (layers .exit); sets = now (sets .exit) } ≡ searchCall (not (eqb mode modePlanes)) n (now (graph .entry)) inputs outputs (now (measured .entry)) (now (work .entry)) (now (layers .entry)) (now (sets .entry)) ⌝ }
 {
     if mode == MODE_PLANES {
         return gflow::find(graph, n, inputs, outputs, measured, work, layers, sets);

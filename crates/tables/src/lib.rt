@@ -106,7 +106,7 @@ fn verify_flow(
     inputs: NodeSet,
     outputs: NodeSet,
 ) -> Asked
-    requires { ⌜ JobLies (now file) job × FlowLies (now file) flow ⌝ }
+    requires { ⌜ JobLies (now file) job × FlowLies (now file) (job .measurements .end) flow ⌝ }
     requires { ⌜ ValidJob (fileAt (now file) job) × ValidFlow (job .n) (flowAt (now file) flow) ⌝ }
     ensures { λ r. ⌜ askedOf r ≡ verifyOf (jobIn (job .n) (now (graph .entry)) inputs outputs (measuredOf (fileAt (now (file .entry)) job) .measurements)) (flowOf (flowAt (now (file .entry)) flow)) (measuredOf (fileAt (now (file .entry)) job) .mode) ⌝ }
 {
@@ -139,7 +139,7 @@ fn verify_flow(
 
 // The job's graph goes into a table, its inputs and outputs into sets.
 fn verify_job(file: &[u8], job: JobPlaces, flow: FlowPlaces) -> Asked
-    requires { ⌜ JobLies (now file) job × FlowLies (now file) flow ⌝ }
+    requires { ⌜ JobLies (now file) job × FlowLies (now file) (job .measurements .end) flow ⌝ }
     requires { ⌜ ValidJob (fileAt (now file) job) × ValidFlow (job .n) (flowAt (now file) flow) ⌝ }
     ensures { λ r. ⌜ askedOf r ≡ verifyOf (jobOf (fileAt (now (file .entry)) job)) (flowOf (flowAt (now (file .entry)) flow)) (measuredOf (fileAt (now (file .entry)) job) .mode) ⌝ }
 {
@@ -171,7 +171,7 @@ fn one_each(mode: u8, sets: &[u8]) -> bool
 
 // Is nothing left (8)? Then 9, and the questions on the flow.
 fn verify_read(file: &[u8], job: JobPlaces, flow: FlowPlaces) -> Asked
-    requires { ⌜ JobLies (now file) job × FlowLies (now file) flow ⌝ }
+    requires { ⌜ JobLies (now file) job × FlowLies (now file) (job .measurements .end) flow ⌝ }
     requires { ⌜ ValidJob (fileAt (now file) job) × ValidFlow (job .n) (flowAt (now file) flow) ⌝ }
     ensures { λ r. ⌜ verdict (askedOf r) ≡ flowAsks (fileAt (now (file .entry)) job) (flowAt (now (file .entry)) flow) ⌝ }
 {

@@ -30,9 +30,9 @@ const SET_WORDS: usize = TABLE_WORDS / CAPACITY;
 const WORD_NODES: usize = CAPACITY / SET_WORDS;
 
 // The mode and the measurements to work with.
-pub struct Measured {
-    pub mode: u8,
-    pub measurements: Place,
+pub(crate) struct Measured {
+    pub(crate) mode: u8,
+    pub(crate) measurements: Place,
 }
 
 // Today those of the file.

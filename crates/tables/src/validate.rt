@@ -25,7 +25,7 @@ use nodes::utils::set_at;
 use records::common::MODE_PAULI;
 use records::common::Refused;
 
-pub enum Asked {
+pub(crate) enum Asked {
     Passed,
     Refused(Refused),
 }

@@ -10,11 +10,11 @@ use Rattle.nodes.specs.Bit.{bit}
 use Rattle.nodes.specs.Row.{parity, anyBelow, allBelow, count, lowestFrom, membersFrom}
 use Rattle.solver.specs.System.{solve}
 use Rattle.solver.specs.WorkMatrix.{entryOf, digits, listOf}
-use Rattle.solver.specs.Solver.{fits, bothFit, wellShaped, solveCall}
+use Rattle.solver.specs.Solver.{fits, bothFit, wellShaped, solveAsks}
 use Rattle.flows.specs.Job.{Job, odd, own, planeXY, planeYZ, planeXZ}
 use Rattle.flows.specs.Branch.{branches, firstSolvable}
 use Rattle.flows.specs.Search.{rounds}
-use Rattle.records.specs.Answer.{gives}
+use Rattle.answers.specs.Answer.{gives}
 use Rattle.records.specs.Records.{lengthField, part, checked, written}
 use Rattle.nodes.specs.Lists.{has}
 use Rattle.records.specs.JobFile.{JobFile, modeCausal, modePlanes, modePauli, all, rises, pairsRise, allows, allAllowed, openNo, edgesNo, nodesNo, measurementsNo, readJob, readEdges, readInputs, readOutputs, readMeasurements, joined, jobOf}
@@ -169,7 +169,7 @@ accepted-flow job flow f g reads ends inputs r a = (
 -- ---- all claims; what is answered is computed
 all-hold : AllHold cases × AllHold differences
 unfolding
-    bit parity anyBelow allBelow count lowestFrom membersFrom solve entryOf digits listOf fits bothFit wellShaped solveCall own branches firstSolvable rounds
+    bit parity anyBelow allBelow count lowestFrom membersFrom solve entryOf digits listOf fits bothFit wellShaped solveAsks own branches firstSolvable rounds
     lengthField part checked written all has rises pairsRise allows allAllowed openNo edgesNo nodesNo measurementsNo readJob readEdges readInputs readOutputs readMeasurements joined
     entriesIn allEntries entriesRise layersNo setsNo readFlow readSets setIn entryIn eachFrom nodeAsk causalAsk verify setBytes findAsks verifyAsks findProgram verifyProgram equal
 all-hold = (

@@ -20,7 +20,7 @@ use Rattle.flows.specs.Paulis as Paulis
 use Rattle.flows.specs.Conditions.{Ok}
 use Rattle.flows.proofs.Premise.{premiseAt}
 use Rattle.flows.proofs.Flows.{findAt, laterThan, Found, found-flow, found-ok, found-smallest, firstRound}
-use Rattle.records.specs.Answer.{Answer, gives, refuses, refusal, asks, _>>_}
+use Rattle.answers.specs.Answer.{Answer, gives, refuses, refusal, asks, _>>_}
 use Rattle.records.specs.Records.{written, kindNoFlow}
 use Rattle.records.specs.JobFile.{JobFile, readJob, jobOf, modeCausal, modePlanes, modePauli}
 use Rattle.records.specs.FlowFile.{FlowFile, readFlow, flowOf, nothingLeft}
@@ -32,7 +32,7 @@ use Rattle.verdicts.specs.Calls.{Outcome, put, findOutcome, findAsks, fi
 use Rattle.records.specs.Writing.{flowBytes}
 use Rattle.verdicts.specs.Published.{Measured}
 use Rattle.verdicts.specs.Demand.{premise, Accepted, FlowBytes, layerIn, DemandHolds, Demand3}
-use Rattle.records.proofs.Records.{give-inj, never, bind-out, asks-out}
+use Rattle.answers.proofs.Answer.{give-inj, never, bind-out, asks-out}
 use Rattle.records.proofs.JobFile.{job-asked, measured-range, measured-most, output-zero, measured-plane, edge-loop}
 use Rattle.records.proofs.FlowFile.{nothing-left, one-member-other}
 use Rattle.records.proofs.Writing.{found-reads, found-valid, found-layer, found-entry, found-set, no-flow-unread}

@@ -12,14 +12,15 @@ use lib.ListN.{length, getD}
 use Rattle.nodes.specs.Lists.{has}
 use Rattle.nodes.proofs.Logic.{is-true, is-false, from-true, or-l, or-r, or-all, eqb-comm}
 use Rattle.flows.specs.Job.{Job, planeXZ}
-use Rattle.records.specs.Answer.{Refusal, Answer, gives, refuses, _>>_}
+use Rattle.answers.specs.Answer.{Refusal, Answer, gives, refuses, _>>_}
 use Rattle.records.specs.JobFile.{JobFile, rises, readJob, jobOf, modeCausal, modePlanes, modePauli}
 use Rattle.records.specs.FlowFile.{SetEntry, FlowFile, allEntries, entriesRise, readFlow, flowOf, nothingLeft, oneMember, entryIn, setIn}
 use Rattle.records.specs.Encoding.{ValidJob, ValidFlow}
 use Rattle.verdicts.specs.Verdict.{verify}
 use Rattle.verdicts.specs.Calls.{verdict, verifyAsks}
 use Rattle.verdicts.specs.Published.{Measured, NoInputs, PublishedFlow, byLayer, LayerRule, Domain, CausalAccepted, AcceptedFlow}
-use Rattle.records.proofs.Records.{never, bind-out, and-out}
+use Rattle.answers.proofs.Answer.{never, bind-out}
+use Rattle.records.proofs.Records.{and-out}
 use Rattle.records.proofs.JobFile.{job-asked, job-append, measured-range, output-zero, measured-most, measured-plane}
 use Rattle.records.proofs.FlowFile.{flow-asked, set-entry, place-entry, set-at, nodes-below, members-below, nothing-left, one-member-asked, one-member-other, one-member}
 use Rattle.verdicts.proofs.Published.{one-to-three, Readable, planes-accepts, accepts-planes, paulis-accepts, accepts-paulis, causal-accepts, accepts-causal, published-conditions, conditions-published}

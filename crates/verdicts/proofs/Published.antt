@@ -15,7 +15,7 @@ use Rattle.flows.specs.Job.{Job, odd, own, isXorY, isYorZ, planeXY, planeYZ, pl
 use Rattle.flows.specs.Conditions.{Ok}
 use Rattle.flows.proofs.Flows.{laterThan}
 use Rattle.flows.proofs.Table.{needs-one}
-use Rattle.records.specs.Answer.{Refusal}
+use Rattle.answers.specs.Answer.{Refusal}
 use Rattle.records.specs.JobFile.{modeCausal, modePlanes, modePauli}
 use Rattle.records.specs.FlowFile.{Flow}
 use Rattle.verdicts.specs.Verdict as Q

@@ -8,7 +8,7 @@ use native.Mathlib.Omega.{arith}
 use native.Mathlib.Nat.{eq-or-lt-of-le}
 use lib.Dec.{T}
 use Rattle.nodes.specs.Bit.{_⊕_}
-use Rattle.records.specs.Answer.{Refusal}
+use Rattle.answers.specs.Answer.{Refusal}
 use Rattle.verdicts.specs.Verdict.{ask, _next_, eachFrom, each}
 
 pub ask-in : (c : Bool) (q a b : ℕ) → T c → ask c q a b ≡ none

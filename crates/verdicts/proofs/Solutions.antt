@@ -17,7 +17,7 @@ use Rattle.flows.specs.Search.{Progress}
 use Rattle.flows.proofs.Branch.{put-out}
 use Rattle.flows.proofs.Tries.{contextAt, tryAt, planes-context, FirstOf, try-first, branch-answer, no-column-u}
 use Rattle.flows.proofs.Flows.{findAt, laterThan, Found, found-flow, try-ext}
-use Rattle.records.specs.Answer.{Answer as Reply, gives, refuses}
+use Rattle.answers.specs.Answer.{Answer as Reply, gives, refuses}
 use Rattle.nodes.specs.Lists.{has}
 use Rattle.records.specs.JobFile.{JobFile, readJob, jobOf, modePlanes, modePauli}
 use Rattle.records.specs.FlowFile.{FlowFile, flowOf, readFlow}
@@ -27,7 +27,7 @@ use Rattle.verdicts.specs.Calls.{findCall, findAsks, findOutcome, foundB
 use Rattle.verdicts.specs.Published.{Measured}
 use Rattle.verdicts.specs.Demand.{FlowBytes, layerIn}
 use Rattle.verdicts.specs.Solutions.{contextIn, others, TheSolution, Demand2}
-use Rattle.records.proofs.Records.{give-inj, never}
+use Rattle.answers.proofs.Answer.{give-inj, never}
 use Rattle.records.proofs.FlowFile.{members-below, nodes-below}
 use Rattle.records.proofs.Writing.{found-valid, found-layer, found-entry, found-set, no-flow-unread}
 use Rattle.verdicts.proofs.Demand.{asked-find, put-fits, reads-back, wrote-none, found-cases}

@@ -11,7 +11,7 @@ use Rattle.nodes.proofs.Logic.{is-true, is-false, from-true, from-false, dec, o
 use Rattle.flows.specs.Job.{Job, odd, own, isXorY, isYorZ, pauliY}
 use Rattle.flows.specs.Conditions.{Ok}
 use Rattle.flows.proofs.Flows.{laterThan}
-use Rattle.records.specs.Answer.{Refusal}
+use Rattle.answers.specs.Answer.{Refusal}
 use Rattle.records.specs.JobFile.{modeCausal, modePauli}
 use Rattle.records.specs.FlowFile.{Flow}
 use Rattle.verdicts.specs.Verdict as Q

@@ -11,7 +11,7 @@ use Rattle.flows.specs.Job.{Job}
 use Rattle.flows.specs.Search.{Progress}
 use Rattle.flows.specs.Planes as Planes
 use Rattle.flows.specs.Paulis as Paulis
-use Rattle.records.specs.Answer.{Refusal, Answer, gives, refuses, refusal, asks, _>>=_, _>>_}
+use Rattle.answers.specs.Answer.{Refusal, Answer, gives, refuses, refusal, asks, _>>=_, _>>_}
 use Rattle.records.specs.Records.{written, kindAccepted}
 use Rattle.records.specs.Writing.{flowBytes}
 use Rattle.records.specs.JobFile.{JobFile, readJob, jobOf, measuredOf, modePlanes, modePauli}

@@ -2,18 +2,16 @@
 -- it makes: what is answered, and what the paper of the job's mode says.
 use Prim.Native.Nat.{ℕ}
 use mathlib.Core.Path.{_≡_}
-use mathlib.Core.Bool.{Bool, true, false, _&&_}
+use mathlib.Core.Bool.{Bool, true, false, _&&_, Bool·beq}
 use mathlib.Core.List.{List, [], _∷_, _++_}
 use mathlib.Core.Logic.{Lift}
 use lib.Dec.{T}
+use Rattle.answers.specs.Answer.{Answer, gives, refuses}
 use Rattle.nodes.specs.Lists.{equal}
 use Rattle.solver.specs.WorkMatrix.{listOf}
 use Rattle.solver.specs.Solver as Solver
-use Rattle.solver.specs.declared.gf2_linalg.Solved.{Solved}
-use Rattle.solver.specs.declared.gf2_linalg.Solved.the-variants.{Solvable, Unsolvable, WrongShape, NoSuchEquation}
 use Rattle.records.specs.Records.{written, kindOpen, kindEdges, kindInputs, kindOutputs, kindMeasurements, kindLayers, kindSets, kindNoFlow, kindAccepted, kindRefusal}
 use Rattle.flows.specs.Job.{Job}
-use Rattle.records.specs.Answer.{gives}
 use Rattle.records.specs.JobFile.{JobFile, readJob, jobOf}
 use Rattle.records.specs.FlowFile.{FlowFile, Flow, flowOf}
 use Rattle.verdicts.specs.Programs.{findProgram, verifyProgram}
@@ -45,15 +43,9 @@ abbrev pub acceptsAll : List ℕ → List (List ℕ) → Bool
 acceptsAll job [] = true
 acceptsAll job (f ∷ fs) = accepts job f && acceptsAll job fs
 
-abbrev pub answers : Bool → Solved → Bool
-answers true Solvable = true
-answers true Unsolvable = false
-answers true WrongShape = false
-answers true NoSuchEquation = false
-answers false Solvable = false
-answers false Unsolvable = true
-answers false WrongShape = false
-answers false NoSuchEquation = false
+abbrev pub answers : Bool → Answer Bool → Bool
+answers solvable (gives b) = Bool·beq solvable b
+answers solvable (refuses r) = false
 
 -- sixteen bytes of out bits: the first, and the others
 abbrev pub bits : ℕ → ℕ → List ℕ

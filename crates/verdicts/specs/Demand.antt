@@ -7,7 +7,7 @@ use mathlib.Core.Logic.{_↔_, _⊎_}
 use lib.Dec.{T, eqb}
 use lib.ListN.{getD, take}
 use Rattle.flows.specs.Premise.{planesPremise, paulisPremise}
-use Rattle.records.specs.Answer.{gives}
+use Rattle.answers.specs.Answer.{gives}
 use Rattle.records.specs.Records.{written, kindNoFlow}
 use Rattle.records.specs.JobFile.{JobFile, readJob, jobOf, measuredOf, modePlanes}
 use Rattle.records.specs.FlowFile.{FlowFile, readFlow}

@@ -2,7 +2,7 @@
 use Prim.Native.Nat.{ℕ}
 use mathlib.Core.List.{List, [], _∷_}
 use lib.ListN.{take}
-use Rattle.records.specs.Answer.{Refusal, Answer, gives, refuses}
+use Rattle.answers.specs.Answer.{Refusal, Answer, gives, refuses}
 use Rattle.records.specs.Records.{written, kindAccepted, kindRefusal}
 use Rattle.records.specs.JobFile.{JobFile}
 use Rattle.nodes.specs.SetTable.{zeros}

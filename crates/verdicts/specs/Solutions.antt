@@ -9,7 +9,7 @@ use Rattle.solver.specs.System.{System, Solves, Answer}
 use Rattle.flows.specs.Branch.{Context, branches, systemAt, sideAt, inSet}
 use Rattle.flows.specs.Planes as Planes
 use Rattle.flows.specs.Paulis as Paulis
-use Rattle.records.specs.Answer.{gives}
+use Rattle.answers.specs.Answer.{gives}
 use Rattle.nodes.specs.Lists.{has}
 use Rattle.records.specs.JobFile.{JobFile, readJob, jobOf, measuredOf, modePlanes}
 use Rattle.records.specs.FlowFile.{FlowFile, flowOf}

@@ -6,7 +6,7 @@ use lib.Dec.{eqb, ltb}
 use Rattle.nodes.specs.Bit.{_⊕_}
 use Rattle.nodes.specs.Row.{anyBelow}
 use Rattle.flows.specs.Job.{Job, odd, own, pauliY, isXorY, isYorZ}
-use Rattle.records.specs.Answer.{Refusal}
+use Rattle.answers.specs.Answer.{Refusal}
 use Rattle.records.specs.JobFile.{modeCausal, modePauli}
 use Rattle.records.specs.FlowFile.{Flow}
 

@@ -1,8 +1,8 @@
-use mathlib.Core.Bool.{_&&_, Bool, cond, not}
+use mathlib.Core.Bool.{_&&_, Bool, not}
 use Rattle.nodes.specs.Row.{anyBelow}
 use Prim.Native.Nat.{ℕ}
 use Rattle.nodes.specs.NodeSet.{member, capacity}
-use Rattle.finder.specs.declared.gflow.Search.the-variants.{Flow, NoFlow}
+use Rattle.answers.specs.Answer.{gives}
 use mathlib.Core.Path.{sym, ap, _∙_}
 use Rattle.finder.proofs.Finding.{all-solved}
 use borrow.Author.Needs.{needs}
@@ -29,7 +29,7 @@ returns c = let e = c .before in
     let d = e .before in
     let a = d .before .before .before .before .before .before .before .args in
     let whole = e .is-empty .ensures ∙ ap (λ (f : ℕ → Bool). not (anyBelow capacity f)) (d .difference .ensures ∙ ap {B = ℕ → Bool} (λ (f : ℕ → Bool) (u : ℕ). f u && not (member (a .solved) u)) (d .before .below .ensures)) ∙ all-solved (a .n) (member (a .solved)) (search needs) in
-    (ap (λ (b : Bool). cond b Flow NoFlow) (sym (c .if1 .taken) ∙ whole), search needs)
+    (ap gives (sym (c .if1 .taken) ∙ whole), search needs)
 
 same-length-2 : tie.Need-same-length-2
 same-length-2 c = search needs
@@ -39,7 +39,7 @@ returns-2 c = let e = c .before in
     let d = e .before in
     let a = d .before .before .before .before .before .before .before .args in
     let whole = e .is-empty .ensures ∙ ap (λ (f : ℕ → Bool). not (anyBelow capacity f)) (d .difference .ensures ∙ ap {B = ℕ → Bool} (λ (f : ℕ → Bool) (u : ℕ). f u && not (member (a .solved) u)) (d .before .below .ensures)) ∙ all-solved (a .n) (member (a .solved)) (search needs) in
-    (ap (λ (b : Bool). cond b Flow NoFlow) (sym (c .if1 .left) ∙ whole), search needs)
+    (ap gives (sym (c .if1 .left) ∙ whole), search needs)
 
 pub conclude-spec : {M : Type 1} → statement M
 conclude-spec =

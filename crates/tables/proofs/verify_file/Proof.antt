@@ -5,7 +5,7 @@ use Rattle.records.specs.Views.{fileAt, JobLies, flowAt}
 use Rattle.records.proofs.JobFile.{job-asked}
 use Rattle.records.proofs.FlowFile.{flow-asked}
 use Rattle.tables.proofs.LoadingFiles.{job-read, job-not, job-inside, flow-read, flow-not, flow-inside, asks-no-job, asks-no-flow, asks-flow}
-use Rattle.records.specs.Answer.{gives}
+use Rattle.answers.specs.Answer.{gives}
 use Rattle.records.specs.JobFile.{readJob}
 use Rattle.records.specs.FlowFile.{readFlow}
 use borrow.Author.Needs.{needs}
@@ -50,7 +50,7 @@ verify-read-requires : tie.Need-verify-read-requires
 verify-read-requires c κs = let k = c .before .before .before .before .before in
     let f = fileAt (S k) (k .before .job .given .0 .0) in
     let r = c .before .before .before .read-flow in (
-      (inside k, flow-inside (S k) (r .result) (r .ensures .1) _ (c .before .flow .given .1)),
+      (inside k, flow-inside (S k) _ (r .result) (r .ensures .1) _ (c .before .flow .given .1)),
       (job-asked (S k) f (read k), flow-asked (f .n) (f .after) _ (flow-given c)),
     )
 

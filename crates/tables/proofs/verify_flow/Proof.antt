@@ -31,19 +31,19 @@ measured-of-requires c κs = search needs
 sub-verify-loaded : tie.Need-sub-verify-loaded
 sub-verify-loaded c = let m = c .before .before in
     let s = m .before .before .before .before .before .before .before .before in
-    let i = m .measured-of .ensures .1 (s .args .file .now) (s .pre .0 .0 .measurements) in
+    let i = m .measured-of .ensures .1 (s .args .file .now) (s .pre .0 .0 .measurements .1) in
     search needs
 
 part-verify-loaded-start : tie.Need-part-verify-loaded-start
 part-verify-loaded-start c = let m = c .before .before in
     let s = m .before .before .before .before .before .before .before .before in
-    let i = m .measured-of .ensures .1 (s .args .file .now) (s .pre .0 .0 .measurements) in
+    let i = m .measured-of .ensures .1 (s .args .file .now) (s .pre .0 .0 .measurements .1) in
     search needs
 
 part-verify-loaded-end : tie.Need-part-verify-loaded-end
 part-verify-loaded-end c = let m = c .before .before in
     let s = m .before .before .before .before .before .before .before .before in
-    let i = m .measured-of .ensures .1 (s .args .file .now) (s .pre .0 .0 .measurements) in
+    let i = m .measured-of .ensures .1 (s .args .file .now) (s .pre .0 .0 .measurements .1) in
     search needs
 
 sub-verify-loaded-2 : tie.Need-sub-verify-loaded-2

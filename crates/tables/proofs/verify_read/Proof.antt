@@ -13,7 +13,7 @@ returns : tie.Need-returns
 returns c = let s = c .before .before .before in
     let f = fileAt (s .args .file .now) (s .args .job) in
     let g = flowAt (s .args .file .now) (s .args .flow) in
-    let lies = s .pre .0 .1 .sets in
+    let lies = s .pre .0 .1 .sets .1 in
     let rest = length-drop (s .args .flow .sets .end) (s .args .file .now) in
     some-left f g (λ q. c .if1 .taken (omega (arith, rest, q, lies)))
 
@@ -33,7 +33,7 @@ returns-2 : tie.Need-returns-2
 returns-2 c = let s = c .before .before .before .before .before .before in
     let f = fileAt (s .args .file .now) (s .args .job) in
     let g = flowAt (s .args .file .now) (s .args .flow) in
-    let lies = s .pre .0 .1 .sets in
+    let lies = s .pre .0 .1 .sets .1 in
     let rest = length-drop (s .args .flow .sets .end) (s .args .file .now) in
     let same : s .args .flow .sets .end ≡ length (s .args .file .now) = c .before .before .before .if1 .left in
     let none : length (g .after) ≡ 0 = omega (arith, rest) in
@@ -46,7 +46,7 @@ returns-3 : tie.Need-returns-3
 returns-3 c = let s = c .before .before .before .before .before .before .before in
     let f = fileAt (s .args .file .now) (s .args .job) in
     let g = flowAt (s .args .file .now) (s .args .flow) in
-    let lies = s .pre .0 .1 .sets in
+    let lies = s .pre .0 .1 .sets .1 in
     let rest = length-drop (s .args .flow .sets .end) (s .args .file .now) in
     let same : s .args .flow .sets .end ≡ length (s .args .file .now) = c .before .before .before .before .if1 .left in
     let none : length (g .after) ≡ 0 = omega (arith, rest) in

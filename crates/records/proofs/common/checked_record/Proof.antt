@@ -15,21 +15,21 @@ sub-ask : tie.Need-sub-ask
 sub-ask c =
     let a = c .before .before .before .before .before .args in
     let h = c .before .before .before .head in
-    let i = inside-of _ (h .result) (h .ensures .1) _ (c .before .place .given .1) in
+    let i = inside-of _ _ (h .result) (h .ensures .1) _ (c .before .place .given .1) in
     search needs
 
 part-ask-start : tie.Need-part-ask-start
 part-ask-start c =
     let a = c .before .before .before .before .before .args in
     let h = c .before .before .before .head in
-    let i = inside-of _ (h .result) (h .ensures .1) _ (c .before .place .given .1) in
+    let i = inside-of _ _ (h .result) (h .ensures .1) _ (c .before .place .given .1) in
     search needs
 
 part-ask-end : tie.Need-part-ask-end
 part-ask-end c =
     let a = c .before .before .before .before .before .args in
     let h = c .before .before .before .head in
-    let i = inside-of _ (h .result) (h .ensures .1) _ (c .before .place .given .1) in
+    let i = inside-of _ _ (h .result) (h .ensures .1) _ (c .before .place .given .1) in
     search needs
 
 ask-requires : tie.Need-ask-requires
@@ -48,7 +48,7 @@ returns : tie.Need-returns
 returns c =
     let a = c .before .before .before .before .before .before .before .before .before .args in
     let h = c .before .before .before .before .before .before .before .head in
-    (checked-yes (a .file .now) (drop (a .at) (a .file .now)) (a .kind) (h .result) (h .ensures .0) (askOf (a .asks)) _ (c .before .before .before .before .before .place .given .1) (c .before .before .ask .result) (c .before .before .ask .ensures) (c .enum-told .given .1), inside-of _ (h .result) (h .ensures .1) _ (c .before .before .before .before .before .place .given .1))
+    (checked-yes (a .file .now) (drop (a .at) (a .file .now)) (a .kind) (h .result) (h .ensures .0) (askOf (a .asks)) _ (c .before .before .before .before .before .place .given .1) (c .before .before .ask .result) (c .before .before .ask .ensures) (c .enum-told .given .1), inside-of _ _ (h .result) (h .ensures .1) _ (c .before .before .before .before .before .place .given .1))
 
 returns-2 : tie.Need-returns-2
 returns-2 c =

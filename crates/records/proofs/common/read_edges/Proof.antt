@@ -1,4 +1,5 @@
 use mathlib.Core.Path.{refl}
+use native.Mathlib.Omega.{arith}
 use Rattle.records.specs.JobFile.{readEdges}
 use Rattle.records.proofs.ReadingRecords.{found-part, found-no, inside-of}
 use borrow.Author.Needs.{needs}
@@ -15,7 +16,9 @@ read-inputs-requires : tie.Need-read-inputs-requires
 read-inputs-requires c κs =
     let s = c .before .before .before .before .before .args .file .now in
     let r = c .before .before .before .checked-record in
-    (c .before .before .before .before .before .pre, inside-of s (r .result) (r .ensures .1) _ (c .before .edges .given .1))
+    let (few, at) = c .before .before .before .before .before .pre in
+    let i = inside-of s _ (r .result) (r .ensures .1) _ (c .before .edges .given .1) in
+    (few, (omega arith, i .1))
 
 enum-known-q : tie.Need-enum-known-q
 enum-known-q c = search needs

@@ -15,7 +15,7 @@ read-sets-requires : tie.Need-read-sets-requires
 read-sets-requires c κs =
     let s = c .before .before .before .before .before .args .file .now in
     let r = c .before .before .before .checked-record in
-    inside-of s (r .result) (r .ensures .1) _ (c .before .layers .given .1)
+    inside-of s _ (r .result) (r .ensures .1) _ (c .before .layers .given .1)
 
 enum-known-q : tie.Need-enum-known-q
 enum-known-q c = search needs

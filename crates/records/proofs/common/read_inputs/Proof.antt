@@ -15,7 +15,7 @@ read-outputs-requires : tie.Need-read-outputs-requires
 read-outputs-requires c κs =
     let s = c .before .before .before .before .before .args .file .now in
     let r = c .before .before .before .checked-record in
-    (c .before .before .before .before .before .pre .0, (c .before .before .before .before .before .pre .1, inside-of s (r .result) (r .ensures .1) _ (c .before .inputs .given .1)))
+    (c .before .before .before .before .before .pre .0, (c .before .before .before .before .before .pre .1, inside-of s _ (r .result) (r .ensures .1) _ (c .before .inputs .given .1)))
 
 enum-known-q : tie.Need-enum-known-q
 enum-known-q c = search needs

@@ -2,19 +2,19 @@ use mathlib.Core.Path.{refl}
 use native.Mathlib.Omega.{arith}
 use Rattle.records.specs.JobFile.{readJob}
 use Rattle.records.proofs.ReadingRecords.{found-part, found-no, inside-of, Opened, opened}
-use Rattle.records.specs.Views.{Lies}
+use Rattle.records.specs.Views.{LiesBehind}
 use borrow.Author.Needs.{needs}
 use Rattle.records.proofs.common.read_job.Statement.{statement}
 use Rattle.records.proofs.common.read_job.Tie as tie
 
 -- where the first record lies, and what its questions have shown
 first : (c : tie.After-known-told) → let s = c .before .before .before .before .before .args .file .now in
-    Lies s (c .before .opening .given .0 .0) × Opened s (c .before .opening .given .0 .0)
+    LiesBehind s 0 (c .before .opening .given .0 .0) × Opened s (c .before .opening .given .0 .0)
 first c =
     let s = c .before .before .before .before .before .args .file .now in
     let r = c .before .before .before .checked-record in
-    let i = inside-of s (r .result) (r .ensures .1) _ (c .before .opening .given .1) in
-    (i, opened s s _ i (found-part s (r .result) (r .ensures .0) _ (c .before .opening .given .1)))
+    let i = inside-of s _ (r .result) (r .ensures .1) _ (c .before .opening .given .1) in
+    (i, opened s s _ (i .1) (found-part s (r .result) (r .ensures .0) _ (c .before .opening .given .1)))
 
 checked-record-requires : tie.Need-checked-record-requires
 checked-record-requires c κs = search needs
@@ -35,7 +35,9 @@ shared-slice-read-mode : tie.Need-shared-slice-read-mode
 shared-slice-read-mode c = let (i, o) = first (c .before .before .before) in omega arith
 
 read-edges-requires : tie.Need-read-edges-requires
-read-edges-requires c κs = rw (c .before .wide .ensures .0) (first (c .before .before .before) .1 .few)
+read-edges-requires c κs =
+    let (i, o) = first (c .before .before .before) in
+    (rw (c .before .wide .ensures .0) (o .few), omega arith)
 
 enum-known-q : tie.Need-enum-known-q
 enum-known-q c = search needs

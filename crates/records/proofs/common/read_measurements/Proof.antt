@@ -18,19 +18,19 @@ enum-known-measurements c = search needs
 sub-ask-measurements : tie.Need-sub-ask-measurements
 sub-ask-measurements c =
     let h = c .before .before .before .head in
-    let i = inside-of _ (h .result) (h .ensures .1) _ (c .before .measurements .given .1) in
+    let i = inside-of _ _ (h .result) (h .ensures .1) _ (c .before .measurements .given .1) in
     search needs
 
 part-ask-measurements-start : tie.Need-part-ask-measurements-start
 part-ask-measurements-start c =
     let h = c .before .before .before .head in
-    let i = inside-of _ (h .result) (h .ensures .1) _ (c .before .measurements .given .1) in
+    let i = inside-of _ _ (h .result) (h .ensures .1) _ (c .before .measurements .given .1) in
     search needs
 
 part-ask-measurements-end : tie.Need-part-ask-measurements-end
 part-ask-measurements-end c =
     let h = c .before .before .before .head in
-    let i = inside-of _ (h .result) (h .ensures .1) _ (c .before .measurements .given .1) in
+    let i = inside-of _ _ (h .result) (h .ensures .1) _ (c .before .measurements .given .1) in
     search needs
 
 sub-ask-measurements-2 : tie.Need-sub-ask-measurements-2
@@ -64,7 +64,7 @@ returns c =
     let h = c .before .before .before .before .before .before .before .before .head in
     let at = c .before .before .before .before .before .before .measurements .given .1 in (
       rw (← checked-yes f t kindMeasurements (h .result) (h .ensures .0) test _ at (c .before .before .ask-measurements .result) (c .before .before .ask-measurements .ensures) (c .enum-told .given .1)) refl,
-      record { edges = s .pre .1 .0; inputs = s .pre .1 .1; outputs = s .pre .1 .2; measurements = inside-of f (h .result) (h .ensures .1) _ at },
+      record { edges = s .pre .1 .0; inputs = s .pre .1 .1; outputs = s .pre .1 .2; measurements = inside-of f _ (h .result) (h .ensures .1) _ at },
     )
 
 returns-2 : tie.Need-returns-2

@@ -17,7 +17,7 @@ read-measurements-requires c κs =
     let s = c .before .before .before .before .before .args .file .now in
     let r = c .before .before .before .checked-record in
     let asked = checked-passed _ _ _ _ (found-part s (r .result) (r .ensures .0) _ (c .before .outputs .given .1)) .1 in
-    ((c .before .before .before .before .before .pre .0, asked), (c .before .before .before .before .before .pre .1 .0, c .before .before .before .before .before .pre .1 .1, inside-of s (r .result) (r .ensures .1) _ (c .before .outputs .given .1)))
+    ((c .before .before .before .before .before .pre .0, asked), (c .before .before .before .before .before .pre .1 .0, c .before .before .before .before .before .pre .1 .1, inside-of s _ (r .result) (r .ensures .1) _ (c .before .outputs .given .1)))
 
 enum-known-q : tie.Need-enum-known-q
 enum-known-q c = search needs

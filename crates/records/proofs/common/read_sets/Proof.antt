@@ -20,7 +20,7 @@ returns c =
     let s = c .before .before .before .before .before .args .file .now in
     let r = c .before .before .before .checked-record in (
       rw (found-part s (r .result) (r .ensures .0) _ (c .before .sets .given .1)) refl,
-      record { layers = c .before .before .before .before .before .pre; sets = inside-of s (r .result) (r .ensures .1) _ (c .before .sets .given .1) },
+      record { layers = c .before .before .before .before .before .pre; sets = inside-of s _ (r .result) (r .ensures .1) _ (c .before .sets .given .1) },
     )
 
 returns-2 : tie.Need-returns-2

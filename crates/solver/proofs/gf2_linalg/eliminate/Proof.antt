@@ -1,7 +1,7 @@
 use mathlib.Core.Path.{_≡_, refl, sym, ap, _∙_, subst}
 use mathlib.Core.Bool.{Bool, true, false}
 use mathlib.Core.List.{List}
-use mathlib.Core.Option.{some}
+use Rattle.answers.specs.Answer.{gives}
 use Prim.Native.Nat.{ℕ, _≤_, _*_}
 use native.Mathlib.Omega.{arith}
 use borrow.Author.Tests.{not-true, not-false}
@@ -53,7 +53,7 @@ returns-2 c =
     let room : a .rows * rowBytes ≤ length (a .matrix .now) = omega arith in
     let done = c .before .before .before .before .eliminate-columns .ensures in (
       simp fit
-          (ap some
+          (ap gives
           (c .pivot-columns .ensures
           ∙ ap {B = ℕ → Bool} (λ l k. leads (a .rows) (a .cols) (entryOf rowBytes l) (λ i. true) k) done
           ∙ pivots-read (a .rows) (a .cols) (a .sides) (a .matrix .now) room (sizes .1))),

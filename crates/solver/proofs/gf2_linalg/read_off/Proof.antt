@@ -2,7 +2,7 @@ use mathlib.Core.Path.{_≡_, sym, _∙_}
 use mathlib.Core.Bool.{true, false}
 use native.Mathlib.Omega.{arith}
 use borrow.Author.Tests.{lt-ltb, le-ltb, not-true, not-false}
-use Rattle.solver.specs.Solver.{bothFit, readOffCall}
+use Rattle.solver.specs.Solver.{bothFit, readOffAsks}
 use Rattle.solver.proofs.Solver.{both-fit-out, fits-out}
 use borrow.Author.Needs.{needs}
 use Rattle.solver.proofs.gf2_linalg.read_off.Statement.{statement}
@@ -15,7 +15,7 @@ same-length : tie.Need-same-length
 same-length c = search needs
 
 returns : tie.Need-returns
-unfolding readOffCall
+unfolding readOffAsks
 returns c =
     let a = c .before .before .before .before .before .args in
     let fit : bothFit (a .matrix .now) (a .out .now) (a .rows) (a .cols) (a .sides) ≡ false = sym (c .before .both-fit .ensures) ∙ not-true _ (c .if1 .taken) in
@@ -25,7 +25,7 @@ same-length-2 : tie.Need-same-length-2
 same-length-2 c = search needs
 
 returns-2 : tie.Need-returns-2
-unfolding readOffCall
+unfolding readOffAsks
 returns-2 c =
     let a = c .before .before .before .before .before .before .args in
     let fit : bothFit (a .matrix .now) (a .out .now) (a .rows) (a .cols) (a .sides) ≡ true = sym (c .before .before .both-fit .ensures) ∙ not-false _ (c .before .if1 .left) in
@@ -50,7 +50,7 @@ same-length-3 : tie.Need-same-length-3
 same-length-3 c = search needs
 
 returns-3 : tie.Need-returns-3
-unfolding readOffCall
+unfolding readOffAsks
 returns-3 c =
     let a = c .before .before .before .before .before .before .before .before .before .before .args in
     let fit : bothFit (a .matrix .now) (a .out .now) (a .rows) (a .cols) (a .sides) ≡ true = sym (c .before .before .before .before .before .before .both-fit .ensures) ∙ not-false _ (c .before .before .before .before .before .if1 .left) in

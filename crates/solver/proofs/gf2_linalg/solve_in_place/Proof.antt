@@ -6,7 +6,8 @@ use Prim.Native.Nat.{ℕ, _≤_, _<_, _*_}
 use native.Mathlib.Omega.{arith}
 use borrow.Author.Tests.{lt-ltb, le-ltb, not-true, not-false}
 use lib.ListN.{length}
-use Rattle.solver.specs.Solver.{rowBytes, wellShaped, Eliminated, outcome, solveCall}
+use Rattle.answers.specs.Answer.{gives}
+use Rattle.solver.specs.Solver.{rowBytes, wellShaped, Eliminated, outcome, solveAsks}
 use Rattle.solver.proofs.Solver.{fits-out, both-fit-out, well-shaped-out, is-eliminated, reads-answer}
 use borrow.Author.Needs.{needs}
 use Rattle.solver.proofs.gf2_linalg.solve_in_place.Statement.{statement}
@@ -22,7 +23,7 @@ same-length-2 : tie.Need-same-length-2
 same-length-2 c = search needs
 
 returns : tie.Need-returns
-unfolding solveCall
+unfolding solveAsks
 returns c =
     let a = c .before .before .before .before .before .before .args in
     let fit : wellShaped (a .matrix .now) (a .out .now) (a .rows) (a .cols) (a .sides) ≡ false = sym (c .before .well-shaped .ensures) ∙ not-true _ (c .if1 .taken) in
@@ -35,7 +36,7 @@ same-length-4 : tie.Need-same-length-4
 same-length-4 c = search needs
 
 returns-2 : tie.Need-returns-2
-unfolding solveCall
+unfolding solveAsks
 returns-2 c =
     let a = c .before .before .before .before .before .before .before .args in
     let fit : wellShaped (a .matrix .now) (a .out .now) (a .rows) (a .cols) (a .sides) ≡ true = sym (c .before .before .well-shaped .ensures) ∙ not-false _ (c .before .if1 .left) in
@@ -70,7 +71,7 @@ same-length-6 : tie.Need-same-length-6
 same-length-6 c = search needs
 
 returns-3 : tie.Need-returns-3
-unfolding solveCall
+unfolding solveAsks
 returns-3 c =
     let a = c .before .before .before .before .before .before .before .before .before .before .before .before .before .before .before .before .args in
     let fit : wellShaped (a .matrix .now) (a .out .now) (a .rows) (a .cols) (a .sides) ≡ true = sym (c .before .before .before .before .before .before .before .before .before .before .before .well-shaped .ensures) ∙ not-false _ (c .before .before .before .before .before .before .before .before .before .before .if1 .left) in
@@ -83,7 +84,7 @@ returns-3 c =
     (is-eliminated (a .rows) (a .cols) (a .sides) (a .matrix .now) room (sizes .1)) in (
       simp (fit, lt-ltb _ _ asked)
           (c .before .before .answer .ensures
-          ∙ ap (λ (o : Option (ℕ → Bool)). outcome o (a .out .now)) (reads-answer (a .rows) (a .cols) (a .sides) (a .matrix .now) (e .last .0) after (a .side) asked)),
+          ∙ ap (λ (o : Option (ℕ → Bool)). outcome (gives o) (a .out .now)) (reads-answer (a .rows) (a .cols) (a .sides) (a .matrix .now) (e .last .0) after (a .side) asked)),
       rw (fit, lt-ltb _ _ asked) after,
     )
 

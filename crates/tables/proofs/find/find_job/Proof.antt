@@ -7,10 +7,11 @@ use borrow.Author.Needs.{needs}
 use lib.Dec.{eqb}
 use lib.ListN.{length}
 use lib.ListN.{replicate, length-replicate}
+use Rattle.nodes.specs.Row.{allBelow}
 use Rattle.nodes.specs.NodeSet.{member, capacity}
 use Rattle.flows.specs.Search.{Progress}
 use Rattle.finder.specs.Finder.{progressAt}
-use Rattle.finder.specs.Finding.{Outcome, searched, searchCall}
+use Rattle.finder.specs.Finding.{Outcome, searchOf, searched, searchCall}
 use Rattle.records.specs.JobFile.{JobFile, Measured, modePlanes, jobOf}
 use Rattle.records.specs.Views.{bytesAt, fileAt}
 use Rattle.records.specs.Splice.{putFirst, putCount}
@@ -32,7 +33,7 @@ progressOf f = progressAt (not (eqb (f .mode) modePlanes)) (jobOf f)
 
 -- what its search left
 left : (c : tie.After-sets2) → let r = c .before .before .before .before .search in
-    _≡_ {A = Outcome} (record { answer = r .result; work = r .last .1 .1 .1 .1 .1 .1 .0; layers = r .last .1 .1 .1 .1 .1 .1 .1 .0; sets = r .last .1 .1 .1 .1 .1 .1 .1 .1 .0 }) (searched (jobAt c .n) (progressOf (jobAt c)))
+    _≡_ {A = Outcome} (record { answer = searchOf (r .result); work = r .last .1 .1 .1 .1 .1 .1 .0; layers = r .last .1 .1 .1 .1 .1 .1 .1 .0; sets = r .last .1 .1 .1 .1 .1 .1 .1 .1 .0 }) (searched (jobAt c .n) (progressOf (jobAt c)))
 left c =
     let t = c .before .before .before .before .before .before .before .before .before .before .before .before .before .before .before .before .before .before .before .before .before .before .before .before in
     let a = t .args in
@@ -82,13 +83,13 @@ slice-aggregate-search : tie.Need-slice-aggregate-search
 slice-aggregate-search c = search needs
 
 sub-search : tie.Need-sub-search
-sub-search c = let i = c .before .before .measured-of .ensures .1 (c .before .before .before .before .before .before .before .before .before .before .before .before .before .before .before .args .file .now) (c .before .before .before .before .before .before .before .before .before .before .before .before .before .before .before .pre .0 .1 .measurements) in omega arith
+sub-search c = let i = c .before .before .measured-of .ensures .1 (c .before .before .before .before .before .before .before .before .before .before .before .before .before .before .before .args .file .now) (c .before .before .before .before .before .before .before .before .before .before .before .before .before .before .before .pre .0 .1 .measurements .1) in omega arith
 
 part-search-start : tie.Need-part-search-start
-part-search-start c = let i = c .before .before .measured-of .ensures .1 (c .before .before .before .before .before .before .before .before .before .before .before .before .before .before .before .args .file .now) (c .before .before .before .before .before .before .before .before .before .before .before .before .before .before .before .pre .0 .1 .measurements) in search needs
+part-search-start c = let i = c .before .before .measured-of .ensures .1 (c .before .before .before .before .before .before .before .before .before .before .before .before .before .before .before .args .file .now) (c .before .before .before .before .before .before .before .before .before .before .before .before .before .before .before .pre .0 .1 .measurements .1) in search needs
 
 part-search-end : tie.Need-part-search-end
-part-search-end c = let i = c .before .before .measured-of .ensures .1 (c .before .before .before .before .before .before .before .before .before .before .before .before .before .before .before .args .file .now) (c .before .before .before .before .before .before .before .before .before .before .before .before .before .before .before .pre .0 .1 .measurements) in search needs
+part-search-end c = let i = c .before .before .measured-of .ensures .1 (c .before .before .before .before .before .before .before .before .before .before .before .before .before .before .before .args .file .now) (c .before .before .before .before .before .before .before .before .before .before .before .before .before .before .before .pre .0 .1 .measurements .1) in search needs
 
 slice-aggregate-search-2 : tie.Need-slice-aggregate-search-2
 slice-aggregate-search-2 c = search needs
@@ -138,13 +139,13 @@ returns c = let a = c .before .before .before .before .before .before .before .b
     let f = jobAt (c .before .before .before .before .before .before .before .before) in
     let e = left (c .before .before .before .before .before .before .before .before) in
     let p = progressOf f in
-    let told = sym (ap (λ (o : Outcome). o .answer) e) ∙ c .before .before .before .before .before .before .enum-told .given .1 in
+    let told = told-flow (allBelow (f .n) (p .solved)) _ (ap (λ (o : Outcome). o .answer) e) (c .before .before .before .before .before .before .enum-told .given .1) in
     let zero = ap (λ (o : Outcome). o .work) e in
     let wrote = c .before .before .write-found in
     let outputs = c .before .before .before .before .before .before .before .before .before .before .before .before .before .before .before .before .before .before .before .before .nodes-at2 in
     let bytes =
     ap₂ (λ (l t : List ℕ). recordsFor (f .n) (member (outputs .result)) l t) (ap (λ (o : Outcome). o .layers) e) (ap (λ (o : Outcome). o .sets) e)
-    ∙ flow-written s f (c .before .before .before .before .before .before .before .before .before .before .before .before .before .before .before .before .before .before .before .before .before .before .before .before .before .before .before .before .before .before .before .before .pre .0 .0) (outputs .result) (outputs .ensures) (told-flow (f .n) (p .solved) told) in
+    ∙ flow-written s f (c .before .before .before .before .before .before .before .before .before .before .before .before .before .before .before .before .before .before .before .before .before .before .before .before .before .before .before .before .before .before .before .before .pre .0 .0) (outputs .result) (outputs .ensures) told in
     put-is (foundBytes f) (a .out .now) _ _ (zeros workBytes) _ (wrote .ensures .0 ∙ ap (λ (b : List ℕ). putReply (putCount b (a .out .now))) bytes) (wrote .ensures .1 ∙ ap (λ (b : List ℕ). putFirst b (a .out .now)) bytes) zero
 
 same-length-3 : tie.Need-same-length-3
@@ -159,10 +160,10 @@ returns-2 c = let a = c .before .before .before .before .before .before .before 
     let f = jobAt (c .before .before .before .before .before .before) in
     let e = left (c .before .before .before .before .before .before) in
     let p = progressOf f in
-    let told = sym (ap (λ (o : Outcome). o .answer) e) ∙ c .before .before .before .before .enum-told2 .given .1 in
+    let told = told-none (allBelow (f .n) (p .solved)) _ (ap (λ (o : Outcome). o .answer) e) (c .before .before .before .before .enum-told2 .given .1) in
     let zero = ap (λ (o : Outcome). o .work) e in
     let wrote = c .before .before .write-bare in
-    let bytes = none-written s f (c .before .before .before .before .before .before .before .before .before .before .before .before .before .before .before .before .before .before .before .before .before .before .before .before .before .before .before .before .before .before .pre .0 .0) (told-none (f .n) (p .solved) told) in
+    let bytes = none-written s f (c .before .before .before .before .before .before .before .before .before .before .before .before .before .before .before .before .before .before .before .before .before .before .before .before .before .before .before .before .before .before .pre .0 .0) told in
     put-is (foundBytes f) (a .out .now) _ _ (zeros workBytes) _ (wrote .ensures .0 ∙ ap (λ (b : List ℕ). putReply (putCount b (a .out .now))) bytes) (wrote .ensures .1 ∙ ap (λ (b : List ℕ). putFirst b (a .out .now)) bytes) zero
 
 same-length-5 : tie.Need-same-length-5
@@ -177,8 +178,7 @@ returns-3 c = let a = c .before .before .before .before .before .before .before 
     let f = jobAt (c .before .before .before .before .before .before) in
     let e = left (c .before .before .before .before .before .before) in
     let p = progressOf f in
-    let told = sym (ap (λ (o : Outcome). o .answer) e) ∙ c .before .before .before .before .enum-told3 .given .1 in
-    absurd (told-right (f .n) (p .solved) told)
+    absurd (told-right (allBelow (f .n) (p .solved)) _ (ap (λ (o : Outcome). o .answer) e) (c .before .before .before .before .enum-told3 .given .1))
 
 pub find-job-spec : {M : Type 1} → statement M
 find-job-spec =

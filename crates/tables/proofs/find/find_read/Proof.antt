@@ -14,7 +14,7 @@ returns c = let a = c .before .before .before .before .before .args in
     let s = a .file .now in
     let f = fileAt s (a .job) in
     let read = c .before .before .before .before .before .pre .0 in
-    let inside = c .before .before .before .before .before .pre .1 .measurements in
+    let inside = c .before .before .before .before .before .pre .1 .measurements .1 in
     let left = length-drop (a .job .measurements .end) s in
     find-left s (a .work .now) (a .out .now) f read (ne-eqb (length (f .after)) 0 (omega (arith, left)))
 
@@ -26,7 +26,7 @@ returns-2 c = let a = c .before .before .before .before .before .before .before 
     let s = a .file .now in
     let f = fileAt s (a .job) in
     let read = c .before .before .before .before .before .before .before .pre .0 in
-    let inside = c .before .before .before .before .before .before .before .pre .1 .measurements in
+    let inside = c .before .before .before .before .before .before .before .pre .1 .measurements .1 in
     let left = length-drop (a .job .measurements .end) s in
     let none = eq-eqb (length (f .after)) 0 (omega (arith, left)) in
     find-mode s (a .work .now) (a .out .now) f read none (sym (c .before .has-search .ensures) ∙ not-true _ (c .if2 .taken))
@@ -36,7 +36,7 @@ returns-3 c = let a = c .before .before .before .before .before .before .before 
     let s = a .file .now in
     let f = fileAt s (a .job) in
     let read = c .before .before .before .before .before .before .before .before .pre .0 in
-    let inside = c .before .before .before .before .before .before .before .before .pre .1 .measurements in
+    let inside = c .before .before .before .before .before .before .before .before .pre .1 .measurements .1 in
     let left = length-drop (a .job .measurements .end) s in
     let none = eq-eqb (length (f .after)) 0 (omega (arith, left)) in
     find-size s (a .work .now) (a .out .now) f read none (sym (c .before .before .has-search .ensures) ∙ not-false _ (c .before .if2 .left)) (ne-eqb (length (a .work .now)) 2048 (omega arith))
@@ -55,7 +55,7 @@ returns-4 c = let a = c .before .before .before .before .before .before .before 
     let s = a .file .now in
     let f = fileAt s (a .job) in
     let read = c .before .before .before .before .before .before .before .before .before .before .before .before .before .before .before .pre .0 in
-    let inside = c .before .before .before .before .before .before .before .before .before .before .before .before .before .before .before .pre .1 .measurements in
+    let inside = c .before .before .before .before .before .before .before .before .before .before .before .before .before .before .before .pre .1 .measurements .1 in
     let left = length-drop (a .job .measurements .end) s in
     let none = eq-eqb (length (f .after)) 0 (omega (arith, left)) in
     c .before .before .before .before .find-job .ensures

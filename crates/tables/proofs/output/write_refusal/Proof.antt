@@ -1,6 +1,6 @@
 use mathlib.Core.Path.{ap, _∙_}
 use borrow.Author.Needs.{needs}
-use Rattle.records.specs.Answer.{Refusal}
+use Rattle.answers.specs.Answer.{Refusal}
 use Rattle.records.specs.Splice.{putFirst}
 use Rattle.verdicts.specs.Programs.{refusalBytes}
 use Rattle.tables.proofs.output.write_refusal.Statement.{statement}

@@ -9,7 +9,7 @@ use Rattle.nodes.specs.SetTable.{setAt}
 use Rattle.nodes.proofs.SetTable.{set-past}
 use Rattle.flows.specs.Job.{Job, odd, own, isXorY, isYorZ, pauliY}
 use Rattle.finder.specs.Finder.{jobIn}
-use Rattle.records.specs.Answer.{Refusal}
+use Rattle.answers.specs.Answer.{Refusal}
 use Rattle.records.specs.JobFile.{modePauli}
 use Rattle.records.specs.FlowFile.{Flow}
 use Rattle.verdicts.specs.Verdict.{ask, _next_, each, memberAsk, oddAsk, yAsk, ownAsk, definitionAsk}

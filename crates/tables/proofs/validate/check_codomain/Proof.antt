@@ -9,7 +9,7 @@ use Rattle.nodes.specs.SetTable.{setAt}
 use Rattle.nodes.proofs.SetTable.{set-past}
 use Rattle.nodes.proofs.Logic.{is-true, is-false, unless-in, unless-out}
 use Rattle.finder.specs.Finder.{jobIn}
-use Rattle.records.specs.Answer.{Refusal}
+use Rattle.answers.specs.Answer.{Refusal}
 use Rattle.verdicts.specs.Verdict.{each, eachFrom, inputAsk}
 use Rattle.tables.specs.Loaded.{flowIn, noNodes}
 use Rattle.tables.proofs.Asking.{each-start, each-end, each-no, each-yes, first-none, first-some}

@@ -1,0 +1,98 @@
+-- What the one number tells a program in C: an answer exactly where it is below 2^32, and else the refusal's number, a and b.
+use Prim.Native.Nat.{ℕ, _≤_, _<_}
+use mathlib.Core.Path.{_≡_, refl}
+use mathlib.Core.Bool.{Bool, true, false, cond}
+use mathlib.Core.Option.{Option, none, some}
+use mathlib.Core.List.{List, [], _++_}
+use mathlib.Core.Logic.{_↔_}
+use native.Mathlib.Omega.{arith}
+use lib.Dec.{leb}
+use lib.ListN.{length, drop}
+use Rattle.answers.specs.Answer.{Answer, gives, refuses, refusal}
+use Rattle.answers.proofs.Answer.{never}
+use Rattle.solver.specs.Solver as Solver
+use Rattle.records.specs.Records.{written, kindAccepted}
+use Rattle.records.specs.Writing.{mostOutput}
+use Rattle.records.specs.JobFile.{JobFile}
+use Rattle.records.proofs.Records.{written-length}
+use Rattle.records.proofs.JobFile.{job-asked}
+use Rattle.verdicts.specs.Calls.{Outcome, put, findAsks, findOutcome, findCall, verifyAsks, verifyOutcome, verifyCall}
+use Rattle.verdicts.proofs.Demand.{asked-find}
+use Rattle.tables.proofs.Printing.{found-fits}
+use Rattle.capi.specs.Codes.{numberUnit, answerCode, coded, counted, codedBits, Tells, TellsWhy, Bytes}
+use Rattle.capi.proofs.Refusals.{Numbered, AllNumbered, plain, find-numbered, verify-numbered, solve-numbered}
+
+-- ---- what the calls answer: a small count, or a numbered refusal
+abbrev Fits : Type 0 → Answer ℕ → Type 0
+Fits bytes (gives k) = k ≤ mostOutput
+Fits bytes (refuses r) = Numbered bytes r
+
+put-fits : (bytes : Type 0) (work result out : List ℕ) → length result ≤ mostOutput → Fits bytes (put work result out .answer)
+unfolding put
+put-fits bytes work result out h = by (leb (length result) (length out))
+  where
+    by : (c : Bool) → Fits bytes (cond {A = Outcome} c (record { answer = gives (length result); work = work; out = result ++ drop (length result) out }) (record { answer = refuses (refusal 20); work = work; out = out }) .answer)
+    by true = h
+    by false = plain bytes 20 (omega arith)
+
+find-fits : (file work out : List ℕ) → Fits Unit (findCall file work out .answer)
+unfolding findCall AllNumbered
+find-fits file work out = by (findAsks file work) refl (find-numbered Unit file work)
+  where
+    by : (a : Answer JobFile) → findAsks file work ≡ a → AllNumbered Unit a → Fits Unit (findOutcome a work out .answer)
+    by (gives f) e t = put-fits Unit _ _ out (found-fits f (job-asked file f (asked-find file work f e .0) .few))
+    by (refuses r) e t = t
+
+verify-fits : (file out : List ℕ) → Fits (Bytes file) (verifyCall file out .answer)
+unfolding verifyCall AllNumbered
+verify-fits file out = by (verifyAsks file) (verify-numbered file)
+  where
+    by : (a : Answer Bool) → AllNumbered (Bytes file) a → Fits (Bytes file) (verifyOutcome a out .answer)
+    by (gives b) t = put-fits (Bytes file) [] (written kindAccepted []) out (omega (arith, written-length kindAccepted []))
+    by (refuses r) t = t
+
+solve-fits : (matrix out : List ℕ) (rows cols sides side : ℕ) → Fits Unit (counted (Solver.solveCall matrix out rows cols sides side .answer))
+unfolding AllNumbered
+solve-fits matrix out rows cols sides side = by (Solver.solveAsks matrix out rows cols sides side) (solve-numbered Unit matrix out rows cols sides side)
+  where
+    by : (a : Answer (Option (ℕ → Bool))) → AllNumbered Unit a → Fits Unit (counted (Solver.outcome a out .answer))
+    by (gives none) t = omega arith
+    by (gives (some x)) t = omega arith
+    by (refuses r) t = t
+
+-- ---- what their codes tell
+module _ (bytes : Type 0) where
+  tells : (a : Answer ℕ) → Fits bytes a → Tells a (answerCode a)
+  tells (gives k) h = (omega arith, refl)
+  tells (refuses r) h = omega arith
+
+  tells-why : (a : Answer ℕ) → Fits bytes a → bytes → TellsWhy a (answerCode a)
+  tells-why (gives k) h x = tt
+  tells-why (refuses r) h x = let b = h .b x in (omega arith, omega arith, omega arith)
+
+pub find-code : (file work out : List ℕ) → let o = findCall file work out in Tells (o .answer) (coded o .code) × TellsWhy (o .answer) (coded o .code)
+find-code file work out =
+    let a = findCall file work out .answer in
+    let h = find-fits file work out in
+    (tells Unit a h, tells-why Unit a h tt)
+
+pub verify-code : (file out : List ℕ) → let o = verifyCall file out in Tells (o .answer) (coded o .code) × (Bytes file → TellsWhy (o .answer) (coded o .code))
+verify-code file out =
+    let a = verifyCall file out .answer in
+    let h = verify-fits file out in
+    (tells (Bytes file) a h, tells-why (Bytes file) a h)
+
+pub solve-code : (matrix out : List ℕ) (rows cols sides side : ℕ) → let o = Solver.solveCall matrix out rows cols sides side in
+    Tells (counted (o .answer)) (codedBits o .code) × TellsWhy (counted (o .answer)) (codedBits o .code)
+solve-code matrix out rows cols sides side =
+    let a = counted (Solver.solveCall matrix out rows cols sides side .answer) in
+    let h = solve-fits matrix out rows cols sides side in
+    (tells Unit a h, tells-why Unit a h tt)
+
+-- so the codes below 2^32 are those of answers
+pub below-answers : (a : Answer ℕ) (c : ℕ) → Tells a c → c < numberUnit ↔ ((k : ℕ) × (a ≡ gives k))
+below-answers (gives k) c t = ((λ h. (k, refl)), λ h. t .0)
+below-answers (refuses r) c t = ((λ h. absurd (no t h)), λ (k, e). absurd (never e))
+  where
+    no : numberUnit ≤ c → c < numberUnit → ⊥
+    no t h = omega arith
