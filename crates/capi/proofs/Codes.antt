@@ -8,10 +8,11 @@ use mathlib.Core.Logic.{_↔_}
 use native.Mathlib.Omega.{arith}
 use lib.Dec.{leb}
 use lib.ListN.{length, drop}
-use Rattle.answers.specs.Answer.{Answer, gives, refuses, refusal}
+use Rattle.answers.specs.Answer.{Refusal, Answer, gives, refuses, refusal}
 use Rattle.answers.proofs.Answer.{never}
 use Rattle.solver.specs.Solver as Solver
 use Rattle.records.specs.Records.{written, kindAccepted}
+use Rattle.records.specs.Encoding.{Bytes}
 use Rattle.records.specs.Writing.{mostOutput}
 use Rattle.records.specs.JobFile.{JobFile}
 use Rattle.records.proofs.Records.{written-length}
@@ -19,13 +20,16 @@ use Rattle.records.proofs.JobFile.{job-asked}
 use Rattle.verdicts.specs.Calls.{Outcome, put, findAsks, findOutcome, findCall, verifyAsks, verifyOutcome, verifyCall}
 use Rattle.verdicts.proofs.Demand.{asked-find}
 use Rattle.tables.proofs.Printing.{found-fits}
-use Rattle.capi.specs.Codes.{numberUnit, answerCode, coded, counted, codedBits, Tells, TellsWhy, Bytes}
-use Rattle.capi.proofs.Refusals.{Numbered, AllNumbered, plain, find-numbered, verify-numbered, solve-numbered}
+use Rattle.capi.specs.Codes.{numberUnit, answerCode, coded, counted, codedBits, Tells, TellsWhy}
+use Rattle.verdicts.proofs.Refusals.{Numbered, AllNumbered, given, asks-then, find-numbered, verify-numbered}
 
 -- ---- what the calls answer: a small count, or a numbered refusal
 abbrev Fits : Type 0 → Answer ℕ → Type 0
 Fits bytes (gives k) = k ≤ mostOutput
-Fits bytes (refuses r) = Numbered bytes r
+Fits bytes (refuses r) = (1 ≤ r .number) × (r .a < 256) × (bytes → r .b < 256)
+
+numbered-fits : (bytes : Type 0) (r : Refusal) → Numbered bytes r → Fits bytes (refuses r)
+numbered-fits bytes r t = (t .number, t .a, t .b)
 
 put-fits : (bytes : Type 0) (work result out : List ℕ) → length result ≤ mostOutput → Fits bytes (put work result out .answer)
 unfolding put
@@ -33,7 +37,7 @@ put-fits bytes work result out h = by (leb (length result) (length out))
   where
     by : (c : Bool) → Fits bytes (cond {A = Outcome} c (record { answer = gives (length result); work = work; out = result ++ drop (length result) out }) (record { answer = refuses (refusal 20); work = work; out = out }) .answer)
     by true = h
-    by false = plain bytes 20 (omega arith)
+    by false = (omega arith, omega arith, λ x. omega arith)
 
 find-fits : (file work out : List ℕ) → Fits Unit (findCall file work out .answer)
 unfolding findCall AllNumbered
@@ -41,7 +45,7 @@ find-fits file work out = by (findAsks file work) refl (find-numbered Unit file 
   where
     by : (a : Answer JobFile) → findAsks file work ≡ a → AllNumbered Unit a → Fits Unit (findOutcome a work out .answer)
     by (gives f) e t = put-fits Unit _ _ out (found-fits f (job-asked file f (asked-find file work f e .0) .few))
-    by (refuses r) e t = t
+    by (refuses r) e t = numbered-fits Unit r t
 
 verify-fits : (file out : List ℕ) → Fits (Bytes file) (verifyCall file out .answer)
 unfolding verifyCall AllNumbered
@@ -49,7 +53,13 @@ verify-fits file out = by (verifyAsks file) (verify-numbered file)
   where
     by : (a : Answer Bool) → AllNumbered (Bytes file) a → Fits (Bytes file) (verifyOutcome a out .answer)
     by (gives b) t = put-fits (Bytes file) [] (written kindAccepted []) out (omega (arith, written-length kindAccepted []))
-    by (refuses r) t = t
+    by (refuses r) t = numbered-fits (Bytes file) r t
+
+solve-numbered : (matrix out : List ℕ) (rows cols sides side : ℕ) → AllNumbered Unit (Solver.solveAsks matrix out rows cols sides side)
+unfolding Solver.solveAsks
+solve-numbered matrix out rows cols sides side =
+    asks-then Unit 11 (Solver.wellShaped matrix out rows cols sides) _ (omega arith) (omega arith)
+    (asks-then Unit 12 (Solver.equationExists sides side) _ (omega arith) (omega arith) (given Unit _))
 
 solve-fits : (matrix out : List ℕ) (rows cols sides side : ℕ) → Fits Unit (counted (Solver.solveCall matrix out rows cols sides side .answer))
 unfolding AllNumbered
@@ -58,7 +68,7 @@ solve-fits matrix out rows cols sides side = by (Solver.solveAsks matrix out row
     by : (a : Answer (Option (ℕ → Bool))) → AllNumbered Unit a → Fits Unit (counted (Solver.outcome a out .answer))
     by (gives none) t = omega arith
     by (gives (some x)) t = omega arith
-    by (refuses r) t = t
+    by (refuses r) t = numbered-fits Unit r t
 
 -- ---- what their codes tell
 module _ (bytes : Type 0) where
@@ -68,7 +78,7 @@ module _ (bytes : Type 0) where
 
   tells-why : (a : Answer ℕ) → Fits bytes a → bytes → TellsWhy a (answerCode a)
   tells-why (gives k) h x = tt
-  tells-why (refuses r) h x = let b = h .b x in (omega arith, omega arith, omega arith)
+  tells-why (refuses r) h x = let b = h .2 x in (omega arith, omega arith, omega arith)
 
 pub find-code : (file work out : List ℕ) → let o = findCall file work out in Tells (o .answer) (coded o .code) × TellsWhy (o .answer) (coded o .code)
 find-code file work out =

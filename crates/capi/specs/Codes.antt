@@ -1,12 +1,10 @@
 -- One number for what a call answers, and what the call leaves in the lent buffers.
 use Prim.Native.Nat.{ℕ, _+_, _*_, _/_, _%_, _≤_, _<_}
 use mathlib.Core.Path.{_≡_}
-use mathlib.Core.Bool.{Bool, true, cond}
+use mathlib.Core.Bool.{Bool, cond}
 use mathlib.Core.List.{List}
-use lib.Dec.{ltb}
 use Rattle.answers.specs.Answer.{Refusal, Answer, gives, refuses}
 use Rattle.solver.specs.Solver as Solver
-use Rattle.records.specs.JobFile.{all}
 use Rattle.verdicts.specs.Calls.{Outcome}
 
 -- the places of a refusal's number and of a: 2^32 and 2^16
@@ -63,7 +61,3 @@ Tells (refuses r) c = numberUnit ≤ c
 abbrev pub TellsWhy : Answer ℕ → (code : ℕ) → Type 0
 TellsWhy (gives k) c = Unit
 TellsWhy (refuses r) c = (numberIn c ≡ r .number) × (aIn c ≡ r .a) × (bIn c ≡ r .b)
-
--- a file of bytes, as every file of a program is; the definitions of the calls take any numbers
-abbrev pub Bytes : List ℕ → Type 0
-Bytes s = all (λ b. ltb b 256) s ≡ true

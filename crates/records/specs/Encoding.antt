@@ -14,6 +14,10 @@ use Rattle.nodes.specs.Lists.{has}
 use Rattle.records.specs.JobFile.{JobFile, mostNodes, modeCausal, modePauli, all, rises, pairsRise, allAllowed}
 use Rattle.records.specs.FlowFile.{SetEntry, FlowFile, allEntries, entryBelow, entriesRise}
 
+-- a file of bytes, as every file of a program is; the definitions of the calls take any numbers
+abbrev pub Bytes : List ℕ → Type 0
+Bytes s = all (λ b. ltb b 256) s ≡ true
+
 -- ---- jobs
 -- the five records in order
 abbrev pub jobBytes : JobFile → List ℕ
