@@ -6,4 +6,5 @@ pub mod Found
 pub mod LoadingEdges
 pub mod LoadingFiles
 pub mod LoadingTables
+pub mod Numbered
 pub mod Printing
