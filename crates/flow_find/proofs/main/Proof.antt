@@ -4,24 +4,51 @@ use native.Mathlib.Omega.{arith}
 use lib.ListN.{length}
 use lib.Seq.{length-take-le}
 use Rattle.records.specs.Writing.{mostOutput}
-use Rattle.tables.specs.Printing.{InRoom}
-use Rattle.messages.specs.Message.{lineRoom}
-use Rattle.messages.proofs.Lines.{written-few}
+use Rattle.verdicts.specs.Programs.{judgedBytes}
+use Rattle.tables.proofs.Printing.{printed-few}
+use Rattle.streams.specs.Streams.{InBuffer}
+use Rattle.streams.specs.declared.Input.{Input}
 use borrow.Author.Needs.{needs}
 use Rattle.flow_find.proofs.main.Statement.{statement}
 use Rattle.flow_find.proofs.main.Tie as tie
 
-slice-aggregate-read-full : tie.Need-slice-aggregate-read-full
-slice-aggregate-read-full c = search needs
+slice-aggregate-only-usage : tie.Need-slice-aggregate-only-usage
+slice-aggregate-only-usage c = search needs
 
-read-full-requires : tie.Need-read-full-requires
-read-full-requires c κs = search needs
+only-usage-requires : tie.Need-only-usage-requires
+only-usage-requires c κs = search needs
+
+returns : tie.Need-returns
+returns c = search needs
+
+slice-aggregate-read-input : tie.Need-slice-aggregate-read-input
+slice-aggregate-read-input c = search needs
+
+read-input-requires : tie.Need-read-input-requires
+read-input-requires c κs = search needs
+
+enum-known-read : tie.Need-enum-known-read
+enum-known-read c = search needs
+
+enum-told : tie.Need-enum-told
+enum-told c = search needs
+
+returns-2 : tie.Need-returns-2
+returns-2 c = search needs
 
 array-share-prefix-input : tie.Need-array-share-prefix-input
-array-share-prefix-input c = search needs
+array-share-prefix-input c = let n = c .before .read .given in
+    let l = c .before .before .before .before .read-input .last .0 in
+    let few : n .0 .0 ≤ length l = subst (λ (x : Input). InBuffer x (length l)) (n .1) (c .before .before .before .before .read-input .ensures) in
+    let size : length l ≡ judgedBytes = search (needs, c .before .before .before .input2 .given) in
+    omega arith
 
 slice-aggregate-find-bytes : tie.Need-slice-aggregate-find-bytes
-slice-aggregate-find-bytes c = search needs
+slice-aggregate-find-bytes c = let n = c .before .before .read .given in
+    let l = c .before .before .before .before .before .read-input .last .0 in
+    let few : n .0 .0 ≤ length l = subst (λ (x : Input). InBuffer x (length l)) (n .1) (c .before .before .before .before .before .read-input .ensures) in
+    let size : length l ≡ judgedBytes = search (needs, c .before .before .before .before .input2 .given) in
+    sym (length-take-le (n .0 .0) l (omega arith))
 
 slice-aggregate-find-bytes-2 : tie.Need-slice-aggregate-find-bytes-2
 slice-aggregate-find-bytes-2 c = search needs
@@ -29,105 +56,59 @@ slice-aggregate-find-bytes-2 c = search needs
 find-bytes-requires : tie.Need-find-bytes-requires
 find-bytes-requires c κs = search needs
 
-enum-known-k : tie.Need-enum-known-k
-enum-known-k c = search needs
-
 array-share-prefix-out : tie.Need-array-share-prefix-out
-array-share-prefix-out c = let few : c .before .k .given .0 .0 ≤ mostOutput = subst InRoom (c .before .k .given .1) (c .before .before .before .before .find-bytes .ensures .1) in
-    let size : length (c .before .before .before .before .find-bytes .last .1 .0) ≡ mostOutput = search (needs, c .before .before .before .out2 .given) in
+array-share-prefix-out c = let r = c .before .find-bytes in
+    let l = r .last .1 .0 in
+    let size : length l ≡ mostOutput = search (needs, c .out2 .given) in
+    let few : r .result .count ≤ mostOutput = printed-few _ _ _ _ (r .ensures) in
     omega arith
 
-slice-aggregate-write-all : tie.Need-slice-aggregate-write-all
-slice-aggregate-write-all c = let few : c .before .before .k .given .0 .0 ≤ mostOutput = subst InRoom (c .before .before .k .given .1) (c .before .before .before .before .before .find-bytes .ensures .1) in
-    let size : length (c .before .before .before .before .before .find-bytes .last .1 .0) ≡ mostOutput = search (needs, c .before .before .before .before .out2 .given) in
-    sym (length-take-le (c .before .before .k .given .0 .0) (c .before .before .before .before .before .find-bytes .last .1 .0) (omega arith))
+slice-aggregate-write-output : tie.Need-slice-aggregate-write-output
+slice-aggregate-write-output c = let r = c .before .before .find-bytes in
+    let l = r .last .1 .0 in
+    let size : length l ≡ mostOutput = search (needs, c .before .out2 .given) in
+    let few : r .result .count ≤ mostOutput = printed-few _ _ _ _ (r .ensures) in
+    sym (length-take-le (r .result .count) l (omega arith))
 
-write-all-requires : tie.Need-write-all-requires
-write-all-requires c κs = search needs
+write-output-requires : tie.Need-write-output-requires
+write-output-requires c κs = search needs
 
-enum-known-k-2 : tie.Need-enum-known-k-2
-enum-known-k-2 c = search needs
+enum-known-told : tie.Need-enum-known-told
+enum-known-told c = search needs
 
-array-share-prefix-out-2 : tie.Need-array-share-prefix-out-2
-array-share-prefix-out-2 c = let few : c .before .k2 .given .0 .0 ≤ mostOutput = subst InRoom (c .before .k2 .given .1) (c .before .before .before .before .find-bytes .ensures .1) in
-    let size : length (c .before .before .before .before .find-bytes .last .1 .0) ≡ mostOutput = search (needs, c .before .before .before .out2 .given) in
-    omega arith
+report-requires : tie.Need-report-requires
+report-requires c κs = search needs
 
-slice-aggregate-write-all-2 : tie.Need-slice-aggregate-write-all-2
-slice-aggregate-write-all-2 c = let few : c .before .before .k2 .given .0 .0 ≤ mostOutput = subst InRoom (c .before .before .k2 .given .1) (c .before .before .before .before .before .find-bytes .ensures .1) in
-    let size : length (c .before .before .before .before .before .find-bytes .last .1 .0) ≡ mostOutput = search (needs, c .before .before .before .before .out2 .given) in
-    sym (length-take-le (c .before .before .k2 .given .0 .0) (c .before .before .before .before .before .find-bytes .last .1 .0) (omega arith))
-
-write-all-requires-2 : tie.Need-write-all-requires-2
-write-all-requires-2 c κs = search needs
-
-array-read-message : tie.Need-array-read-message
-array-read-message c = search needs
-
-array-read-message-2 : tie.Need-array-read-message-2
-array-read-message-2 c = search needs
-
-array-read-message-3 : tie.Need-array-read-message-3
-array-read-message-3 c = search needs
-
-slice-aggregate-message : tie.Need-slice-aggregate-message
-slice-aggregate-message c = search needs
-
-message-requires : tie.Need-message-requires
-message-requires c κs = search needs
-
-array-share-prefix-line : tie.Need-array-share-prefix-line
-array-share-prefix-line c = let few : c .before .message .result ≤ lineRoom = written-few _ _ _ (c .before .message .ensures) in
-    let size : length (c .before .message .last .1 .1 .1 .0) ≡ lineRoom = search (needs, c .line2 .given) in
-    omega arith
-
-slice-aggregate-write-all-3 : tie.Need-slice-aggregate-write-all-3
-slice-aggregate-write-all-3 c = let few : c .before .before .message .result ≤ lineRoom = written-few _ _ _ (c .before .before .message .ensures) in
-    let size : length (c .before .before .message .last .1 .1 .1 .0) ≡ lineRoom = search (needs, c .before .line2 .given) in
-    sym (length-take-le (c .before .before .message .result) (c .before .before .message .last .1 .1 .1 .0) (omega arith))
-
-write-all-requires-3 : tie.Need-write-all-requires-3
-write-all-requires-3 c κs = search needs
-
-enum-told : tie.Need-enum-told
-enum-told c = search needs
-
-returns : tie.Need-returns
-returns c = search needs
-
-returns-2 : tie.Need-returns-2
-returns-2 c = search needs
+enum-told-2 : tie.Need-enum-told-2
+enum-told-2 c = search needs
 
 returns-3 : tie.Need-returns-3
 returns-3 c = search needs
+
+returns-4 : tie.Need-returns-4
+returns-4 c = search needs
 
 pub main-spec : {M : Type 1} → statement M
 main-spec =
     tie.close
     (tie.spec
-    slice-aggregate-read-full
-    read-full-requires
+    slice-aggregate-only-usage
+    only-usage-requires
+    returns
+    slice-aggregate-read-input
+    read-input-requires
+    enum-known-read
+    enum-told
+    returns-2
     array-share-prefix-input
     slice-aggregate-find-bytes
     slice-aggregate-find-bytes-2
     find-bytes-requires
-    enum-known-k
     array-share-prefix-out
-    slice-aggregate-write-all
-    write-all-requires
-    enum-known-k-2
-    array-share-prefix-out-2
-    slice-aggregate-write-all-2
-    write-all-requires-2
-    array-read-message
-    array-read-message-2
-    array-read-message-3
-    slice-aggregate-message
-    message-requires
-    array-share-prefix-line
-    slice-aggregate-write-all-3
-    write-all-requires-3
-    enum-told
-    returns
-    returns-2
-    returns-3)
+    slice-aggregate-write-output
+    write-output-requires
+    enum-known-told
+    report-requires
+    enum-told-2
+    returns-3
+    returns-4)
