@@ -3,9 +3,10 @@
 ghost use Prim.Native.Nat.{_≤_, _<_};
 ghost use mathlib.Core.Path.{_≡_};
 ghost use lib.ListN.{length, getD};
-ghost use Rattle.records.specs.Refusals.{numbersIn};
-use libc::STDERR_FILENO;
+ghost use Rattle.messages.specs.Message.{line, putWhole};
 use libc::STDOUT_FILENO;
+use messages::LINE_ROOM;
+use messages::message;
 use records::common::ENTRY_HEAD_BYTES;
 use records::common::FlowRead;
 use records::common::HEAD_BYTES;
@@ -14,14 +15,13 @@ use records::common::KIND_LAYERS;
 use records::common::KIND_NO_FLOW;
 use records::common::KIND_REFUSAL;
 use records::common::MOST_NODES;
-use records::common::Numbers;
 use records::common::Refused;
 use records::common::read_flow;
 use streams::Input;
 use streams::only_usage;
 use streams::output_failed;
-use streams::print_line;
 use streams::read_input;
+use streams::write_error;
 
 // More than any file of the two programs has.
 const MOST_BYTES: usize = 65536;
@@ -197,19 +197,24 @@ fn show_flow(file: &[u8]) -> bool
     true
 }
 
-// What 001F holds.
-fn refusal_in(file: &[u8]) -> Numbers
-    ensures { λ r. ⌜ numbersIn r ≡ record { number = getD (now (file .entry)) 6 0; a = getD (now (file .entry)) 7 0; b = getD (now (file .entry)) 8 0 } ⌝ }
+// The line of 001F at the front of the buffer; how many bytes it takes.
+fn put_refusal(file: &[u8], out: &mut [u8]) -> usize
+    ensures { λ r. ⌜ record { count = r; out = now (out .exit) } ≡ putWhole (line (getD (now (file .entry)) 6 0) (getD (now (file .entry)) 7 0) (getD (now (file .entry)) 8 0)) (now (out .entry)) ⌝ }
 {
-    Numbers {
-        number: byte(file, HEAD_BYTES),
-        a: byte(file, HEAD_BYTES + 1),
-        b: byte(file, HEAD_BYTES + 2),
-    }
+    let number = byte(file, HEAD_BYTES);
+    let a = byte(file, HEAD_BYTES + 1);
+    let b = byte(file, HEAD_BYTES + 2);
+    message(number, a, b, out)
+}
+
+fn show_refusal(file: &[u8]) -> bool {
+    let mut line = [0u8; LINE_ROOM];
+    let k = put_refusal(file, &mut line);
+    print(&line[..k])
 }
 
 fn complain(text: &[u8]) -> bool {
-    io::write_all(STDERR_FILENO, text);
+    write_error(text);
     true
 }
 
@@ -220,7 +225,7 @@ fn show(file: &[u8]) -> bool
         Judged::Flow => show_flow(file),
         Judged::NoFlow => print(b"no flow\n"),
         Judged::Accepted => print(b"accepted\n"),
-        Judged::Refusal => print_line(STDOUT_FILENO, refusal_in(file)),
+        Judged::Refusal => show_refusal(file),
         Judged::Cut => complain(b"the file is cut off\n"),
         Judged::Other => complain(b"no file of flow_find or flow_verify\n"),
     }

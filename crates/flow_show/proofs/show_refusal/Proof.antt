@@ -1,0 +1,45 @@
+use Prim.Native.Nat.{_≤_}
+use mathlib.Core.Path.{_≡_, sym}
+use native.Mathlib.Omega.{arith}
+use lib.ListN.{length}
+use lib.Seq.{length-take-le}
+use Rattle.messages.specs.Message.{lineRoom}
+use Rattle.messages.proofs.Lines.{written-few}
+use borrow.Author.Needs.{needs}
+use Rattle.flow_show.proofs.show_refusal.Statement.{statement}
+use Rattle.flow_show.proofs.show_refusal.Tie as tie
+
+slice-aggregate-put-refusal : tie.Need-slice-aggregate-put-refusal
+slice-aggregate-put-refusal c = search needs
+
+put-refusal-requires : tie.Need-put-refusal-requires
+put-refusal-requires c κs = search needs
+
+array-share-prefix-line : tie.Need-array-share-prefix-line
+array-share-prefix-line c = let r = c .before .put-refusal in
+    let few : r .result ≤ lineRoom = written-few _ _ _ (r .ensures) in
+    let size : length (r .last .1 .0) ≡ lineRoom = search (needs, c .line2 .given) in
+    omega arith
+
+slice-aggregate-print : tie.Need-slice-aggregate-print
+slice-aggregate-print c = let r = c .before .before .put-refusal in
+    let few : r .result ≤ lineRoom = written-few _ _ _ (r .ensures) in
+    let size : length (r .last .1 .0) ≡ lineRoom = search (needs, c .before .line2 .given) in
+    sym (length-take-le (r .result) (r .last .1 .0) (omega arith))
+
+print-requires : tie.Need-print-requires
+print-requires c κs = search needs
+
+returns : tie.Need-returns
+returns c = search needs
+
+pub show-refusal-spec : {M : Type 1} → statement M
+show-refusal-spec =
+    tie.close
+    (tie.spec
+    slice-aggregate-put-refusal
+    put-refusal-requires
+    array-share-prefix-line
+    slice-aggregate-print
+    print-requires
+    returns)
