@@ -1,98 +1,248 @@
-// What the two programs write, as text: a line for each node of a flow file. It judges nothing; a byte that is missing counts as 0.
-ghost use Prim.Native.Nat.{_≤_};
-ghost use lib.ListN.{length};
+// What the two programs write, as text on standard output: a line for each node of a flow file.
+// Of a file that is cut, and of one that neither program wrote, it says so on standard error and shows nothing.
+ghost use Prim.Native.Nat.{_≤_, _<_};
+ghost use mathlib.Core.Path.{_≡_};
+ghost use lib.ListN.{length, getD};
+ghost use Rattle.messages.specs.Message.{line, putWhole};
+use libc::STDOUT_FILENO;
 use messages::LINE_ROOM;
 use messages::message;
 use records::common::ENTRY_HEAD_BYTES;
+use records::common::FlowRead;
 use records::common::HEAD_BYTES;
 use records::common::KIND_ACCEPTED;
 use records::common::KIND_LAYERS;
 use records::common::KIND_NO_FLOW;
 use records::common::KIND_REFUSAL;
+use records::common::MOST_NODES;
+use records::common::Refused;
+use records::common::read_flow;
+use streams::Input;
+use streams::only_usage;
+use streams::output_failed;
+use streams::read_input;
+use streams::write_error;
 
-const STANDARD_INPUT: i32 = 0;
-
-const STANDARD_OUTPUT: i32 = 1;
-
+// More than any file of the two programs has.
 const MOST_BYTES: usize = 65536;
 
-fn print(text: &[u8]) {
-    io::write_all(STANDARD_OUTPUT, text);
+// The payload of 001F.
+const REFUSAL_PAYLOAD: usize = 3;
+
+// What a file is, judged by the heads of its records, its length and the entries of its sets.
+enum Judged {
+    Flow,
+    NoFlow,
+    Accepted,
+    Refusal,
+    Cut,
+    Other,
 }
 
-fn print_number(x: u8) {
-    io::print_decimal(STANDARD_OUTPUT, x as u64);
-}
-
-fn byte(file: &[u8], at: usize) -> u8 {
+fn byte(file: &[u8], at: usize) -> u8
+    ensures { λ r. ⌜ r ≡ getD (now (file .entry)) at 0 ⌝ }
+{
     if at < file.len() {
         return file[at];
     }
     0
 }
 
-fn kind(file: &[u8]) -> u16 {
+// ---- Judging.
+
+fn wide(x: u8) -> usize
+    ensures { λ r. ⌜ r < 256 ⌝ }
+{
+    x as usize
+}
+
+fn length_field(file: &[u8]) -> usize {
+    let a = wide(byte(file, 0));
+    let b = wide(byte(file, 1));
+    let c = wide(byte(file, 2));
+    let d = wide(byte(file, 3));
+    a + 256 * b + 65536 * c + 16777216 * d
+}
+
+fn kind_field(file: &[u8]) -> u16 {
     byte(file, 4) as u16 + 256 * byte(file, 5) as u16
 }
 
-fn show_members(file: &[u8], start: usize, end: usize) {
+// A file of one record whose payload should have so many bytes.
+fn judge_single(file: &[u8], payload: usize, whole: Judged) -> Judged
+    requires { ⌜ payload ≤ 3 ⌝ }
+{
+    if length_field(file) != payload {
+        return Judged::Other;
+    }
+    if file.len() < HEAD_BYTES + payload {
+        return Judged::Cut;
+    }
+    if file.len() > HEAD_BYTES + payload {
+        return Judged::Other;
+    }
+    whole
+}
+
+// A flow file: layers and sets as the verifier reads them, and nothing behind them.
+fn judge_flow(file: &[u8], n: usize) -> Judged {
+    if n > wide(MOST_NODES) {
+        return Judged::Other;
+    }
+    if file.len() < 2 * HEAD_BYTES + n {
+        return Judged::Cut;
+    }
+    match read_flow(file, 0, n) {
+        FlowRead::Flow(flow) => {
+            let sets = flow.sets;
+            if sets.end == file.len() {
+                return Judged::Flow;
+            }
+            Judged::Other
+        }
+        FlowRead::Refused(q) => {
+            if let Refused::CutPayload = q {
+                return Judged::Cut;
+            }
+            Judged::Other
+        }
+    }
+}
+
+fn judge(file: &[u8]) -> Judged {
+    if file.len() < HEAD_BYTES {
+        return Judged::Cut;
+    }
+    match kind_field(file) {
+        KIND_LAYERS => judge_flow(file, length_field(file)),
+        KIND_NO_FLOW => judge_single(file, 0, Judged::NoFlow),
+        KIND_ACCEPTED => judge_single(file, 0, Judged::Accepted),
+        KIND_REFUSAL => judge_single(file, REFUSAL_PAYLOAD, Judged::Refusal),
+        _ => Judged::Other,
+    }
+}
+
+// ---- Showing. Each tells whether it was written.
+
+fn print(text: &[u8]) -> bool {
+    io::write_all(STDOUT_FILENO, text)
+}
+
+fn print_number(x: u8) -> bool {
+    io::print_decimal(STDOUT_FILENO, x as u64)
+}
+
+fn show_member(k: u8) -> bool {
+    print(b" ") && print_number(k)
+}
+
+fn show_members(file: &[u8], start: usize, end: usize) -> bool {
     let mut p = start;
     while p < end {
-        print(b" ");
-        print_number(byte(file, p));
+        if !show_member(byte(file, p)) {
+            return false;
+        }
         p += 1;
     }
+    true
 }
 
-// The line of node v, whose entry is next if it has one; where the next entry stands.
-fn show_node(file: &[u8], v: u8, at: usize) -> usize
+fn show_layer(file: &[u8], v: u8) -> bool {
+    print(b"node ")
+        && print_number(v)
+        && print(b"  layer ")
+        && print_number(byte(file, HEAD_BYTES + wide(v)))
+}
+
+// Where the entry of node v ends, if it is the one at this place; else this place.
+fn entry_end(file: &[u8], v: u8, at: usize) -> usize
     requires { ⌜ length (now file) ≤ 65536 ⌝ }
 {
-    print(b"node ");
-    print_number(v);
-    print(b"  layer ");
-    print_number(byte(file, HEAD_BYTES + v as usize));
     if at >= file.len() || byte(file, at) != v {
-        print(b"\n");
         return at;
     }
-    let end = at + ENTRY_HEAD_BYTES + byte(file, at + 1) as usize;
-    print(b"  corrected by");
-    show_members(file, at + ENTRY_HEAD_BYTES, end);
-    print(b"\n");
-    end
+    at + ENTRY_HEAD_BYTES + wide(byte(file, at + 1))
 }
 
-fn show_flow(file: &[u8])
+// The entry of a node, where it has one.
+fn show_entry(file: &[u8], at: usize, end: usize) -> bool
+    requires { ⌜ length (now file) ≤ 65536 ⌝ }
+{
+    if at >= file.len() || end <= at {
+        return true;
+    }
+    print(b"  corrected by") && show_members(file, at + ENTRY_HEAD_BYTES, end)
+}
+
+fn show_node(file: &[u8], v: u8, at: usize, end: usize) -> bool
+    requires { ⌜ length (now file) ≤ 65536 ⌝ }
+{
+    show_layer(file, v) && show_entry(file, at, end) && print(b"\n")
+}
+
+fn show_flow(file: &[u8]) -> bool
     requires { ⌜ length (now file) ≤ 65536 ⌝ }
 {
     let n = byte(file, 0);
-    let mut at = 2 * HEAD_BYTES + n as usize;
+    let mut at = 2 * HEAD_BYTES + wide(n);
     let mut v = 0;
     while v < n {
-        at = show_node(file, v, at);
+        let end = entry_end(file, v, at);
+        if !show_node(file, v, at, end) {
+            return false;
+        }
+        at = end;
         v += 1;
     }
+    true
 }
 
-fn show_refusal(file: &[u8]) {
-    let mut line = [0u8; LINE_ROOM];
+// The line of 001F at the front of the buffer; how many bytes it takes.
+fn put_refusal(file: &[u8], out: &mut [u8]) -> usize
+    ensures { λ r. ⌜ record { count = r; out = now (out .exit) } ≡ putWhole (line (getD (now (file .entry)) 6 0) (getD (now (file .entry)) 7 0) (getD (now (file .entry)) 8 0)) (now (out .entry)) ⌝ }
+{
     let number = byte(file, HEAD_BYTES);
     let a = byte(file, HEAD_BYTES + 1);
     let b = byte(file, HEAD_BYTES + 2);
-    let k = message(number, a, b, &mut line);
-    print(&line[..k]);
+    message(number, a, b, out)
+}
+
+fn show_refusal(file: &[u8]) -> bool {
+    let mut line = [0u8; LINE_ROOM];
+    let k = put_refusal(file, &mut line);
+    print(&line[..k])
+}
+
+fn complain(text: &[u8]) -> bool {
+    write_error(text);
+    true
+}
+
+fn show(file: &[u8]) -> bool
+    requires { ⌜ length (now file) ≤ 65536 ⌝ }
+{
+    match judge(file) {
+        Judged::Flow => show_flow(file),
+        Judged::NoFlow => print(b"no flow\n"),
+        Judged::Accepted => print(b"accepted\n"),
+        Judged::Refusal => show_refusal(file),
+        Judged::Cut => complain(b"the file is cut off\n"),
+        Judged::Other => complain(b"no file of flow_find or flow_verify\n"),
+    }
 }
 
 fn main() {
+    if only_usage(
+        b"flow_show reads on standard input what flow_find or flow_verify wrote.\nIt writes it as text on standard output.\n",
+    ) {
+        return;
+    }
     let mut input = [0u8; MOST_BYTES];
-    let n = io::read_full(STANDARD_INPUT, &mut input);
-    let file = &input[..n];
-    match kind(file) {
-        KIND_LAYERS => show_flow(file),
-        KIND_NO_FLOW => print(b"no flow\n"),
-        KIND_ACCEPTED => print(b"accepted\n"),
-        KIND_REFUSAL => show_refusal(file),
-        _ => print(b"no flow file\n"),
+    let read = read_input(&mut input);
+    let Input::Bytes(n) = read else {
+        return;
+    };
+    if !show(&input[..n]) {
+        output_failed();
     }
 }

@@ -12,7 +12,7 @@ use Rattle.messages.specs.Message.{questions, unknown, wordsIn, codes, i
 use Rattle.messages.proofs.Filling.{filled-most}
 
 -- document 01's case M: 18, a=0, b=1
-pub line-18 : line 18 0 1 ≡ codes "refused 18: node 0 needs node 1 to be later\n"
+pub line-18 : line 18 0 1 ≡ codes "refused 18: node 1 is not later than node 0, or in mode 1 not its neighbour\n"
 unfolding wordsIn codes inDecimal spelled filled
 line-18 = refl
 

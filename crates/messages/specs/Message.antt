@@ -9,8 +9,8 @@ use lib.ListN.{length, drop}
 use Rattle.messages.specs.declared.Piece.{Piece}
 use Rattle.messages.specs.declared.Piece.the-variants.{One, Two, Three}
 
--- Document 01's questions, each as a 'no' to it is told: A stands for a, B for b. Number, a and b are all that is known, so the words of 14 and 19
--- name both causes. 18 is in mode 1 also asked where the two nodes are not adjacent, which its words do not say.
+-- Document 01's questions, each as a 'no' to it is told: A stands for a, B for b. Number, a and b are all that is known, so the words of 14, 18 and
+-- 19 name both causes.
 abbrev pub questions : List (ℕ × String)
 questions =
     (1, "the next record is missing or of another kind")
@@ -30,7 +30,7 @@ questions =
     ∷ (15, "output A is in layer B, not in layer 0")
     ∷ (16, "node A is no output and is in layer 0")
     ∷ (17, "node A has an entry and no measurement")
-    ∷ (18, "node A needs node B to be later")
+    ∷ (18, "node B is not later than node A, or in mode 1 not its neighbour")
     ∷ (19, "node A's set does not suit its or a Y measurement")
     ∷ (20, "the result does not fit the lent buffer")
     ∷ []
@@ -82,7 +82,7 @@ line number a b = filled number a b (template (codes (wordsIn questions number))
 
 -- a buffer of so many bytes has room for every line
 abbrev pub lineRoom : ℕ
-lineRoom = 65
+lineRoom = 81
 
 -- has it room for a line of these words, with numbers of three digits?
 abbrev pub roomFor : (words : List ℕ) → Bool

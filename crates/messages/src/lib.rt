@@ -8,7 +8,7 @@ ghost use Rattle.messages.specs.Message.{inDecimal, spelled, filled, tem
 ghost use Rattle.messages.specs.Message.{digit as Message·digit};
 
 // A buffer of so many bytes has room for every line.
-pub const LINE_ROOM: usize = 65;
+pub const LINE_ROOM: usize = 81;
 
 // What the letters N, A and B of a template stand for.
 struct Numbers {
@@ -152,7 +152,11 @@ pub fn message(number: u8, a: u8, b: u8, out: &mut [u8]) -> usize
         15 => put_line(out, b"output A is in layer B, not in layer 0", m),
         16 => put_line(out, b"node A is no output and is in layer 0", m),
         17 => put_line(out, b"node A has an entry and no measurement", m),
-        18 => put_line(out, b"node A needs node B to be later", m),
+        18 => put_line(
+            out,
+            b"node B is not later than node A, or in mode 1 not its neighbour",
+            m,
+        ),
         19 => put_line(out, b"node A's set does not suit its or a Y measurement", m),
         20 => put_line(out, b"the result does not fit the lent buffer", m),
         _ => put_line(out, b"unknown question", m),

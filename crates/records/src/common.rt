@@ -44,7 +44,7 @@ pub const KIND_ACCEPTED: u16 = 0x0014;
 
 pub const KIND_REFUSAL: u16 = 0x001F;
 
-const MOST_NODES: u8 = 128;
+pub const MOST_NODES: u8 = 128;
 
 pub const MODE_CAUSAL: u8 = 1;
 

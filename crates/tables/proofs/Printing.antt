@@ -1,48 +1,37 @@
--- What a program's call leaves: its whole output, which has room where any has.
+-- What a program's call leaves: its whole output where it fits, and it fits where any has room.
 use Prim.Native.Nat.{ℕ, _-_, _≤_, _<_, min}
 use mathlib.Core.Path.{_≡_, refl, sym, ap, _∙_, subst}
-use mathlib.Core.Bool.{Bool, true, false}
+use mathlib.Core.Bool.{Bool, true, false, cond}
 use mathlib.Core.Option.{Option, none, some}
 use mathlib.Core.List.{List, [], _∷_, _++_}
 use mathlib.Core.Logic.{_⊎_, inl, inr}
 use native.Mathlib.Omega.{arith}
 use native.Mathlib.Nat.{min-eq-left, min-eq-right}
-use borrow.Author.Tests.{le-leb, lt-leb}
-use lib.Dec.{leb, le→leb}
+use borrow.Author.Tests.{le-leb, lt-leb, leb-true}
+use lib.Dec.{leb, nleb→lt}
 use lib.ListN.{length, take, drop}
 use lib.Seq.{take-all, take-length}
-use Rattle.nodes.proofs.Logic.{is-true, le-or-lt}
+use Rattle.nodes.specs.SetTable.{zeros}
+use Rattle.nodes.proofs.Logic.{le-or-lt}
+use Rattle.solver.specs.Solver.{workBytes}
 use Rattle.flows.specs.Search.{Progress}
-use Rattle.answers.specs.Answer.{Refusal, Answer, gives, refuses}
+use Rattle.answers.specs.Answer.{Refusal, Answer, gives, refuses, refusal}
 use Rattle.records.specs.Records.{written, kindNoFlow, kindAccepted, kindRefusal}
 use Rattle.records.specs.JobFile.{JobFile, mostNodes, jobOf, measuredOf}
+use Rattle.records.specs.Splice.{putFirst, putCount}
 use Rattle.records.specs.Writing.{flowBytes, mostOutput}
-use Rattle.records.specs.Splice.{putFirst}
 use Rattle.answers.proofs.Answer.{give-inj, never}
 use Rattle.records.proofs.Records.{written-length}
 use Rattle.records.proofs.JobFile.{job-asked}
 use Rattle.records.proofs.Writing.{found-most}
-use Rattle.nodes.specs.SetTable.{zeros}
 use Rattle.verdicts.specs.Calls.{search, foundBytes, Outcome, put, findAsks, findOutcome, findCall, verifyAsks, verifyOutcome, verifyCall}
-use Rattle.verdicts.specs.Programs.{refusalBytes, findOutput, verifyOutput}
-use Rattle.tables.specs.Printing.{Printed, printed, isRefusal}
+use Rattle.verdicts.specs.Programs.{judgedBytes, refusalBytes, findOutput, findProgram, verifyOutput, verifyProgram}
 use Rattle.verdicts.proofs.Demand.{asked-find}
+use Rattle.verdicts.proofs.Refusals.{AllNumbered, find-numbered}
+use Rattle.tables.specs.Printing.{Printed, tooLong, printed, refusalIn, findPrinted, verifyPrinted}
 
-pub refuse-inj : {A : Type 0} {r s : Refusal} → _≡_ {A = Answer A} (refuses r) (refuses s) → r ≡ s
+refuse-inj : {A : Type 0} {r s : Refusal} → _≡_ {A = Answer A} (refuses r) (refuses s) → r ≡ s
 refuse-inj e = cc
-
--- what fits is put
-pub put-whole : (work result out : List ℕ) → length result ≤ length out
-    → put work result out ≡ record { answer = gives (length result); work = work; out = result ++ drop (length result) out }
-unfolding put
-put-whole work result out h = rw (is-true (leb (length result) (length out)) (le→leb (length result) (length out) h))
-
-pub found-fits : (f : JobFile) → f .n ≤ mostNodes → length (foundBytes f) ≤ mostOutput
-found-fits f h = go (search (measuredOf f .mode) (jobOf f))
-  where
-    go : (o : Option Progress) → length (flowBytes (jobOf f) o) ≤ mostOutput
-    go none = subst (λ (k : ℕ). k ≤ mostOutput) (sym (written-length kindNoFlow [])) (omega arith)
-    go (some s) = found-most (jobOf f) s h
 
 -- the bytes that are judged
 pub first-bytes : (k n : ℕ) (l : List ℕ) → n ≡ min k (length l) → take (n - 0) (drop 0 l) ≡ take k l
@@ -55,86 +44,178 @@ first-bytes k n l q = by (le-or-lt k (length l))
         let e : n - 0 ≡ length l = omega (arith, q, min-eq-right g) in
         ap (λ (i : ℕ). take i l) e ∙ take-length l ∙ sym (take-all k l g)
 
-pub no-room : (refused : Bool) (output out : List ℕ) → length out < mostOutput → _≡_ {A = Printed} (record { answer = none; out = out }) (printed refused output out)
+-- what was written lies in the buffer
+pub printed-few : (refused : Option Refusal) (output out : List ℕ) (p : Printed) → p ≡ printed refused output out → p .count ≤ length out
 unfolding printed
-no-room refused output out h = rw (lt-leb mostOutput (length out) h)
+printed-few refused output out p e = subst (λ (p : Printed). p .count ≤ length out) (sym e) (by (leb (length output) (length out)) refl)
+  where
+    by : (t : Bool) → leb (length output) (length out) ≡ t
+        → cond {A = Printed} t (record { refused = refused; count = length output; out = output ++ drop (length output) out }) (record { refused = some (refusal tooLong); count = 0; out = out }) .count ≤ length out
+    by true e = leb-true (length output) (length out) e
+    by false e = omega arith
 
-pub has-room : (refused : Bool) (k : ℕ) (output out o : List ℕ) → mostOutput ≤ length out → k ≡ length output → o ≡ output ++ drop (length output) out
-    → _≡_ {A = Printed} (record { answer = some (record { refused = refused; count = k }); out = o }) (printed refused output out)
+-- ---- 001F
+refusal-length : (r : Refusal) → length (refusalBytes r) ≡ 9
+refusal-length r = written-length kindRefusal (r .number ∷ r .a ∷ r .b ∷ [])
+
+-- what is told, and how much is written, where so many bytes fit
+abbrev pub fitting : Refusal → Option ℕ → Refusal
+fitting r (some k) = r
+fitting r none = refusal tooLong
+
+abbrev pub fitted : Option ℕ → ℕ
+fitted (some k) = k
+fitted none = 0
+
+pub refusal-put : (r : Refusal) (x : Option ℕ) (bytes out o : List ℕ) → x ≡ putCount bytes out → o ≡ putFirst bytes out
+    → record { refused = some (fitting r x); count = fitted x; out = o } ≡ printed (some r) bytes out
 unfolding printed
-has-room refused k output out o h e p = rw (le-leb mostOutput (length out) h, e, p)
-
--- the bytes of 001F
-pub refusal-length : (r : Refusal) → 9 ≡ length (refusalBytes r)
-refusal-length r = sym (written-length kindRefusal (r .number ∷ r .a ∷ r .b ∷ []))
+refusal-put r x bytes out o p q = rw (p, q) (by (leb (length bytes) (length out)))
+  where
+    by : (t : Bool)
+        → _≡_ {A = Printed} (record { refused = some (fitting r (cond t (some (length bytes)) none)); count = fitted (cond t (some (length bytes)) none); out = cond t (bytes ++ drop (length bytes) out) out })
+        (cond t (record { refused = some r; count = length bytes; out = bytes ++ drop (length bytes) out }) (record { refused = some (refusal tooLong); count = 0; out = out }))
+    by true = refl
+    by false = refl
 
 -- ---- one call: its result, or its refusal
-module _ (w out o work : List ℕ) (room : mostOutput ≤ length out) where
-  wrote : (k : ℕ) (b : List ℕ) → length b ≤ mostOutput → _≡_ {A = Outcome} (record { answer = gives k; work = work; out = o }) (put w b out)
-      → (_≡_ {A = Printed} (record { answer = some (record { refused = false; count = k }); out = o }) (printed false b out)) × (k ≤ mostOutput)
-  wrote k b h e =
-      let p = e ∙ put-whole w b out (omega arith) in
-      let same : _≡_ {A = Answer ℕ} (gives k) (gives (length b)) = ap (λ (x : Outcome). x .answer) p in
-      let count : k ≡ length b = give-inj same in
-      (has-room false k b out o room count (ap (λ (x : Outcome). x .out) p), omega arith)
-
-  not-wrote : (r : Refusal) (b : List ℕ) → length b ≤ mostOutput → _≡_ {A = Outcome} (record { answer = refuses r; work = work; out = o }) (put w b out) → ⊥
-  not-wrote r b h e = never (ap (λ (x : Outcome). x .answer) (e ∙ put-whole w b out (omega arith)))
-
-  -- a refusal has left the buffer as it was, and its record is written
-  told : (r q : Refusal) (o′ : List ℕ) → _≡_ {A = Outcome} (record { answer = refuses r; work = work; out = o }) (record { answer = refuses q; work = w; out = out }) → o′ ≡ putFirst (refusalBytes r) o
-      → (_≡_ {A = Printed} (record { answer = some (record { refused = true; count = 9 }); out = o′ }) (printed true (refusalBytes q) out)) × (9 ≤ mostOutput)
-  told r q o′ e t =
-      let same : _≡_ {A = Answer ℕ} (refuses r) (refuses q) = ap (λ (x : Outcome). x .answer) e in
-      let plain : o ≡ out = ap (λ (x : Outcome). x .out) e in
-      (has-room true 9 (refusalBytes q) out o′ room (refusal-length q) (t ∙ ap (λ (l : List ℕ). putFirst (refusalBytes r) l) plain ∙ ap (λ (x : Refusal). putFirst (refusalBytes x) out) (refuse-inj same) ∙ whole), omega arith)
+module _ (w result out o work : List ℕ) where
+  -- a result that fits was put, and is all that is printed
+  put-gives : (k : ℕ) → _≡_ {A = Outcome} (record { answer = gives k; work = work; out = o }) (put w result out) → _≡_ {A = Printed} (record { refused = none; count = k; out = o }) (printed none result out)
+  unfolding put printed
+  put-gives k e = by (leb (length result) (length out)) e
     where
-      whole : putFirst (refusalBytes q) out ≡ refusalBytes q ++ drop (length (refusalBytes q)) out
-      whole = rw (le-leb (length (refusalBytes q)) (length out) (omega (arith, refusal-length q)))
+      by : (t : Bool)
+          → _≡_ {A = Outcome} (record { answer = gives k; work = work; out = o }) (cond t (record { answer = gives (length result); work = w; out = result ++ drop (length result) out }) (record { answer = refuses (refusal tooLong); work = w; out = out }))
+          → _≡_ {A = Printed} (record { refused = none; count = k; out = o }) (cond t (record { refused = none; count = length result; out = result ++ drop (length result) out }) (record { refused = some (refusal tooLong); count = 0; out = out }))
+      by true e = let count : k ≡ length result = give-inj (ap (λ (x : Outcome). x .answer) e) in rw (count, ap (λ (x : Outcome). x .out) e)
+      by false e = absurd (never (sym (ap (λ (x : Outcome). x .answer) e)))
+
+  -- one that does not fit was refused with 20, and nothing is printed
+  put-refuses : (r : Refusal) → _≡_ {A = Outcome} (record { answer = refuses r; work = work; out = o }) (put w result out)
+      → (length out < length result) × (r ≡ refusal tooLong) × (o ≡ out)
+  unfolding put
+  put-refuses r e = by (leb (length result) (length out)) refl e
+    where
+      by : (t : Bool) → leb (length result) (length out) ≡ t
+          → _≡_ {A = Outcome} (record { answer = refuses r; work = work; out = o }) (cond t (record { answer = gives (length result); work = w; out = result ++ drop (length result) out }) (record { answer = refuses (refusal tooLong); work = w; out = out }))
+          → (length out < length result) × (r ≡ refusal tooLong) × (o ≡ out)
+      by true h e = absurd (never (ap (λ (x : Outcome). x .answer) e))
+      by false h e = (nleb→lt (length result) (length out) (rw h tt), refuse-inj (ap (λ (x : Outcome). x .answer) e), ap (λ (x : Outcome). x .out) e)
+
+-- a refusal touched nothing, and its record is printed
+told : (w work out o : List ℕ) (r q : Refusal) → _≡_ {A = Outcome} (record { answer = refuses r; work = work; out = o }) (record { answer = refuses q; work = w; out = out })
+    → printed (some r) (refusalBytes r) o ≡ printed (some q) (refusalBytes q) out
+told w work out o r q e =
+    let same : r ≡ q = refuse-inj (ap (λ (x : Outcome). x .answer) e) in
+    rw (same, ap (λ (x : Outcome). x .out) e)
+
+printed-long : (refused : Option Refusal) (output out : List ℕ) → length out < length output → printed refused output out ≡ record { refused = some (refusal tooLong); count = 0; out = out }
+unfolding printed
+printed-long refused output out h = rw (lt-leb (length output) (length out) h)
 
 -- ---- the finder's program
-module _ (s w out o work : List ℕ) (room : mostOutput ≤ length out) where
-  pub find-prints : (k : ℕ) → _≡_ {A = Outcome} (record { answer = gives k; work = work; out = o }) (findCall s w out)
-      → (_≡_ {A = Printed} (record { answer = some (record { refused = false; count = k }); out = o }) (printed (isRefusal (findAsks s w)) (findOutput (findAsks s w)) out)) × (k ≤ mostOutput)
-  unfolding findCall
-  find-prints k e = by (findAsks s w) refl e
+module _ (input out o work : List ℕ) where
+  pub find-gives : (k : ℕ) → _≡_ {A = Outcome} (record { answer = gives k; work = work; out = o }) (findCall (take judgedBytes input) (zeros workBytes) out)
+      → _≡_ {A = Printed} (record { refused = none; count = k; out = o }) (findPrinted input out)
+  unfolding findCall findProgram
+  find-gives k e = by (findAsks (take judgedBytes input) (zeros workBytes)) e
     where
-      by : (x : Answer JobFile) → findAsks s w ≡ x → _≡_ {A = Outcome} (record { answer = gives k; work = work; out = o }) (findOutcome x w out)
-          → (_≡_ {A = Printed} (record { answer = some (record { refused = false; count = k }); out = o }) (printed (isRefusal x) (findOutput x) out)) × (k ≤ mostOutput)
-      by (gives f) q e = wrote (zeros (length w)) out o work room k (foundBytes f) (found-fits f (job-asked s f (asked-find s w f q .0) .few)) e
-      by (refuses r) q e = absurd (never (sym (ap (λ (x : Outcome). x .answer) e)))
-
-  pub find-tells : (r : Refusal) (o′ : List ℕ) → _≡_ {A = Outcome} (record { answer = refuses r; work = work; out = o }) (findCall s w out) → o′ ≡ putFirst (refusalBytes r) o
-      → (_≡_ {A = Printed} (record { answer = some (record { refused = true; count = 9 }); out = o′ }) (printed (isRefusal (findAsks s w)) (findOutput (findAsks s w)) out)) × (9 ≤ mostOutput)
-  unfolding findCall
-  find-tells r o′ e t = by (findAsks s w) refl e
-    where
-      by : (x : Answer JobFile) → findAsks s w ≡ x → _≡_ {A = Outcome} (record { answer = refuses r; work = work; out = o }) (findOutcome x w out)
-          → (_≡_ {A = Printed} (record { answer = some (record { refused = true; count = 9 }); out = o′ }) (printed (isRefusal x) (findOutput x) out)) × (9 ≤ mostOutput)
-      by (gives f) q e = absurd (not-wrote (zeros (length w)) out o work room r (foundBytes f) (found-fits f (job-asked s f (asked-find s w f q .0) .few)) e)
-      by (refuses q) p e = told w out o work room r q o′ e t
-
--- ---- the verifier's program
-module _ (s out o work : List ℕ) (room : mostOutput ≤ length out) where
-  accepted-fits : length (written kindAccepted []) ≤ mostOutput
-  accepted-fits = omega (arith, written-length kindAccepted [])
-
-  pub verify-prints : (k : ℕ) → _≡_ {A = Outcome} (record { answer = gives k; work = work; out = o }) (verifyCall s out)
-      → (_≡_ {A = Printed} (record { answer = some (record { refused = false; count = k }); out = o }) (printed (isRefusal (verifyAsks s)) (verifyOutput (verifyAsks s)) out)) × (k ≤ mostOutput)
-  unfolding verifyCall
-  verify-prints k e = by (verifyAsks s) e
-    where
-      by : (x : Answer Bool) → _≡_ {A = Outcome} (record { answer = gives k; work = work; out = o }) (verifyOutcome x out)
-          → (_≡_ {A = Printed} (record { answer = some (record { refused = false; count = k }); out = o }) (printed (isRefusal x) (verifyOutput x) out)) × (k ≤ mostOutput)
-      by (gives b) e = wrote [] out o work room k (written kindAccepted []) accepted-fits e
+      by : (x : Answer JobFile) → _≡_ {A = Outcome} (record { answer = gives k; work = work; out = o }) (findOutcome x (zeros workBytes) out) → _≡_ {A = Printed} (record { refused = none; count = k; out = o }) (printed (refusalIn x) (findOutput x) out)
+      by (gives f) e = put-gives (zeros (length (zeros workBytes))) (foundBytes f) out o work k e
       by (refuses r) e = absurd (never (sym (ap (λ (x : Outcome). x .answer) e)))
 
-  pub verify-tells : (r : Refusal) (o′ : List ℕ) → _≡_ {A = Outcome} (record { answer = refuses r; work = work; out = o }) (verifyCall s out) → o′ ≡ putFirst (refusalBytes r) o
-      → (_≡_ {A = Printed} (record { answer = some (record { refused = true; count = 9 }); out = o′ }) (printed (isRefusal (verifyAsks s)) (verifyOutput (verifyAsks s)) out)) × (9 ≤ mostOutput)
-  unfolding verifyCall
-  verify-tells r o′ e t = by (verifyAsks s) e
+  -- 20 says that the result does not fit
+  pub find-20 : (r : Refusal) → r .number ≡ tooLong → _≡_ {A = Outcome} (record { answer = refuses r; work = work; out = o }) (findCall (take judgedBytes input) (zeros workBytes) out)
+      → _≡_ {A = Printed} (record { refused = some r; count = 0; out = o }) (findPrinted input out)
+  unfolding findCall findProgram AllNumbered
+  find-20 r n e = by (findAsks (take judgedBytes input) (zeros workBytes)) (find-numbered Unit (take judgedBytes input) (zeros workBytes)) e
     where
-      by : (x : Answer Bool) → _≡_ {A = Outcome} (record { answer = refuses r; work = work; out = o }) (verifyOutcome x out)
-          → (_≡_ {A = Printed} (record { answer = some (record { refused = true; count = 9 }); out = o′ }) (printed (isRefusal x) (verifyOutput x) out)) × (9 ≤ mostOutput)
-      by (gives b) e = absurd (not-wrote [] out o work room r (written kindAccepted []) accepted-fits e)
-      by (refuses q) e = told [] out o work room r q o′ e t
+      by : (x : Answer JobFile) → AllNumbered Unit x → _≡_ {A = Outcome} (record { answer = refuses r; work = work; out = o }) (findOutcome x (zeros workBytes) out)
+          → _≡_ {A = Printed} (record { refused = some r; count = 0; out = o }) (printed (refusalIn x) (findOutput x) out)
+      by (gives f) h e =
+          let (long, same, plain) = put-refuses (zeros (length (zeros workBytes))) (foundBytes f) out o work r e in
+          rw (same, plain) (sym (printed-long none (foundBytes f) out long))
+      by (refuses q) h e =
+          let same : r ≡ q = refuse-inj (ap (λ (x : Outcome). x .answer) e) in
+          let number : r .number ≡ q .number = ap (λ (x : Refusal). x .number) same in
+          absurd (omega (arith, h .before, n, number))
+
+  -- any other refusal is a question's
+  pub find-refuses : (r : Refusal) → (r .number ≡ tooLong → ⊥) → _≡_ {A = Outcome} (record { answer = refuses r; work = work; out = o }) (findCall (take judgedBytes input) (zeros workBytes) out)
+      → printed (some r) (refusalBytes r) o ≡ findPrinted input out
+  unfolding findCall findProgram
+  find-refuses r n e = by (findAsks (take judgedBytes input) (zeros workBytes)) e
+    where
+      by : (x : Answer JobFile) → _≡_ {A = Outcome} (record { answer = refuses r; work = work; out = o }) (findOutcome x (zeros workBytes) out) → printed (some r) (refusalBytes r) o ≡ printed (refusalIn x) (findOutput x) out
+      by (gives f) e = absurd (n (ap (λ (x : Refusal). x .number) (put-refuses (zeros (length (zeros workBytes))) (foundBytes f) out o work r e .1)))
+      by (refuses q) e = told (zeros workBytes) work out o r q e
+
+-- ---- the verifier's program
+module _ (input out o work : List ℕ) where
+  pub verify-gives : (k : ℕ) → _≡_ {A = Outcome} (record { answer = gives k; work = work; out = o }) (verifyCall (take judgedBytes input) out)
+      → _≡_ {A = Printed} (record { refused = none; count = k; out = o }) (verifyPrinted input out)
+  unfolding verifyCall verifyProgram
+  verify-gives k e = by (verifyAsks (take judgedBytes input)) e
+    where
+      by : (x : Answer Bool) → _≡_ {A = Outcome} (record { answer = gives k; work = work; out = o }) (verifyOutcome x out) → _≡_ {A = Printed} (record { refused = none; count = k; out = o }) (printed (refusalIn x) (verifyOutput x) out)
+      by (gives b) e = put-gives [] (written kindAccepted []) out o work k e
+      by (refuses r) e = absurd (never (sym (ap (λ (x : Outcome). x .answer) e)))
+
+  -- where 0014 does not fit, 001F does not
+  pub verify-refuses : (r : Refusal) → _≡_ {A = Outcome} (record { answer = refuses r; work = work; out = o }) (verifyCall (take judgedBytes input) out)
+      → printed (some r) (refusalBytes r) o ≡ verifyPrinted input out
+  unfolding verifyCall verifyProgram
+  verify-refuses r e = by (verifyAsks (take judgedBytes input)) e
+    where
+      by : (x : Answer Bool) → _≡_ {A = Outcome} (record { answer = refuses r; work = work; out = o }) (verifyOutcome x out) → printed (some r) (refusalBytes r) o ≡ printed (refusalIn x) (verifyOutput x) out
+      by (gives b) e =
+          let (long, same, plain) = put-refuses [] (written kindAccepted []) out o work r e in
+          let longer : length out < length (refusalBytes r) = omega (arith, long, refusal-length r, written-length kindAccepted []) in
+          rw plain (printed-long (some r) (refusalBytes r) out longer ∙ sym (printed-long none (written kindAccepted []) out long))
+      by (refuses q) e = told [] work out o r q e
+
+-- ---- with a buffer that has room for any output
+refusal-few : (r : Refusal) → length (refusalBytes r) ≤ mostOutput
+refusal-few r = omega (arith, refusal-length r)
+
+pub found-fits : (f : JobFile) → f .n ≤ mostNodes → length (foundBytes f) ≤ mostOutput
+found-fits f h = go (search (measuredOf f .mode) (jobOf f))
+  where
+    go : (o : Option Progress) → length (flowBytes (jobOf f) o) ≤ mostOutput
+    go none = subst (λ (k : ℕ). k ≤ mostOutput) (sym (written-length kindNoFlow [])) (omega arith)
+    go (some s) = found-most (jobOf f) s h
+
+-- all of it is written
+room-printed : (refused : Option Refusal) (output out : List ℕ) → length output ≤ mostOutput → mostOutput ≤ length out
+    → printed refused output out ≡ record { refused = refused; count = length output; out = output ++ drop (length output) out }
+unfolding printed
+room-printed refused output out h g = rw (le-leb (length output) (length out) (omega arith)) refl
+
+-- so the programs, which lend such a buffer, never end with 20
+pub find-tells : (input out : List ℕ) → mostOutput ≤ length out
+    → findPrinted input out ≡ record { refused = refusalIn (findAsks (take judgedBytes input) (zeros workBytes)); count = length (findProgram input); out = findProgram input ++ drop (length (findProgram input)) out }
+unfolding findProgram
+find-tells input out room = room-printed (refusalIn (findAsks s w)) (findOutput (findAsks s w)) out (by (findAsks s w) refl) room
+  where
+    s : List ℕ
+    s = take judgedBytes input
+
+    w : List ℕ
+    w = zeros workBytes
+
+    by : (x : Answer JobFile) → findAsks s w ≡ x → length (findOutput x) ≤ mostOutput
+    by (gives f) q = found-fits f (job-asked s f (asked-find s w f q .0) .few)
+    by (refuses r) q = refusal-few r
+
+pub verify-tells : (input out : List ℕ) → mostOutput ≤ length out
+    → verifyPrinted input out ≡ record { refused = refusalIn (verifyAsks (take judgedBytes input)); count = length (verifyProgram input); out = verifyProgram input ++ drop (length (verifyProgram input)) out }
+unfolding verifyProgram
+verify-tells input out room = room-printed (refusalIn (verifyAsks s)) (verifyOutput (verifyAsks s)) out (by (verifyAsks s)) room
+  where
+    s : List ℕ
+    s = take judgedBytes input
+
+    by : (x : Answer Bool) → length (verifyOutput x) ≤ mostOutput
+    by (gives b) = omega (arith, written-length kindAccepted [])
+    by (refuses r) = refusal-few r

@@ -1,53 +1,52 @@
--- The programs on lent bytes: the whole output of each at the front of a buffer that has room for any.
-use Prim.Native.Nat.{ℕ, _≤_}
-use mathlib.Core.Bool.{Bool, true, false, cond}
+-- The programs on lent bytes, for every buffer: the whole output at its front, or 20 where it is longer.
+use Prim.Native.Nat.{ℕ}
+use mathlib.Core.Bool.{cond}
 use mathlib.Core.Option.{Option, none, some}
 use mathlib.Core.List.{List, _++_}
 use lib.Dec.{leb}
 use lib.ListN.{length, take, drop}
-use Rattle.answers.specs.Answer.{Answer, gives, refuses}
-use Rattle.records.specs.Writing.{mostOutput}
 use Rattle.nodes.specs.SetTable.{zeros}
 use Rattle.solver.specs.Solver.{workBytes}
+use Rattle.answers.specs.Answer.{Refusal, Answer, gives, refuses, refusal}
+use Rattle.records.specs.Refusals.{numbersIn}
 use Rattle.verdicts.specs.Calls.{findAsks, verifyAsks}
 use Rattle.verdicts.specs.Programs.{judgedBytes, findProgram, verifyProgram}
 use Rattle.tables.specs.declared.output.Output.{Output}
-use Rattle.tables.specs.declared.output.Output.the-variants.{Wrote, Refused as Told, NoRoom}
+use Rattle.tables.specs.declared.output.Told.{Told}
+use Rattle.tables.specs.declared.output.Told.the-variants.{Result, Refusal as Refused}
 
--- how many bytes the program writes, and whether they are 001F
-pub record Ended : Type 0 where
-  pub refused : Bool
-  pub count : ℕ
-
+-- the refusal, none for a result; how many bytes were written; the buffer
 pub record Printed : Type 0 where
-  pub answer : Option Ended
+  pub refused : Option Refusal
+  pub count : ℕ
   pub out : List ℕ
 
--- a buffer with less room stays as it was
-unfoldable pub printed : (refused : Bool) (output out : List ℕ) → Printed
-printed refused output out =
-    cond (leb mostOutput (length out))
-    (record { answer = some (record { refused = refused; count = length output }); out = output ++ drop (length output) out })
-    (record { answer = none; out = out })
+-- the writer's question
+abbrev pub tooLong : ℕ
+tooLong = 20
 
-abbrev pub isRefusal : {A : Type 0} → Answer A → Bool
-isRefusal (gives a) = false
-isRefusal (refuses r) = true
+-- does the output fit the lent buffer (20)? Where it does not, nothing is written, 001F neither.
+unfoldable pub printed : Option Refusal → (output out : List ℕ) → Printed
+printed refused output out =
+    cond (leb (length output) (length out))
+    (record { refused = refused; count = length output; out = output ++ drop (length output) out })
+    (record { refused = some (refusal tooLong); count = 0; out = out })
+
+abbrev pub refusalIn : {A : Type 0} → Answer A → Option Refusal
+refusalIn (gives a) = none
+refusalIn (refuses r) = some r
 
 abbrev pub findPrinted : (input out : List ℕ) → Printed
-findPrinted input out = printed (isRefusal (findAsks (take judgedBytes input) (zeros workBytes))) (findProgram input) out
+findPrinted input out = printed (refusalIn (findAsks (take judgedBytes input) (zeros workBytes))) (findProgram input) out
 
 abbrev pub verifyPrinted : (input out : List ℕ) → Printed
-verifyPrinted input out = printed (isRefusal (verifyAsks (take judgedBytes input))) (verifyProgram input) out
+verifyPrinted input out = printed (refusalIn (verifyAsks (take judgedBytes input))) (verifyProgram input) out
 
--- what the code answers
-abbrev pub outputOf : Output → Option Ended
-outputOf (Wrote k) = some (record { refused = false; count = k })
-outputOf (Told k) = some (record { refused = true; count = k })
-outputOf NoRoom = none
+-- ---- what the code answers
+abbrev pub refusedOf : Told → Option Refusal
+refusedOf Result = none
+refusedOf (Refused m) = some (numbersIn m)
 
--- what the answer says lies in the buffer
-abbrev pub InRoom : Output → Type 0
-InRoom (Wrote k) = k ≤ mostOutput
-InRoom (Told k) = k ≤ mostOutput
-InRoom NoRoom = Unit
+-- with the buffer as it is then
+abbrev pub outputOf : Output → (out : List ℕ) → Printed
+outputOf r out = record { refused = refusedOf (r .told); count = r .count; out = out }

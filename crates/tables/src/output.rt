@@ -1,43 +1,71 @@
 // The two programs on lent bytes: all that each writes for the bytes of its standard input.
 ghost use mathlib.Core.Path.{_≡_};
+ghost use mathlib.Core.Option.{some};
 ghost use Prim.Native.Nat.{min};
-ghost use Rattle.records.specs.Refusals.{refusalOf};
-ghost use Rattle.records.specs.Splice.{putFirst};
+ghost use Rattle.records.specs.Refusals.{numbersIn};
 ghost use Rattle.verdicts.specs.Programs.{judgedBytes, refusalBytes};
-ghost use Rattle.tables.specs.Printing.{findPrinted, verifyPrinted, outputOf, InRoom};
+ghost use Rattle.tables.specs.Printing.{printed, findPrinted, verifyPrinted, outputOf};
 use crate::Reply;
 use crate::find::find;
 use crate::verify;
 use finder::WORK_BYTES;
-use records::common::HEAD_BYTES;
 use records::common::KIND_REFUSAL;
+use records::common::Numbers;
 use records::common::Refused;
 use records::common::numbers_of;
+use records::writer::Put;
 use records::writer::write_record;
 
 // Each judges the first 65,536 bytes.
 pub const JUDGED_BYTES: usize = 65536;
 
-// A buffer of so many bytes has room for the output of any call.
+// With a buffer of so many bytes no call ends with 20.
 pub const MOST_OUTPUT: usize = 16780;
 
-// The bytes of 001F.
-pub const REFUSAL_BYTES: usize = HEAD_BYTES + 3;
+// The writer's question.
+const TOO_LONG: u8 = 20;
 
-// How many bytes were written: of a result, or of 001F; or that the buffer is too small for some output.
-pub enum Output {
-    Wrote(usize),
-    Refused(usize),
-    NoRoom,
+// What a call ends with: a result, or a refusal with document 01's number, a and b.
+pub enum Told {
+    Result,
+    Refusal(Numbers),
 }
 
-// 001F at the front of the buffer, where it fits.
-fn write_refusal(out: &mut [u8], q: Refused)
-    ensures { λ _. ⌜ now (out .exit) ≡ putFirst (refusalBytes (refusalOf q)) (now (out .entry)) ⌝ }
+// How many bytes were written at the front of the buffer: of a result, or of 001F. With 20 nothing is written.
+pub struct Output {
+    pub count: usize,
+    pub told: Told,
+}
+
+// A result of so many bytes.
+fn wrote(count: usize) -> Output
+    ensures { λ r. ⌜ r ≡ record { count = count; told = Told.Result } ⌝ }
 {
-    let m = numbers_of(q);
+    Output {
+        count,
+        told: Told::Result,
+    }
+}
+
+// A refusal, of which so many bytes were written.
+fn refused(count: usize, m: Numbers) -> Output
+    ensures { λ r. ⌜ r ≡ record { count = count; told = Told.Refusal m } ⌝ }
+{
+    Output {
+        count,
+        told: Told::Refusal(m),
+    }
+}
+
+// 001F at the front of the buffer, or 20 where it does not fit.
+fn write_refusal(out: &mut [u8], m: Numbers) -> Output
+    ensures { λ r. ⌜ outputOf r (now (out .exit)) ≡ printed (some (numbersIn m)) (refusalBytes (numbersIn m)) (now (out .entry)) ⌝ }
+{
     let payload = [m.number, m.a, m.b];
-    write_record(out, KIND_REFUSAL, &payload);
+    match write_record(out, KIND_REFUSAL, &payload) {
+        Put::Bytes(k) => refused(k, m),
+        Put::TooLong => refused(0, numbers_of(Refused::ResultTooLong)),
+    }
 }
 
 // How many of so many bytes are judged.
@@ -50,39 +78,31 @@ fn judged(len: usize) -> usize
     len
 }
 
-// All that the finder's program writes.
+// All that the finder's program writes. Where the result does not fit (20), neither is 001F written.
 pub fn find_bytes(input: &[u8], out: &mut [u8]) -> Output
-    ensures { λ r. ⌜ record { answer = outputOf r; out = now (out .exit) } ≡ findPrinted (now (input .entry)) (now (out .entry)) ⌝ }
-    ensures { λ r. ⌜ InRoom r ⌝ }
+    ensures { λ r. ⌜ outputOf r (now (out .exit)) ≡ findPrinted (now (input .entry)) (now (out .entry)) ⌝ }
 {
-    if out.len() < MOST_OUTPUT {
-        return Output::NoRoom;
-    }
     let n = judged(input.len());
     let mut work = [0u8; WORK_BYTES];
     match find(&input[0..n], &mut work, out) {
-        Reply::Wrote(k) => Output::Wrote(k),
+        Reply::Wrote(k) => wrote(k),
         Reply::Refused(q) => {
-            write_refusal(out, q);
-            Output::Refused(REFUSAL_BYTES)
+            let m = numbers_of(q);
+            if m.number == TOO_LONG {
+                return refused(0, m);
+            }
+            write_refusal(out, m)
         }
     }
 }
 
-// All that the verifier's program writes.
+// All that the verifier's program writes. Where 0014 does not fit (20), 001F does not either: it is longer.
 pub fn verify_bytes(input: &[u8], out: &mut [u8]) -> Output
-    ensures { λ r. ⌜ record { answer = outputOf r; out = now (out .exit) } ≡ verifyPrinted (now (input .entry)) (now (out .entry)) ⌝ }
-    ensures { λ r. ⌜ InRoom r ⌝ }
+    ensures { λ r. ⌜ outputOf r (now (out .exit)) ≡ verifyPrinted (now (input .entry)) (now (out .entry)) ⌝ }
 {
-    if out.len() < MOST_OUTPUT {
-        return Output::NoRoom;
-    }
     let n = judged(input.len());
     match verify(&input[0..n], out) {
-        Reply::Wrote(k) => Output::Wrote(k),
-        Reply::Refused(q) => {
-            write_refusal(out, q);
-            Output::Refused(REFUSAL_BYTES)
-        }
+        Reply::Wrote(k) => wrote(k),
+        Reply::Refused(q) => write_refusal(out, numbers_of(q)),
     }
 }

@@ -15,8 +15,8 @@ byte-requires c κs = search needs
 mul-at : tie.Need-mul-at Inv-loop μ-loop
 mul-at c = search needs
 
-cast-at : tie.Need-cast-at Inv-loop μ-loop
-cast-at c = search needs
+wide-requires : tie.Need-wide-requires Inv-loop μ-loop
+wide-requires c κs = search needs
 
 add-at : tie.Need-add-at Inv-loop μ-loop
 add-at c = search needs
@@ -24,8 +24,14 @@ add-at c = search needs
 loop-holds : tie.Need-loop-holds Inv-loop μ-loop
 loop-holds c = search needs
 
+entry-end-requires : tie.Need-entry-end-requires Inv-loop μ-loop
+entry-end-requires c κs = search needs
+
 show-node-requires : tie.Need-show-node-requires Inv-loop μ-loop
 show-node-requires c κs = search needs
+
+returns : tie.Need-returns Inv-loop μ-loop
+returns c = search needs
 
 add-v : tie.Need-add-v Inv-loop μ-loop
 add-v c = search needs
@@ -36,8 +42,8 @@ loop-less c = search needs
 loop-again : tie.Need-loop-again Inv-loop μ-loop
 loop-again c = search needs
 
-returns : tie.Need-returns Inv-loop μ-loop
-returns c = search needs
+returns-2 : tie.Need-returns-2 Inv-loop μ-loop
+returns-2 c = search needs
 
 pub show-flow-spec : {M : Type 1} → statement M
 show-flow-spec =
@@ -47,11 +53,13 @@ show-flow-spec =
     μ-loop
     byte-requires
     mul-at
-    cast-at
+    wide-requires
     add-at
     loop-holds
+    entry-end-requires
     show-node-requires
+    returns
     add-v
     loop-less
     loop-again
-    returns)
+    returns-2)

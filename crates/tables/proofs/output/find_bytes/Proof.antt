@@ -1,24 +1,21 @@
 use Prim.Native.Nat.{ℕ}
-use mathlib.Core.Path.{sym, ap, _∙_}
+use mathlib.Core.Path.{_≡_, sym, ap, _∙_, subst}
 use mathlib.Core.List.{List}
-use native.Mathlib.Omega.{arith}
-use borrow.Author.Needs.{needs}
-use lib.ListN.{take}
-use Rattle.records.specs.Refusals.{refusalOf}
-use Rattle.tables.specs.declared.Reply.{Reply}
+use mathlib.Core.Option.{some}
 use Rattle.nodes.specs.SetTable.{zeros}
 use Rattle.solver.specs.Solver.{workBytes}
-use Rattle.verdicts.specs.Calls.{Outcome, findAsks, findCall}
-use Rattle.verdicts.specs.Programs.{judgedBytes, findProgram}
+use Rattle.answers.specs.Answer.{Refusal}
+use Rattle.records.specs.Refusals.{refusalOf}
+use Rattle.verdicts.specs.Calls.{Outcome, findCall}
+use Rattle.verdicts.specs.Programs.{judgedBytes, refusalBytes}
+use Rattle.tables.specs.declared.Reply.{Reply}
+use Rattle.tables.specs.declared.output.Output.{Output}
 use Rattle.tables.specs.Replies.{replyOf}
-use Rattle.tables.specs.Printing.{isRefusal}
-use Rattle.tables.proofs.Printing.{first-bytes, no-room, find-prints, find-tells}
+use Rattle.tables.specs.Printing.{Printed, tooLong, printed, outputOf}
+use Rattle.tables.proofs.Printing.{first-bytes, find-gives, find-20, find-refuses}
+use borrow.Author.Needs.{needs}
 use Rattle.tables.proofs.output.find_bytes.Statement.{statement}
 use Rattle.tables.proofs.output.find_bytes.Tie as tie
-
-returns : tie.Need-returns
-returns c = let a = c .before .before .before .args in
-    (no-room (isRefusal (findAsks (take judgedBytes (a .input .now)) (zeros workBytes))) (findProgram (a .input .now)) (a .out .now) (omega arith), tt)
 
 judged-requires : tie.Need-judged-requires
 judged-requires c κs = search needs
@@ -41,41 +38,65 @@ find-requires c κs = search needs
 enum-known-k : tie.Need-enum-known-k
 enum-known-k c = search needs
 
+wrote-requires : tie.Need-wrote-requires
+wrote-requires c κs = search needs
+
 enum-known-q : tie.Need-enum-known-q
 enum-known-q c = search needs
 
-write-refusal-requires : tie.Need-write-refusal-requires
-write-refusal-requires c κs = search needs
+numbers-of-requires : tie.Need-numbers-of-requires
+numbers-of-requires c κs = search needs
+
+refused-requires : tie.Need-refused-requires
+refused-requires c κs = search needs
 
 same-length : tie.Need-same-length
 same-length c = search needs
 
-returns-2 : tie.Need-returns-2
-unfolding findProgram
-returns-2 c = let a = c .before .before .before .before .before .before .before .before .before .before .before .before .before .before .args in
-    let l = a .input .now in
-    let r = c .before .before .before .before .before .before .find in
-    let here = ap {B = Outcome} (λ (x : Reply). record { answer = replyOf x; work = r .last .1 .0; out = r .last .1 .1 .0 }) (sym (c .before .k .given .1)) in
-    let call = here ∙ r .ensures ∙ ap (λ (s : List ℕ). findCall s (zeros workBytes) (a .out .now)) (first-bytes judgedBytes (c .before .before .before .before .before .before .before .before .before .before .judged .result) l (c .before .before .before .before .before .before .before .before .before .before .judged .ensures)) in
-    find-prints (take judgedBytes l) (zeros workBytes) (a .out .now) (r .last .1 .1 .0) (r .last .1 .0) (omega arith) (c .before .k .given .0 .0) call
+returns : tie.Need-returns
+returns c = let a = c .before .before .before .before .before .before .before .before .before .before .before .before .before .before .before .before .before .args in
+    let r = c .before .before .before .before .before .before .before .before .before .before .find in
+    let j = c .before .before .before .before .before .before .before .before .before .before .before .before .before .before .judged in
+    let o = r .last .1 .1 .0 in
+    let here = ap {B = Outcome} (λ (x : Reply). record { answer = replyOf x; work = r .last .1 .0; out = o }) (sym (c .before .before .before .before .before .q .given .1)) in
+    let call = here ∙ r .ensures ∙ ap (λ (s : List ℕ). findCall s (zeros workBytes) (a .out .now)) (first-bytes judgedBytes (j .result) (a .input .now) (j .ensures)) in
+    let n = c .before .before .before .numbers-of in
+    let same = n .ensures in
+    ap (λ (x : Output). outputOf x o) (c .refused .ensures) ∙ ap {B = Printed} (λ (r : Refusal). record { refused = some r; count = 0; out = o }) same ∙ find-20 (a .input .now) (a .out .now) o (r .last .1 .0) (refusalOf (c .before .before .before .before .before .q .given .0 .0)) (subst (λ (r : Refusal). r .number ≡ tooLong) same (c .before .if1 .taken)) call
+
+write-refusal-requires : tie.Need-write-refusal-requires
+write-refusal-requires c κs = search needs
 
 same-length-2 : tie.Need-same-length-2
 same-length-2 c = search needs
 
+returns-2 : tie.Need-returns-2
+returns-2 c = let a = c .before .before .before .before .before .before .before .before .before .before .before .before .before .before .args in
+    let r = c .before .before .before .before .before .before .before .find in
+    let j = c .before .before .before .before .before .before .before .before .before .before .before .judged in
+    let o = r .last .1 .1 .0 in
+    let here = ap {B = Outcome} (λ (x : Reply). record { answer = replyOf x; work = r .last .1 .0; out = o }) (sym (c .before .before .k .given .1)) in
+    let call = here ∙ r .ensures ∙ ap (λ (s : List ℕ). findCall s (zeros workBytes) (a .out .now)) (first-bytes judgedBytes (j .result) (a .input .now) (j .ensures)) in
+    ap (λ (x : Output). outputOf x o) (c .wrote .ensures) ∙ find-gives (a .input .now) (a .out .now) o (r .last .1 .0) (c .before .before .k .given .0 .0) call
+
+same-length-3 : tie.Need-same-length-3
+same-length-3 c = search needs
+
 returns-3 : tie.Need-returns-3
-unfolding findProgram
-returns-3 c = let a = c .before .before .before .before .before .before .before .before .before .before .before .before .before .before .before .before .before .before .args in
-    let l = a .input .now in
-    let r = c .before .before .before .before .before .before .before .before .before .before .find in
-    let here = ap {B = Outcome} (λ (x : Reply). record { answer = replyOf x; work = r .last .1 .0; out = r .last .1 .1 .0 }) (sym (c .before .before .before .before .before .q .given .1)) in
-    let call = here ∙ r .ensures ∙ ap (λ (s : List ℕ). findCall s (zeros workBytes) (a .out .now)) (first-bytes judgedBytes (c .before .before .before .before .before .before .before .before .before .before .before .before .before .before .judged .result) l (c .before .before .before .before .before .before .before .before .before .before .before .before .before .before .judged .ensures)) in
-    find-tells (take judgedBytes l) (zeros workBytes) (a .out .now) (r .last .1 .1 .0) (r .last .1 .0) (omega arith) (refusalOf (c .before .before .before .before .before .q .given .0 .0)) (c .before .before .write-refusal .last .0) call (c .before .before .write-refusal .ensures)
+returns-3 c = let a = c .before .before .before .before .before .before .before .before .before .before .before .before .before .before .before .before .before .before .before .before .args in
+    let r = c .before .before .before .before .before .before .before .before .before .before .before .before .before .find in
+    let j = c .before .before .before .before .before .before .before .before .before .before .before .before .before .before .before .before .before .judged in
+    let o = r .last .1 .1 .0 in
+    let here = ap {B = Outcome} (λ (x : Reply). record { answer = replyOf x; work = r .last .1 .0; out = o }) (sym (c .before .before .before .before .before .before .before .before .q .given .1)) in
+    let call = here ∙ r .ensures ∙ ap (λ (s : List ℕ). findCall s (zeros workBytes) (a .out .now)) (first-bytes judgedBytes (j .result) (a .input .now) (j .ensures)) in
+    let n = c .before .before .before .before .before .before .numbers-of in
+    let same = n .ensures in
+    c .before .before .write-refusal .ensures ∙ ap (λ (r : Refusal). printed (some r) (refusalBytes r) o) same ∙ find-refuses (a .input .now) (a .out .now) o (r .last .1 .0) (refusalOf (c .before .before .before .before .before .before .before .before .q .given .0 .0)) (λ (e : refusalOf (c .before .before .before .before .before .before .before .before .q .given .0 .0) .number ≡ tooLong). c .before .before .before .before .if1 .left (ap (λ (r : Refusal). r .number) same ∙ e)) call
 
 pub find-bytes-spec : {M : Type 1} → statement M
 find-bytes-spec =
     tie.close
     (tie.spec
-    returns
     judged-requires
     sub-find
     part-find-start
@@ -83,9 +104,14 @@ find-bytes-spec =
     slice-aggregate-find
     find-requires
     enum-known-k
+    wrote-requires
     enum-known-q
-    write-refusal-requires
+    numbers-of-requires
+    refused-requires
     same-length
-    returns-2
+    returns
+    write-refusal-requires
     same-length-2
+    returns-2
+    same-length-3
     returns-3)

@@ -1,22 +1,19 @@
 use Prim.Native.Nat.{ℕ}
 use mathlib.Core.Path.{sym, ap, _∙_}
 use mathlib.Core.List.{List, []}
-use native.Mathlib.Omega.{arith}
-use borrow.Author.Needs.{needs}
-use lib.ListN.{take}
+use mathlib.Core.Option.{some}
+use Rattle.answers.specs.Answer.{Refusal}
 use Rattle.records.specs.Refusals.{refusalOf}
+use Rattle.verdicts.specs.Calls.{Outcome, verifyCall}
+use Rattle.verdicts.specs.Programs.{judgedBytes, refusalBytes}
 use Rattle.tables.specs.declared.Reply.{Reply}
-use Rattle.verdicts.specs.Calls.{Outcome, verifyAsks, verifyCall}
-use Rattle.verdicts.specs.Programs.{judgedBytes, verifyProgram}
+use Rattle.tables.specs.declared.output.Output.{Output}
 use Rattle.tables.specs.Replies.{replyOf}
-use Rattle.tables.specs.Printing.{isRefusal}
-use Rattle.tables.proofs.Printing.{first-bytes, no-room, verify-prints, verify-tells}
+use Rattle.tables.specs.Printing.{printed, outputOf}
+use Rattle.tables.proofs.Printing.{first-bytes, verify-gives, verify-refuses}
+use borrow.Author.Needs.{needs}
 use Rattle.tables.proofs.output.verify_bytes.Statement.{statement}
 use Rattle.tables.proofs.output.verify_bytes.Tie as tie
-
-returns : tie.Need-returns
-returns c = let a = c .before .before .before .args in
-    (no-room (isRefusal (verifyAsks (take judgedBytes (a .input .now)))) (verifyProgram (a .input .now)) (a .out .now) (omega arith), tt)
 
 judged-requires : tie.Need-judged-requires
 judged-requires c κs = search needs
@@ -36,8 +33,14 @@ verify-requires c κs = search needs
 enum-known-k : tie.Need-enum-known-k
 enum-known-k c = search needs
 
+wrote-requires : tie.Need-wrote-requires
+wrote-requires c κs = search needs
+
 enum-known-q : tie.Need-enum-known-q
 enum-known-q c = search needs
+
+numbers-of-requires : tie.Need-numbers-of-requires
+numbers-of-requires c κs = search needs
 
 write-refusal-requires : tie.Need-write-refusal-requires
 write-refusal-requires c κs = search needs
@@ -45,41 +48,42 @@ write-refusal-requires c κs = search needs
 same-length : tie.Need-same-length
 same-length c = search needs
 
-returns-2 : tie.Need-returns-2
-unfolding verifyProgram
-returns-2 c = let a = c .before .before .before .before .before .before .before .before .before .before .before .before .args in
-    let l = a .input .now in
-    let r = c .before .before .before .before .before .verify in
-    let here = ap {B = Outcome} (λ (x : Reply). record { answer = replyOf x; work = []; out = r .last .1 .0 }) (sym (c .before .k .given .1)) in
-    let call = here ∙ r .ensures ∙ ap (λ (s : List ℕ). verifyCall s (a .out .now)) (first-bytes judgedBytes (c .before .before .before .before .before .before .before .before .judged .result) l (c .before .before .before .before .before .before .before .before .judged .ensures)) in
-    verify-prints (take judgedBytes l) (a .out .now) (r .last .1 .0) [] (omega arith) (c .before .k .given .0 .0) call
+returns : tie.Need-returns
+returns c = let a = c .before .before .before .before .before .before .before .before .before .before .before .before .args in
+    let r = c .before .before .before .before .before .before .verify in
+    let j = c .before .before .before .before .before .before .before .before .before .judged in
+    let o = r .last .1 .0 in
+    let here = ap {B = Outcome} (λ (x : Reply). record { answer = replyOf x; work = []; out = o }) (sym (c .before .before .k .given .1)) in
+    let call = here ∙ r .ensures ∙ ap (λ (s : List ℕ). verifyCall s (a .out .now)) (first-bytes judgedBytes (j .result) (a .input .now) (j .ensures)) in
+    ap (λ (x : Output). outputOf x o) (c .wrote .ensures) ∙ verify-gives (a .input .now) (a .out .now) o [] (c .before .before .k .given .0 .0) call
 
 same-length-2 : tie.Need-same-length-2
 same-length-2 c = search needs
 
-returns-3 : tie.Need-returns-3
-unfolding verifyProgram
-returns-3 c = let a = c .before .before .before .before .before .before .before .before .before .before .before .before .before .before .before .before .args in
-    let l = a .input .now in
-    let r = c .before .before .before .before .before .before .before .before .before .verify in
-    let here = ap {B = Outcome} (λ (x : Reply). record { answer = replyOf x; work = []; out = r .last .1 .0 }) (sym (c .before .before .before .before .before .q .given .1)) in
-    let call = here ∙ r .ensures ∙ ap (λ (s : List ℕ). verifyCall s (a .out .now)) (first-bytes judgedBytes (c .before .before .before .before .before .before .before .before .before .before .before .before .judged .result) l (c .before .before .before .before .before .before .before .before .before .before .before .before .judged .ensures)) in
-    verify-tells (take judgedBytes l) (a .out .now) (r .last .1 .0) [] (omega arith) (refusalOf (c .before .before .before .before .before .q .given .0 .0)) (c .before .before .write-refusal .last .0) call (c .before .before .write-refusal .ensures)
+returns-2 : tie.Need-returns-2
+returns-2 c = let a = c .before .before .before .before .before .before .before .before .before .before .before .before .before .before .before .before .args in
+    let r = c .before .before .before .before .before .before .before .before .before .before .verify in
+    let j = c .before .before .before .before .before .before .before .before .before .before .before .before .before .judged in
+    let o = r .last .1 .0 in
+    let here = ap {B = Outcome} (λ (x : Reply). record { answer = replyOf x; work = []; out = o }) (sym (c .before .before .before .before .before .before .q .given .1)) in
+    let call = here ∙ r .ensures ∙ ap (λ (s : List ℕ). verifyCall s (a .out .now)) (first-bytes judgedBytes (j .result) (a .input .now) (j .ensures)) in
+    c .before .before .write-refusal .ensures ∙ ap (λ (r : Refusal). printed (some r) (refusalBytes r) o) (c .before .before .before .numbers-of .ensures) ∙ verify-refuses (a .input .now) (a .out .now) o [] (refusalOf (c .before .before .before .before .before .before .q .given .0 .0)) call
 
 pub verify-bytes-spec : {M : Type 1} → statement M
 verify-bytes-spec =
     tie.close
     (tie.spec
-    returns
     judged-requires
     sub-verify
     part-verify-start
     part-verify-end
     verify-requires
     enum-known-k
+    wrote-requires
     enum-known-q
+    numbers-of-requires
     write-refusal-requires
     same-length
-    returns-2
+    returns
     same-length-2
-    returns-3)
+    returns-2)

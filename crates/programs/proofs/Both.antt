@@ -1,0 +1,31 @@
+-- Both streams of a program, from the proofs of its parts.
+use Prim.Native.Nat.{ℕ, _≤_}
+use mathlib.Core.Path.{_≡_, refl, ap, _∙_}
+use mathlib.Core.Option.{Option}
+use mathlib.Core.List.{List, []}
+use native.Mathlib.Omega.{arith}
+use borrow.Author.Tests.{le-leb}
+use lib.ListN.{length}
+use Rattle.answers.specs.Answer.{Refusal}
+use Rattle.messages.specs.Message.{Written, putWhole}
+use Rattle.messages.proofs.Lines.{written-few}
+use Rattle.tables.specs.Printing.{Printed, printed}
+use Rattle.tables.proofs.Printing.{printed-few}
+use Rattle.programs.specs.Both.{Both, errorOf, both}
+
+-- nothing is put
+pub nothing-put : (out : List ℕ) → _≡_ {A = Written} (record { count = 0; out = out }) (putWhole [] out)
+unfolding putWhole
+nothing-put out = rw (le-leb 0 (length out) (omega arith)) refl
+
+pub both-written : (p q : Printed) (w : Written) (error : List ℕ) → p ≡ q → w ≡ putWhole (errorOf (p .refused)) error
+    → _≡_ {A = Both} (record { output = record { count = p .count; out = p .out }; error = w }) (both q error)
+both-written p q w error same line =
+    ap {B = Both} (λ (w : Written). record { output = record { count = p .count; out = p .out }; error = w }) line ∙ ap (λ (p : Printed). both p error) same
+
+-- what each count says lies in its buffer
+pub both-few : (refused : Option Refusal) (output out error : List ℕ) (b : Both) → b ≡ both (printed refused output out) error → (b .output .count ≤ length out) × (b .error .count ≤ length error)
+both-few refused output out error b e =
+    let same : b .output .count ≡ printed refused output out .count = ap (λ (b : Both). b .output .count) e in
+    let few : printed refused output out .count ≤ length out = printed-few refused output out (printed refused output out) refl in
+    (omega arith, written-few (errorOf (printed refused output out .refused)) error (b .error) (ap (λ (b : Both). b .error) e))

@@ -1,0 +1,51 @@
+// The two programs on lent bytes, both streams of each: what goes to standard output and what to standard error.
+ghost use mathlib.Core.Path.{_≡_};
+ghost use Rattle.messages.specs.Message.{putWhole};
+ghost use Rattle.tables.specs.Printing.{refusedOf, findPrinted, verifyPrinted};
+ghost use Rattle.programs.specs.Both.{errorOf, both};
+use messages::message;
+use tables::output::Told;
+use tables::output::find_bytes;
+use tables::output::verify_bytes;
+
+// How many bytes of each buffer a program writes.
+pub struct Counts {
+    pub output: usize,
+    pub error: usize,
+}
+
+// The line of a refusal, where it fits; nothing of a result.
+fn report(told: Told, error: &mut [u8]) -> usize
+    ensures { λ r. ⌜ record { count = r; out = now (error .exit) } ≡ putWhole (errorOf (refusedOf told)) (now (error .entry)) ⌝ }
+{
+    match told {
+        Told::Result => 0,
+        Told::Refusal(m) => message(m.number, m.a, m.b, error),
+    }
+}
+
+pub fn find_program(input: &[u8], output: &mut [u8], error: &mut [u8]) -> Counts
+    ensures { λ r. ⌜ record { output = record { count = r .output; out = now (output .exit) }; error = record { count = r .error; out = now (error .exit) } } ≡ both (findPrinted (now (input .entry)) (now (output .entry))) (now (error .entry)) ⌝ }
+{
+    let answer = find_bytes(input, output);
+    let count = answer.count;
+    let told = answer.told;
+    let k = report(told, error);
+    Counts {
+        output: count,
+        error: k,
+    }
+}
+
+pub fn verify_program(input: &[u8], output: &mut [u8], error: &mut [u8]) -> Counts
+    ensures { λ r. ⌜ record { output = record { count = r .output; out = now (output .exit) }; error = record { count = r .error; out = now (error .exit) } } ≡ both (verifyPrinted (now (input .entry)) (now (output .entry))) (now (error .entry)) ⌝ }
+{
+    let answer = verify_bytes(input, output);
+    let count = answer.count;
+    let told = answer.told;
+    let k = report(told, error);
+    Counts {
+        output: count,
+        error: k,
+    }
+}
