@@ -24,6 +24,7 @@ fn report(told: Told, error: &mut [u8]) -> usize
     }
 }
 
+// All that the finder writes: a flow file, 0013 or 001F, and with 001F its line.
 pub fn find_program(input: &[u8], output: &mut [u8], error: &mut [u8]) -> Counts
     ensures { λ r. ⌜ record { output = record { count = r .output; out = now (output .exit) }; error = record { count = r .error; out = now (error .exit) } } ≡ both (findPrinted (now (input .entry)) (now (output .entry))) (now (error .entry)) ⌝ }
 {
@@ -37,6 +38,7 @@ pub fn find_program(input: &[u8], output: &mut [u8], error: &mut [u8]) -> Counts
     }
 }
 
+// All that the verifier writes: 0014 or 001F, and with 001F its line.
 pub fn verify_program(input: &[u8], output: &mut [u8], error: &mut [u8]) -> Counts
     ensures { λ r. ⌜ record { output = record { count = r .output; out = now (output .exit) }; error = record { count = r .error; out = now (error .exit) } } ≡ both (verifyPrinted (now (input .entry)) (now (output .entry))) (now (error .entry)) ⌝ }
 {
