@@ -86,7 +86,7 @@ static inline const char *bolz_words(unsigned number)
     case BOLZ_EXCESSIVE_NON_ZERO_LAYER: return "output A is in layer B, not in layer 0";
     case BOLZ_EXCESSIVE_ZERO_LAYER: return "node A is no output and is in layer 0";
     case BOLZ_INVALID_MEASUREMENT_SPEC: return "node A has an entry and no measurement";
-    case BOLZ_INCONSISTENT_FLOW_ORDER: return "node A needs node B to be later";
+    case BOLZ_INCONSISTENT_FLOW_ORDER: return "node B is not later than node A, or in mode 1 not its neighbour";
     case BOLZ_INCONSISTENT_FLOW_PLANE: return "node A's set does not suit its or a Y measurement";
     case BOLZ_RESULT_TOO_LONG: return "the result does not fit the lent buffer";
     default: return "unknown question";

@@ -63,7 +63,7 @@ solve-numbered matrix out rows cols sides side =
 
 solve-fits : (matrix out : List ℕ) (rows cols sides side : ℕ) → Fits Unit (counted (Solver.solveCall matrix out rows cols sides side .answer))
 unfolding AllNumbered
-solve-fits matrix out rows cols sides side = by (Solver.solveAsks matrix out rows cols sides side) (solve-numbered Unit matrix out rows cols sides side)
+solve-fits matrix out rows cols sides side = by (Solver.solveAsks matrix out rows cols sides side) (solve-numbered matrix out rows cols sides side)
   where
     by : (a : Answer (Option (ℕ → Bool))) → AllNumbered Unit a → Fits Unit (counted (Solver.outcome a out .answer))
     by (gives none) t = omega arith

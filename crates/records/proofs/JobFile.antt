@@ -16,7 +16,7 @@ use Rattle.nodes.specs.Lists.{has}
 use Rattle.records.specs.JobFile.{JobFile, modeCausal, modePlanes, all, rises, pairsRise, highestOf, allows, allAllowed, openNo, edgesNo, nodesNo, measurementsNo, readMeasurements, readOutputs, readInputs, readEdges, readJob, joined, jobOf}
 use Rattle.records.specs.Encoding.{jobBytes, ValidJob}
 use Rattle.answers.proofs.Answer.{give-inj, bind-out, no-out}
-use Rattle.records.proofs.Records.{and-out, all-more, checked-passed, checked-append, checked-written, record-bytes}
+use Rattle.records.proofs.Records.{and-out, checked-passed, checked-append, checked-written, record-bytes}
 
 -- ---- the questions of each record, as facts
 two-bytes : (l : List ℕ) → length l ≡ 2 → l ≡ getD l 0 0 ∷ getD l 1 0 ∷ []
@@ -322,9 +322,6 @@ allowed-below mode output i [] a = refl
 allowed-below mode output i (m ∷ l) a =
     let (p, q) = and-out (allows mode (output i) m) (allAllowed mode output (i + 1) l) a in
     rw (lt-ltb m (highestOf mode + 1) (allows-below mode (output i) m p), allowed-below mode output (i + 1) l q)
-
-allowed-bytes : (mode : ℕ) (output : ℕ → Bool) (i : ℕ) (l : List ℕ) → allAllowed mode output i l ≡ true → all (λ b. ltb b 256) l ≡ true
-allowed-bytes mode output i l a = all-more (λ v. ltb v (highestOf mode + 1)) (λ b. ltb b 256) l (λ v e. lt-ltb v 256 (omega (arith, ltb-true v (highestOf mode + 1) e, highest-most mode))) (allowed-below mode output i l a)
 
 module _ (f : JobFile) (v : ValidJob f) where
   byte-allowed : (u : ℕ) → u < f .n → allows (f .mode) (has (f .outputs) u) (jobOf f .measured u) ≡ true

@@ -210,12 +210,7 @@ module _ (j : Job) (s : Progress) where
       let a : j .nodes * (j .nodes + 2) ≤ 128 * 130 = mul-le-mul {n₁ = j .nodes} {m₁ = j .nodes + 2} {n₂ = 128} {m₂ = 130} (omega arith) (omega arith) in
       omega (arith, found-length)
 
-  -- ---- 0013
-  -- the kind's first byte differs
-  pub found-is-flow : flowBytes j (some s) ≢ written kindNoFlow []
-  unfolding written
-  found-is-flow e = let x : _≡_ {A = ℕ} 17 19 = ap (λ (l : List ℕ). getD l 4 0) e in omega arith
-
+-- ---- 0013
 pub no-flow-unread : (n : ℕ) (g : FlowFile) → readFlow n (written kindNoFlow []) ≢ gives g
 unfolding readFlow checked part written
 no-flow-unread n g e = never e

@@ -1,7 +1,7 @@
 -- Records: payload length (4 bytes), kind (2 bytes), payload; little-endian. Bytes are numbers.
 use Prim.Native.Nat.{ℕ, _+_, _*_, _/_, _%_}
 use mathlib.Core.Bool.{_&&_}
-use mathlib.Core.List.{List, [], _∷_}
+use mathlib.Core.List.{List, _∷_}
 use lib.Dec.{eqb, leb}
 use lib.ListN.{length, getD, take, drop}
 use Rattle.answers.specs.Answer.{Answer, gives, _>>=_, _>>_, asks, passed}

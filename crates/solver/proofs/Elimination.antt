@@ -9,7 +9,7 @@ use native.Mathlib.Nat.{not-suc-le-zero, le-refl}
 use lib.Dec.{T, eqb, eqb→eq, ltb}
 use Rattle.nodes.specs.Bit.{_⊕_}
 use Rattle.nodes.specs.Row.{dot, anyBelow}
-use Rattle.solver.specs.System.{Solves, Dependent, Answer, isSome, solve, pivot}
+use Rattle.solver.specs.System.{Solves, Dependent, IsAnswer, isSome, solve, pivot}
 use Rattle.solver.specs.Reduced.{lead, Reduced}
 use Rattle.nodes.proofs.Logic.{is-false, both-ways, dec, eqb-no, eqb-yes, lt-or-ge, and-none, and-all, ⊕-none, ⊕-self, ⊕-eq}
 use Rattle.nodes.proofs.Row.{parity-and, dot-⊕, dot-rows, dot-ext, dot-prefix, dot-one}
@@ -59,7 +59,7 @@ pub dependent-kept : (r w : ℕ) (m m′ : ℕ → ℕ → Bool) → Same r w m 
 dependent-kept r w m m′ s k l (y, q) = (y, solutions-kept r w m m′ s k k (omega arith) l y q)
 
 pub answer-kept : (r w : ℕ) (m m′ : ℕ → ℕ → Bool) → Same r w m m′ → (n c : ℕ) → n ≤ w → c < w → (x : ℕ → Bool)
-    → Answer (plain r m) n (λ i. m i c) x → Answer (plain r m′) n (λ i. m′ i c) x
+    → IsAnswer (plain r m) n (λ i. m i c) x → IsAnswer (plain r m′) n (λ i. m′ i c) x
 answer-kept r w m m′ s n c h l x a = record {
   solves = solutions-kept r w m m′ s n c h l x (a .solves);
   avoids = λ j g t d. a .avoids j g t (dependent-kept r w m′ m (same-sym s) j (omega arith) d);

@@ -16,7 +16,7 @@ use Rattle.nodes.specs.declared.utils.NodeSet.{NodeSet}
 use Rattle.nodes.proofs.Logic.{is-true}
 use Rattle.nodes.proofs.Row.{all-in}
 use Rattle.flows.specs.Job.{Job}
-use Rattle.flows.specs.Search.{Progress, found}
+use Rattle.flows.specs.Search.{Progress}
 use Rattle.flows.specs.Planes as Planes
 use Rattle.flows.specs.Paulis as Paulis
 use Rattle.finder.specs.Finder.{jobIn, sizesFit, layerBytes, setTable, progressAt}

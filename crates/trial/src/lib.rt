@@ -1,8 +1,6 @@
 // What a run compares: every byte of a buffer that was lent.
 ghost use mathlib.Core.Path.{_≡_};
-ghost use mathlib.Core.Bool.{_&&_};
-ghost use lib.Dec.{eqb, leb};
-ghost use lib.ListN.{length, getD};
+ghost use lib.ListN.{getD};
 ghost use Rattle.trial.specs.Buffers.{holdsAt, holdsOnly};
 
 // The byte of the result at this place; past its end the fill.

@@ -11,7 +11,7 @@ use lib.Dec.{T, eqb, leb, eqb→eq, eqb-refl, leb→le}
 use lib.ListN.{length, getD}
 use Rattle.nodes.specs.Lists.{has}
 use Rattle.nodes.proofs.Logic.{is-true, is-false, from-true, or-l, or-r, or-all, eqb-comm}
-use Rattle.flows.specs.Job.{Job, planeXZ}
+use Rattle.flows.specs.Job.{planeXZ}
 use Rattle.answers.specs.Answer.{Refusal, Answer, gives, refuses, _>>_}
 use Rattle.records.specs.JobFile.{JobFile, rises, readJob, jobOf, modeCausal, modePlanes, modePauli}
 use Rattle.records.specs.FlowFile.{SetEntry, FlowFile, allEntries, entriesRise, readFlow, flowOf, nothingLeft, oneMember, entryIn, setIn}

@@ -9,7 +9,7 @@ use native.Mathlib.Omega.{arith}
 use lib.Dec.{T, eqb, ltb, eqb→eq, ltb→lt}
 use lib.ListN.{take, length}
 use Rattle.nodes.proofs.Logic.{is-false, not-out, eqb-yes, and-all, lt-or-ge}
-use Rattle.solver.specs.System.{Solves, Answer, solve, isSome}
+use Rattle.solver.specs.System.{Solves, IsAnswer, solve, isSome}
 use Rattle.solver.proofs.System.{solvable-some, answer-unique}
 use Rattle.flows.specs.Job.{Job}
 use Rattle.flows.specs.Branch.{Context, branches, systemAt, sideAt, inSet, withNode, tryBranch}
@@ -17,8 +17,7 @@ use Rattle.flows.specs.Search.{Progress}
 use Rattle.flows.proofs.Branch.{put-out}
 use Rattle.flows.proofs.Tries.{contextAt, tryAt, planes-context, FirstOf, try-first, branch-answer, no-column-u}
 use Rattle.flows.proofs.Flows.{findAt, laterThan, Found, found-flow, try-ext}
-use Rattle.answers.specs.Answer.{Answer as Reply, gives, refuses}
-use Rattle.nodes.specs.Lists.{has}
+use Rattle.answers.specs.Answer.{Answer, gives, refuses}
 use Rattle.records.specs.JobFile.{JobFile, readJob, jobOf, modePlanes, modePauli}
 use Rattle.records.specs.FlowFile.{FlowFile, flowOf, readFlow}
 use Rattle.records.specs.Encoding.{foundFlow}
@@ -76,7 +75,7 @@ module _ (f : JobFile) (searched : (f .mode ≡ modePlanes) ⊎ (f .mode ≡ mod
     written-set : (k : ℕ) → k < j .nodes → flowOf g .set u k ≡ s .set u k
     written-set k l = found-set j s u k (m .0) l ∙ rw (is-false (j .output u) (m .1))
 
-    module _ (x : ℕ → Bool) (a : Answer (systemAt j (contextAt j pauli gone u)) (j .nodes) (sideAt j u (first .branch)) x) (w : s .set u ≡ (λ k. x k || inSet (first .branch) && eqb k u)) where
+    module _ (x : ℕ → Bool) (a : IsAnswer (systemAt j (contextAt j pauli gone u)) (j .nodes) (sideAt j u (first .branch)) x) (w : s .set u ≡ (λ k. x k || inSet (first .branch) && eqb k u)) where
       x-u : x u ≡ false
       x-u = is-false (x u) (λ t. no-column-u j pauli gone u (a .within u t .1))
 
@@ -106,9 +105,9 @@ module _ (f : JobFile) (searched : (f .mode ≡ modePlanes) ⊎ (f .mode ≡ mod
         unsolvable = λ b t. subst (λ (c : Context). (x : ℕ → Bool) → Solves (systemAt j c) (f .n) (sideAt j u b) x → ⊥) here
             (none-solves j (contextAt j pauli gone u) u b (first .unsolvable b t));
         self = own-member;
-        answer = subst (λ (c : Context). Answer (systemAt j c) (f .n) (sideAt j u (first .branch)) (others g u)) here
-            (subst (Answer (systemAt j (contextAt j pauli gone u)) (j .nodes) (sideAt j u (first .branch))) (sym the-others) a);
-        only = subst (λ (c : Context). (y : ℕ → Bool) → Answer (systemAt j c) (f .n) (sideAt j u (first .branch)) y → y ≡ others g u) here
+        answer = subst (λ (c : Context). IsAnswer (systemAt j c) (f .n) (sideAt j u (first .branch)) (others g u)) here
+            (subst (IsAnswer (systemAt j (contextAt j pauli gone u)) (j .nodes) (sideAt j u (first .branch))) (sym the-others) a);
+        only = subst (λ (c : Context). (y : ℕ → Bool) → IsAnswer (systemAt j c) (f .n) (sideAt j u (first .branch)) y → y ≡ others g u) here
             (λ y b. answer-unique (systemAt j (contextAt j pauli gone u)) (j .nodes) (sideAt j u (first .branch)) y x b a ∙ sym the-others);
       }
 
@@ -119,7 +118,7 @@ pub demand2 : Demand2
 unfolding findCall
 demand2 file work out k e f r g b u t = go (findAsks file work) refl e b
   where
-    go : (a : Reply JobFile) → findAsks file work ≡ a → findOutcome a work out .answer ≡ gives k → FlowBytes (f .n) (take k (findOutcome a work out .out)) g → TheSolution f g u
+    go : (a : Answer JobFile) → findAsks file work ≡ a → findOutcome a work out .answer ≡ gives k → FlowBytes (f .n) (take k (findOutcome a work out .out)) g → TheSolution f g u
     go (refuses q) p e b = absurd (never e)
     go (gives h) p e b =
         let (reads, ends, mode, size) = asked-find file work h p in
