@@ -18,8 +18,7 @@ use Rattle.records.specs.JobFile.{JobFile}
 use Rattle.records.proofs.Records.{written-length}
 use Rattle.records.proofs.JobFile.{job-asked}
 use Rattle.verdicts.specs.Calls.{Outcome, put, findAsks, findOutcome, findCall, verifyAsks, verifyOutcome, verifyCall}
-use Rattle.verdicts.proofs.Demand.{asked-find}
-use Rattle.tables.proofs.Printing.{found-fits}
+use Rattle.verdicts.proofs.Demand.{found-fits, asked-find}
 use Rattle.capi.specs.Codes.{numberUnit, answerCode, coded, counted, codedBits, Tells, TellsWhy}
 use Rattle.verdicts.proofs.Refusals.{Numbered, AllNumbered, given, asks-then, find-numbered, verify-numbered}
 

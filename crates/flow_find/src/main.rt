@@ -2,13 +2,13 @@
 // With 001F goes its line in words on standard error.
 use messages::LINE_ROOM;
 use programs::find_program;
+use programs::output::JUDGED_BYTES;
+use programs::output::MOST_OUTPUT;
 use streams::Input;
 use streams::only_usage;
 use streams::read_input;
 use streams::write_error;
 use streams::write_output;
-use tables::output::JUDGED_BYTES;
-use tables::output::MOST_OUTPUT;
 
 fn main() {
     if only_usage(

@@ -9,8 +9,8 @@ use lib.ListN.{length}
 use Rattle.answers.specs.Answer.{Refusal}
 use Rattle.messages.specs.Message.{Written, putWhole}
 use Rattle.messages.proofs.Lines.{written-few}
-use Rattle.tables.specs.Printing.{Printed, printed}
-use Rattle.tables.proofs.Printing.{printed-few}
+use Rattle.programs.specs.Printing.{Printed, printed}
+use Rattle.programs.proofs.Printing.{printed-few}
 use Rattle.programs.specs.Both.{Both, errorOf, both}
 
 -- nothing is put

@@ -4,7 +4,7 @@ use mathlib.Core.Option.{Option, none, some}
 use mathlib.Core.List.{List, []}
 use Rattle.answers.specs.Answer.{Refusal}
 use Rattle.messages.specs.Message.{line, Written, putWhole}
-use Rattle.tables.specs.Printing.{Printed}
+use Rattle.programs.specs.Printing.{Printed}
 
 -- each in its lent buffer, with the count of its bytes
 pub record Both : Type 0 where

@@ -1,12 +1,14 @@
 // The two programs on lent bytes, both streams of each: what goes to standard output and what to standard error.
+pub mod output; // output.rt: what each writes on standard output, in a buffer of any length
+
 ghost use mathlib.Core.Path.{_≡_};
 ghost use Rattle.messages.specs.Message.{putWhole};
-ghost use Rattle.tables.specs.Printing.{refusedOf, findPrinted, verifyPrinted};
+ghost use Rattle.programs.specs.Printing.{refusedOf, findPrinted, verifyPrinted};
 ghost use Rattle.programs.specs.Both.{errorOf, both};
 use messages::message;
-use tables::output::Told;
-use tables::output::find_bytes;
-use tables::output::verify_bytes;
+use output::Told;
+use output::find_bytes;
+use output::verify_bytes;
 
 // How many bytes of each buffer a program writes.
 pub struct Counts {

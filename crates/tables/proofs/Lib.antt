@@ -6,4 +6,3 @@ pub mod Found
 pub mod LoadingEdges
 pub mod LoadingFiles
 pub mod LoadingTables
-pub mod Printing

@@ -1,4 +1,3 @@
 pub mod Loaded
 pub mod Loading
-pub mod Printing
 pub mod Replies

@@ -3,7 +3,6 @@ pub mod find; // find.rt: the finder, from a job file to a flow file
 mod flow; // flow.rt: checking a causal flow
 mod gflow; // gflow.rt: checking a generalized flow
 mod load; // load.rt: what the records hold, as tables
-pub mod output; // output.rt: the two programs on lent bytes
 mod pflow; // pflow.rt: checking a Pauli flow
 mod validate; // validate.rt: what every flow is asked
 

@@ -22,20 +22,21 @@ use Rattle.flows.proofs.Premise.{premiseAt}
 use Rattle.flows.proofs.Flows.{findAt, laterThan, Found, found-flow, found-ok, found-smallest, firstRound}
 use Rattle.answers.specs.Answer.{Answer, gives, refuses, refusal, asks, _>>_}
 use Rattle.records.specs.Records.{written, kindNoFlow}
-use Rattle.records.specs.JobFile.{JobFile, readJob, jobOf, modeCausal, modePlanes, modePauli}
+use Rattle.records.specs.JobFile.{JobFile, mostNodes, readJob, jobOf, measuredOf, modeCausal, modePlanes, modePauli}
 use Rattle.records.specs.FlowFile.{FlowFile, readFlow, flowOf, nothingLeft}
 use Rattle.records.specs.Encoding.{ValidJob, foundFlow}
 use Rattle.verdicts.specs.Verdict.{verify, checkDomain, checkInitial, checkDefinition}
 use Rattle.nodes.specs.SetTable.{zeros}
 use Rattle.solver.specs.Solver.{workBytes}
 use Rattle.verdicts.specs.Calls.{Outcome, put, findOutcome, findAsks, findCall, foundBytes, search}
-use Rattle.records.specs.Writing.{flowBytes}
+use Rattle.records.specs.Writing.{flowBytes, mostOutput}
 use Rattle.verdicts.specs.Published.{Measured}
 use Rattle.verdicts.specs.Demand.{premise, Accepted, FlowBytes, layerIn, DemandHolds, Demand3}
 use Rattle.answers.proofs.Answer.{give-inj, never, bind-out, asks-out}
 use Rattle.records.proofs.JobFile.{job-asked, measured-range, measured-most, output-zero, measured-plane, edge-loop}
 use Rattle.records.proofs.FlowFile.{nothing-left, one-member-other}
-use Rattle.records.proofs.Writing.{found-reads, found-valid, found-layer, found-entry, found-set, no-flow-unread}
+use Rattle.records.proofs.Records.{written-length}
+use Rattle.records.proofs.Writing.{found-most, found-reads, found-valid, found-layer, found-entry, found-set, no-flow-unread}
 use Rattle.verdicts.proofs.Verdict.{Preliminary, domain-asked, initial-asked, definition-asked, verify-in, verify-preliminary, verify-nodes, node-in, node-out}
 use Rattle.verdicts.proofs.Published as Pub
 use Rattle.verdicts.proofs.Judging.{Judged, judged-in, judged-out, readable}
@@ -248,6 +249,14 @@ asked-find file work f e =
     modes : (m : ℕ) → T (eqb m modePlanes) ⊎ T (eqb m modePauli) → (m ≡ modePlanes) ⊎ (m ≡ modePauli)
     modes m (inl t) = inl (eqb→eq m modePlanes t)
     modes m (inr t) = inr (eqb→eq m modePauli t)
+
+-- no result is longer than `mostOutput`
+pub found-fits : (f : JobFile) → f .n ≤ mostNodes → length (foundBytes f) ≤ mostOutput
+found-fits f h = go (search (measuredOf f .mode) (jobOf f))
+  where
+    go : (o : Option Progress) → length (flowBytes (jobOf f) o) ≤ mostOutput
+    go none = subst (λ (k : ℕ). k ≤ mostOutput) (sym (written-length kindNoFlow [])) (omega arith)
+    go (some s) = found-most (jobOf f) s h
 
 pub put-fits : (work result out : List ℕ) (k : ℕ) → put work result out .answer ≡ gives k → take k (put work result out .out) ≡ result
 unfolding put

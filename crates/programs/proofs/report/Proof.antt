@@ -1,7 +1,7 @@
 use mathlib.Core.Path.{sym, ap, _∙_}
 use Rattle.messages.specs.Message.{putWhole}
-use Rattle.tables.specs.Printing.{refusedOf}
-use Rattle.tables.specs.declared.output.Told.{Told}
+use Rattle.programs.specs.Printing.{refusedOf}
+use Rattle.programs.specs.declared.output.Told.{Told}
 use Rattle.programs.specs.Both.{errorOf}
 use Rattle.programs.proofs.Both.{nothing-put}
 use borrow.Author.Needs.{needs}

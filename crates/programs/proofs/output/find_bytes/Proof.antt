@@ -8,14 +8,14 @@ use Rattle.answers.specs.Answer.{Refusal}
 use Rattle.records.specs.Refusals.{refusalOf}
 use Rattle.verdicts.specs.Calls.{Outcome, findCall}
 use Rattle.verdicts.specs.Programs.{judgedBytes, refusalBytes}
 use Rattle.tables.specs.declared.Reply.{Reply}
-use Rattle.tables.specs.declared.output.Output.{Output}
+use Rattle.programs.specs.declared.output.Output.{Output}
 use Rattle.tables.specs.Replies.{replyOf}
-use Rattle.tables.specs.Printing.{Printed, tooLong, printed, outputOf}
-use Rattle.tables.proofs.Printing.{first-bytes, find-gives, find-20, find-refuses}
+use Rattle.programs.specs.Printing.{Printed, tooLong, printed, outputOf}
+use Rattle.programs.proofs.Printing.{first-bytes, find-gives, find-20, find-refuses}
 use borrow.Author.Needs.{needs}
-use Rattle.tables.proofs.output.find_bytes.Statement.{statement}
-use Rattle.tables.proofs.output.find_bytes.Tie as tie
+use Rattle.programs.proofs.output.find_bytes.Statement.{statement}
+use Rattle.programs.proofs.output.find_bytes.Tie as tie
 
 judged-requires : tie.Need-judged-requires
 judged-requires c κs = search needs

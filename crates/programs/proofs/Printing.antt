@@ -14,21 +14,19 @@ use lib.Seq.{take-all, take-length}
 use Rattle.nodes.specs.SetTable.{zeros}
 use Rattle.nodes.proofs.Logic.{le-or-lt}
 use Rattle.solver.specs.Solver.{workBytes}
-use Rattle.flows.specs.Search.{Progress}
 use Rattle.answers.specs.Answer.{Refusal, Answer, gives, refuses, refusal}
-use Rattle.records.specs.Records.{written, kindNoFlow, kindAccepted, kindRefusal}
-use Rattle.records.specs.JobFile.{JobFile, mostNodes, jobOf, measuredOf}
+use Rattle.records.specs.Records.{written, kindAccepted, kindRefusal}
+use Rattle.records.specs.JobFile.{JobFile}
 use Rattle.records.specs.Splice.{putFirst, putCount}
-use Rattle.records.specs.Writing.{flowBytes, mostOutput}
+use Rattle.records.specs.Writing.{mostOutput}
 use Rattle.answers.proofs.Answer.{give-inj, never}
 use Rattle.records.proofs.Records.{written-length}
 use Rattle.records.proofs.JobFile.{job-asked}
-use Rattle.records.proofs.Writing.{found-most}
-use Rattle.verdicts.specs.Calls.{search, foundBytes, Outcome, put, findAsks, findOutcome, findCall, verifyAsks, verifyOutcome, verifyCall}
+use Rattle.verdicts.specs.Calls.{foundBytes, Outcome, put, findAsks, findOutcome, findCall, verifyAsks, verifyOutcome, verifyCall}
 use Rattle.verdicts.specs.Programs.{judgedBytes, refusalBytes, findOutput, findProgram, verifyOutput, verifyProgram}
-use Rattle.verdicts.proofs.Demand.{asked-find}
+use Rattle.verdicts.proofs.Demand.{found-fits, asked-find}
 use Rattle.verdicts.proofs.Refusals.{AllNumbered, find-numbered}
-use Rattle.tables.specs.Printing.{Printed, tooLong, printed, refusalIn, findPrinted, verifyPrinted}
+use Rattle.programs.specs.Printing.{Printed, tooLong, printed, refusalIn, findPrinted, verifyPrinted}
 
 refuse-inj : {A : Type 0} {r s : Refusal} → _≡_ {A = Answer A} (refuses r) (refuses s) → r ≡ s
 refuse-inj e = cc
@@ -178,13 +176,6 @@ module _ (input out o work : List ℕ) where
 -- ---- with a buffer that has room for any output
 refusal-few : (r : Refusal) → length (refusalBytes r) ≤ mostOutput
 refusal-few r = omega (arith, refusal-length r)
-
-pub found-fits : (f : JobFile) → f .n ≤ mostNodes → length (foundBytes f) ≤ mostOutput
-found-fits f h = go (search (measuredOf f .mode) (jobOf f))
-  where
-    go : (o : Option Progress) → length (flowBytes (jobOf f) o) ≤ mostOutput
-    go none = subst (λ (k : ℕ). k ≤ mostOutput) (sym (written-length kindNoFlow [])) (omega arith)
-    go (some s) = found-most (jobOf f) s h
 
 -- all of it is written
 room-printed : (refused : Option Refusal) (output out : List ℕ) → length output ≤ mostOutput → mostOutput ≤ length out

@@ -4,12 +4,12 @@ use Rattle.answers.specs.Answer.{Refusal}
 use Rattle.records.specs.Refusals.{numbersIn}
 use Rattle.records.specs.Splice.{putOf}
 use Rattle.verdicts.specs.Programs.{refusalBytes}
-use Rattle.tables.specs.declared.output.Output.{Output}
-use Rattle.tables.specs.Printing.{Printed, outputOf}
-use Rattle.tables.proofs.Printing.{refusal-put}
+use Rattle.programs.specs.declared.output.Output.{Output}
+use Rattle.programs.specs.Printing.{Printed, outputOf}
+use Rattle.programs.proofs.Printing.{refusal-put}
 use borrow.Author.Needs.{needs}
-use Rattle.tables.proofs.output.write_refusal.Statement.{statement}
-use Rattle.tables.proofs.output.write_refusal.Tie as tie
+use Rattle.programs.proofs.output.write_refusal.Statement.{statement}
+use Rattle.programs.proofs.output.write_refusal.Tie as tie
 
 slice-aggregate-write-record : tie.Need-slice-aggregate-write-record
 slice-aggregate-write-record c = search needs

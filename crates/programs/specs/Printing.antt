@@ -11,9 +11,9 @@ use Rattle.answers.specs.Answer.{Refusal, Answer, gives, refuses, refusal}
 use Rattle.records.specs.Refusals.{numbersIn}
 use Rattle.verdicts.specs.Calls.{findAsks, verifyAsks}
 use Rattle.verdicts.specs.Programs.{judgedBytes, findProgram, verifyProgram}
-use Rattle.tables.specs.declared.output.Output.{Output}
-use Rattle.tables.specs.declared.output.Told.{Told}
-use Rattle.tables.specs.declared.output.Told.the-variants.{Result, Refusal as Refused}
+use Rattle.programs.specs.declared.output.Output.{Output}
+use Rattle.programs.specs.declared.output.Told.{Told}
+use Rattle.programs.specs.declared.output.Told.the-variants.{Result, Refusal as Refused}
 
 -- the refusal, none for a result; how many bytes were written; the buffer
 pub record Printed : Type 0 where
