@@ -17,10 +17,10 @@ use Rattle.records.specs.Writing.{mostOutput}
 use Rattle.records.specs.JobFile.{JobFile}
 use Rattle.records.proofs.Records.{written-length}
 use Rattle.records.proofs.JobFile.{job-asked}
-use Rattle.verdicts.specs.Calls.{Outcome, put, findAsks, findOutcome, findCall, verifyAsks, verifyOutcome, verifyCall}
-use Rattle.verdicts.proofs.Demand.{found-fits, asked-find}
+use Rattle.demands.specs.Calls.{Outcome, put, findAsks, findOutcome, findCall, verifyAsks, verifyOutcome, verifyCall}
+use Rattle.demands.proofs.Demand.{found-fits, asked-find}
 use Rattle.capi.specs.Codes.{numberUnit, answerCode, coded, counted, codedBits, Tells, TellsWhy}
-use Rattle.verdicts.proofs.Refusals.{Numbered, AllNumbered, given, asks-then, find-numbered, verify-numbered}
+use Rattle.demands.proofs.Refusals.{Numbered, AllNumbered, given, asks-then, find-numbered, verify-numbered}
 
 -- ---- what the calls answer: a small count, or a numbered refusal
 abbrev Fits : Type 0 → Answer ℕ → Type 0

@@ -5,7 +5,7 @@ use mathlib.Core.Bool.{Bool, cond}
 use mathlib.Core.List.{List}
 use Rattle.answers.specs.Answer.{Refusal, Answer, gives, refuses}
 use Rattle.solver.specs.Solver as Solver
-use Rattle.verdicts.specs.Calls.{Outcome}
+use Rattle.demands.specs.Calls.{Outcome}
 
 -- the places of a refusal's number and of a: 2^32 and 2^16
 abbrev pub numberUnit : ℕ

@@ -3,16 +3,16 @@ ghost use mathlib.Core.Path.{_≡_};
 ghost use mathlib.Core.List.{[]};
 ghost use Rattle.solver.specs.Solver.{MatrixAfter, solvedOf, solveAsks, solveCall};
 ghost use Rattle.records.specs.Refusals.{refusalOf};
-ghost use Rattle.verdicts.specs.Calls.{findCall, verifyCall};
-ghost use Rattle.tables.specs.Replies.{replyOf};
+ghost use Rattle.demands.specs.Calls.{findCall, verifyCall};
+ghost use Rattle.calls.specs.Replies.{replyOf};
 ghost use Rattle.capi.specs.Codes.{refusalCode, answerCode, coded, counted, codedBits};
+use calls::Reply;
+use calls::find::find;
+use calls::verify;
 use records::common::Refused;
 use records::common::numbers_of;
 use solver::gf2_linalg::Solved;
 use solver::gf2_linalg::solve_in_place;
-use tables::Reply;
-use tables::find::find;
-use tables::verify;
 
 // The places of a refusal's number and of a.
 const NUMBER_UNIT: u64 = 4294967296;

@@ -11,7 +11,7 @@ use lib.ListN.{length, getD, List·getD-eq-default}
 use Rattle.nodes.specs.Row.{allBelow}
 use Rattle.nodes.proofs.Logic.{and-l, and-r}
 use Rattle.nodes.proofs.Row.{all-out}
-use Rattle.solver.specs.System.{firstOf}
+use Rattle.nodes.specs.Options.{firstOf}
 use Rattle.flows.specs.Branch.{Context, branchTable, branches, tryBranch, firstSolvable}
 use Rattle.finder.specs.Views.{graphJob}
 use Rattle.finder.specs.Finding.{tryListed, tryIn}

@@ -14,7 +14,7 @@ use Rattle.nodes.proofs.Logic.{is-true, is-false, from-true, from-false, both-w
 use Rattle.nodes.proofs.Row.{any-in, any-none, all-in, all-out, ltb-yes, ltb-no}
 use Rattle.nodes.proofs.Count.{count-le, count-ext}
 use Rattle.nodes.proofs.Remove.{removed}
-use Rattle.solver.specs.System.{isSome}
+use Rattle.nodes.specs.Options.{isSome}
 use Rattle.flows.specs.Search.{Progress, orNone, solvedNow, round, rounds}
 use Rattle.finder.specs.Finding.{cutTo, placed, visited}
 use Rattle.flows.proofs.Search.{fresh-open, fewer}

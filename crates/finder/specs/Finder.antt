@@ -8,7 +8,8 @@ use Rattle.nodes.specs.NodeSet.{member, capacity, wordBits}
 use Rattle.nodes.specs.SetTable.{tableWords, setWords, setAt}
 use Rattle.nodes.specs.declared.utils.NodeSet.{NodeSet}
 use Rattle.solver.specs.Solver.{workBytes}
-use Rattle.solver.specs.WorkMatrix.{digits, listOf}
+use Rattle.nodes.specs.Lists.{listOf}
+use Rattle.nodes.specs.Bit.{digits}
 use Rattle.flows.specs.Job.{Job}
 use Rattle.flows.specs.Search.{Progress}
 use Rattle.flows.specs.Planes as Planes

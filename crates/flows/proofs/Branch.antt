@@ -11,7 +11,8 @@ use Rattle.nodes.specs.Bit.{_⊕_}
 use Rattle.nodes.specs.Row.{parity}
 use Rattle.nodes.proofs.Logic.{is-true, is-false, from-true, dec, and-l, and-r, or-out, not-in, not-out, eqb-no, eqb-yes, and-none, and-all, and-comm, or-none, ⊕-none, ⊕-&&}
 use Rattle.nodes.proofs.Row.{parity-ext, parity-⊕, parity-one, ltb-yes, ltb-no}
-use Rattle.solver.specs.System.{Solves, IsAnswer, solve, isSome}
+use Rattle.nodes.specs.Options.{isSome}
+use Rattle.solver.specs.System.{Solves, IsAnswer, solve}
 use Rattle.solver.proofs.System.{solvable-some}
 use Rattle.flows.specs.Job.{Job, odd}
 use Rattle.flows.specs.Branch.{Context, inSet, inOdd, entryAt, systemAt, sideAt, withNode, tryBranch}

@@ -12,7 +12,7 @@ use Rattle.nodes.specs.Row.{anyBelow, allBelow}
 use Rattle.nodes.proofs.Logic.{is-true, is-false, dec, and-l, and-r, or-r, or-out, not-out, and-none}
 use Rattle.nodes.proofs.Row.{any-none, any-ext, all-in, all-out, ltb-no}
 use Rattle.nodes.proofs.Count.{count-le}
-use Rattle.solver.specs.System.{isSome}
+use Rattle.nodes.specs.Options.{isSome}
 use Rattle.flows.specs.Job.{Job}
 use Rattle.flows.specs.Branch.{Context, branches, tryNode}
 use Rattle.flows.specs.Search.{Progress, noNode, start, solvedNow, round, rounds, found}

@@ -12,7 +12,7 @@ use Rattle.nodes.specs.Row.{anyBelow, count}
 use Rattle.nodes.proofs.Logic.{is-true, is-false, from-false, dec, and-l, and-r, and-in, or-l, or-r, or-out, not-in, not-out, cond-t, cond-f, beq-eq, le-or-lt, and-none}
 use Rattle.nodes.proofs.Row.{any-in, any-out, any-none, ltb-no}
 use Rattle.nodes.proofs.Count.{Within, count-pos, grows}
-use Rattle.solver.specs.System.{isSome}
+use Rattle.nodes.specs.Options.{isSome}
 use Rattle.flows.specs.Search.{Progress, noNode, orNone, start, solvedNow, round, rounds}
 
 abbrev pub never : Progress → Bool

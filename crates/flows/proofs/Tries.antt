@@ -10,7 +10,8 @@ use lib.Dec.{T, eqb, ltb, eqb→eq, eqb-refl, ltb→lt, nltb→le}
 use Rattle.nodes.specs.Row.{anyBelow}
 use Rattle.nodes.proofs.Logic.{is-true, is-false, dec, and-l, and-r, and-in, or-l, or-r, or-out, not-in, not-out, eqb-yes, and-all, or-none}
 use Rattle.nodes.proofs.Row.{parity-none, any-in, any-out}
-use Rattle.solver.specs.System.{IsAnswer, solve, isSome, firstOf}
+use Rattle.nodes.specs.Options.{isSome, firstOf}
+use Rattle.solver.specs.System.{IsAnswer, solve}
 use Rattle.solver.proofs.System.{solve-answer, Agree, solve-ext}
 use Rattle.flows.specs.Job.{Job, odd, own, isXorY, isYorZ, pauliY}
 use Rattle.flows.specs.Branch.{Context, inSet, inOdd, branches, systemAt, sideAt, withNode, tryBranch, firstSolvable, tryNode}

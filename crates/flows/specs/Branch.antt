@@ -6,7 +6,8 @@ use mathlib.Core.List.{List, [], _∷_}
 use lib.Dec.{eqb, ltb}
 use lib.ListN.{getD}
 use Rattle.nodes.specs.Bit.{_⊕_}
-use Rattle.solver.specs.System.{System, solve, firstOf}
+use Rattle.nodes.specs.Options.{firstOf}
+use Rattle.solver.specs.System.{System, solve}
 use Rattle.flows.specs.Job.{Job, planeXY, planeYZ, planeXZ}
 
 -- The branches that each measurement tries, in the order XY, YZ, XZ: a row for each of XY, YZ, XZ, X, Y, Z.

@@ -3,7 +3,7 @@ use Prim.Native.Nat.{ℕ, zero, suc, _+_}
 use mathlib.Core.Bool.{Bool, false, cond, not, _&&_, _||_}
 use mathlib.Core.Option.{Option, none, some}
 use Rattle.nodes.specs.Row.{anyBelow, allBelow}
-use Rattle.solver.specs.System.{isSome}
+use Rattle.nodes.specs.Options.{isSome}
 
 -- how far a search has come: the solved nodes, outputs among them, with their layers and sets
 pub record Progress : Type 0 where

@@ -1,20 +1,20 @@
--- The machine's counts of a word's digits, and one digit of one word of a list.
+-- The machine's counts of a word's digits, one digit of one word of a list, and a number by its digits.
 use mathlib.Core.Path.{_≡_, refl, sym, ap, ap₂, _∙_, subst}
-use mathlib.Core.Bool.{Bool, false, cond, not, _&&_}
+use mathlib.Core.Bool.{Bool, true, false, cond, not, _&&_}
 use Prim.Native.Nat.{ℕ, zero, suc, _+_, _-_, _*_, _/_, _%_, _^_, _≤_, _<_}
-use native.Mathlib.Nat.{mod-lt, le-dest, zero-lt-suc, mul-mod-left}
+use native.Mathlib.Nat.{mod-lt, le-dest, zero-lt-suc, mul-mod-left, pow-suc, not-suc-le-zero, le-of-suc-le-suc}
 use native.Mathlib.Omega.{arith}
 use lib.Arith.{lt-one}
 use lib.Bits.{bitAnd, and-shr, and-self}
 use lib.Dec.{eqb, eqb·suc-suc, eqb·suc-zero}
 use lib.Pow.{split, shr-lt, shl-shr, shr-shr, pow-pos, field, mod-mod-pow}
 use lib.Count.{ones, ones-cat, trailingZeros, under}
-use Rattle.nodes.specs.Bit.{bit, isOne}
+use Rattle.nodes.specs.Bit.{bit, isOne, one, digits}
 use Rattle.nodes.specs.Row.{count, lowestFrom, lowest}
 use Rattle.nodes.proofs.Logic.{and-all}
 use Rattle.nodes.proofs.Count.{count-ext}
 use Rattle.nodes.proofs.Members.{lowest-ext, lowest-suc}
-use Rattle.nodes.proofs.Bit.{bit-half, bit-low, bit-zero, bit-and, one-digit}
+use Rattle.nodes.proofs.Bit.{bit-half, bit-low, bit-zero, bit-and, bit-ext, one-digit}
 
 -- the digits below w are not changed by a mask of w digits
 pub bit-mod : (n w k : ℕ) → k < w → bit (n % 2 ^ w) k ≡ bit n k
@@ -96,6 +96,34 @@ bit-drop (suc w) n (suc k) h =
     high zero e l ih = let z : (n - 1) / 2 ≡ n / 2 - 1 = omega arith in rw (e, z, eqb·suc-suc k (lowest w (bit (n / 2)))) ih
     high (suc d) e l ih = let z : (n - 1) / 2 ≡ n / 2 = omega arith in rw (e, z, and-self (n / 2), eqb·suc-zero k) (sym (and-all (bit (n / 2) k)))
 
--- ---- one digit of one word of a list is changed: what each digit of each word is then
+-- ---- a number by its digits
+pub digits-lt : (n : ℕ) (f : ℕ → Bool) → digits n f < 2 ^ n
+unfolding digits
+digits-lt zero f = pow-pos 0
+digits-lt (suc n) f =
+    let d : digits n (λ i. f (suc i)) < 2 ^ n = digits-lt n (λ i. f (suc i)) in
+    let p : 2 ^ suc n ≡ 2 ^ n * 2 = pow-suc 2 n in
+    by (f 0) d p
+  where
+    by : (b : Bool) → digits n (λ i. f (suc i)) < 2 ^ n → 2 ^ suc n ≡ 2 ^ n * 2 → one b + 2 * digits n (λ i. f (suc i)) < 2 ^ suc n
+    by true d p = omega arith
+    by false d p = omega arith
 
--- ---- two tests at once
+pub bit-digits : (n : ℕ) (f : ℕ → Bool) (k : ℕ) → k < n → bit (digits n f) k ≡ f k
+unfolding digits
+bit-digits zero f k h = absurd (not-suc-le-zero h)
+bit-digits (suc n) f zero h = bit-low (one (f 0) + 2 * digits n (λ i. f (suc i))) ∙ by (f 0)
+  where
+    by : (b : Bool) → isOne ((one b + 2 * digits n (λ i. f (suc i))) % 2) ≡ b
+    by true = let e : (1 + 2 * digits n (λ i. f (suc i))) % 2 ≡ 1 = omega arith in ap isOne e
+    by false = let e : (0 + 2 * digits n (λ i. f (suc i))) % 2 ≡ 0 = omega arith in ap isOne e
+bit-digits (suc n) f (suc k) h =
+    sym (bit-half (one (f 0) + 2 * digits n (λ i. f (suc i))) k) ∙ ap (λ (x : ℕ). bit x k) (by (f 0))
+    ∙ bit-digits n (λ i. f (suc i)) k (le-of-suc-le-suc h)
+  where
+    by : (b : Bool) → (one b + 2 * digits n (λ i. f (suc i))) / 2 ≡ digits n (λ i. f (suc i))
+    by true = omega arith
+    by false = omega arith
+
+pub digits-is : (n x : ℕ) (f : ℕ → Bool) → x < 2 ^ n → ((k : ℕ) → k < n → bit x k ≡ f k) → x ≡ digits n f
+digits-is n x f h e = bit-ext n x (digits n f) h (digits-lt n f) (λ k l. e k l ∙ sym (bit-digits n f k l))

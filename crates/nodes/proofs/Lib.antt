@@ -1,5 +1,6 @@
 pub mod Logic
 pub mod Row
+pub mod Lists
 pub mod Count
 pub mod Members
 pub mod Remove

@@ -16,7 +16,8 @@ use Rattle.nodes.specs.Bit.{_⊕_, bit}
 use Rattle.nodes.specs.Row.{parity, anyBelow, lowest, members, membersFrom}
 use Rattle.nodes.specs.NodeSet.{wordBits, capacity, memberOf, member, wordsOf}
 use Rattle.nodes.specs.declared.utils.NodeSet.{NodeSet}
-use Rattle.nodes.specs.SetTable.{setWords, tableWords, setAt, putSet, addWords, addSet, addSets, raised, zeros}
+use Rattle.nodes.specs.Lists.{zeros}
+use Rattle.nodes.specs.SetTable.{setWords, tableWords, setAt, putSet, addWords, addSet, addSets, raised}
 use Rattle.nodes.proofs.Logic.{is-true, is-false, from-false, dec, and-none, and-all, ⊕-none, ⊕-assoc, lt-or-ge, le-or-lt, cond-t, cond-f, eqb-no, eqb-yes}
 use Rattle.nodes.proofs.Row.{parity-none, any-in, any-out, dot-comm, ltb-yes, ltb-no}
 use Rattle.nodes.proofs.Members.{members-snoc, members-ext, members-none}

@@ -40,7 +40,3 @@ addSets ws (u ∷ us) x = addSets (addSet ws u x) us x
 unfoldable pub raised : ℕ → List ℕ → List ℕ
 raised base [] = []
 raised base (k ∷ l) = (base + k) ∷ raised base l
-
--- n words with no digit
-abbrev pub zeros : ℕ → List ℕ
-zeros n = replicate n 0

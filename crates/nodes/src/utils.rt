@@ -8,7 +8,8 @@ ghost use lib.ListN.{length, getD, set};
 ghost use Rattle.nodes.specs.Bit.{bit, _⊕_};
 ghost use Rattle.nodes.specs.Row.{anyBelow, allBelow, count, lowest, members, parity};
 ghost use Rattle.nodes.specs.NodeSet.{wordBits, highest, capacity, wordsOf, member};
-ghost use Rattle.nodes.specs.SetTable.{setAt, putSet, addSet, addSets, raised, zeros};
+ghost use Rattle.nodes.specs.Lists.{zeros};
+ghost use Rattle.nodes.specs.SetTable.{setAt, putSet, addSet, addSets, raised};
 
 const WORD_BITS: u8 = 64;
 

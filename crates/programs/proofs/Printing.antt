@@ -11,7 +11,7 @@ use borrow.Author.Tests.{le-leb, lt-leb, leb-true}
 use lib.Dec.{leb, nleb→lt}
 use lib.ListN.{length, take, drop}
 use lib.Seq.{take-all, take-length}
-use Rattle.nodes.specs.SetTable.{zeros}
+use Rattle.nodes.specs.Lists.{zeros}
 use Rattle.nodes.proofs.Logic.{le-or-lt}
 use Rattle.solver.specs.Solver.{workBytes}
 use Rattle.answers.specs.Answer.{Refusal, Answer, gives, refuses, refusal}
@@ -22,10 +22,10 @@ use Rattle.records.specs.Writing.{mostOutput}
 use Rattle.answers.proofs.Answer.{give-inj, never}
 use Rattle.records.proofs.Records.{written-length}
 use Rattle.records.proofs.JobFile.{job-asked}
-use Rattle.verdicts.specs.Calls.{foundBytes, Outcome, put, findAsks, findOutcome, findCall, verifyAsks, verifyOutcome, verifyCall}
-use Rattle.verdicts.specs.Programs.{judgedBytes, refusalBytes, findOutput, findProgram, verifyOutput, verifyProgram}
-use Rattle.verdicts.proofs.Demand.{found-fits, asked-find}
-use Rattle.verdicts.proofs.Refusals.{AllNumbered, find-numbered}
+use Rattle.demands.specs.Calls.{foundBytes, Outcome, put, findAsks, findOutcome, findCall, verifyAsks, verifyOutcome, verifyCall}
+use Rattle.demands.specs.Programs.{judgedBytes, refusalBytes, findOutput, findProgram, verifyOutput, verifyProgram}
+use Rattle.demands.proofs.Demand.{found-fits, asked-find}
+use Rattle.demands.proofs.Refusals.{AllNumbered, find-numbered}
 use Rattle.programs.specs.Printing.{Printed, tooLong, printed, refusalIn, findPrinted, verifyPrinted}
 
 refuse-inj : {A : Type 0} {r s : Refusal} → _≡_ {A = Answer A} (refuses r) (refuses s) → r ≡ s

@@ -5,12 +5,12 @@ use mathlib.Core.Option.{Option, none, some}
 use mathlib.Core.List.{List, _++_}
 use lib.Dec.{leb}
 use lib.ListN.{length, take, drop}
-use Rattle.nodes.specs.SetTable.{zeros}
+use Rattle.nodes.specs.Lists.{zeros}
 use Rattle.solver.specs.Solver.{workBytes}
 use Rattle.answers.specs.Answer.{Refusal, Answer, gives, refuses, refusal}
 use Rattle.records.specs.Refusals.{numbersIn}
-use Rattle.verdicts.specs.Calls.{findAsks, verifyAsks}
-use Rattle.verdicts.specs.Programs.{judgedBytes, findProgram, verifyProgram}
+use Rattle.demands.specs.Calls.{findAsks, verifyAsks}
+use Rattle.demands.specs.Programs.{judgedBytes, findProgram, verifyProgram}
 use Rattle.programs.specs.declared.output.Output.{Output}
 use Rattle.programs.specs.declared.output.Told.{Told}
 use Rattle.programs.specs.declared.output.Told.the-variants.{Result, Refusal as Refused}

@@ -3,8 +3,11 @@ ghost use mathlib.Core.Path.{_≡_};
 ghost use mathlib.Core.Option.{some};
 ghost use Prim.Native.Nat.{min};
 ghost use Rattle.records.specs.Refusals.{numbersIn};
-ghost use Rattle.verdicts.specs.Programs.{judgedBytes, refusalBytes};
+ghost use Rattle.demands.specs.Programs.{judgedBytes, refusalBytes};
 ghost use Rattle.programs.specs.Printing.{printed, findPrinted, verifyPrinted, outputOf};
+use calls::Reply;
+use calls::find::find;
+use calls::verify;
 use finder::WORK_BYTES;
 use records::common::KIND_REFUSAL;
 use records::common::Numbers;
@@ -12,9 +15,6 @@ use records::common::Refused;
 use records::common::numbers_of;
 use records::writer::Put;
 use records::writer::write_record;
-use tables::Reply;
-use tables::find::find;
-use tables::verify;
 
 // Each judges the first 65,536 bytes.
 pub const JUDGED_BYTES: usize = 65536;

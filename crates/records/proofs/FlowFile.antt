@@ -14,8 +14,8 @@ use lib.Seq.{length-take-le, take-append-seam, drop-append-seam}
 use Rattle.nodes.proofs.Logic.{is-false, from-false, and-l, and-r, or-l, or-r, or-out, or-none, eqb-yes}
 use Rattle.answers.specs.Answer.{Answer, gives, no}
 use Rattle.records.specs.Records.{checked, written, kindLayers, kindSets}
-use Rattle.nodes.specs.Lists.{has}
-use Rattle.records.specs.JobFile.{mostNodes, modeCausal, all, rises}
+use Rattle.nodes.specs.Lists.{has, all}
+use Rattle.records.specs.JobFile.{mostNodes, modeCausal, rises}
 use Rattle.records.specs.FlowFile.{SetEntry, addEntry, entriesIn, entriesOf, framed, listed, allEntries, entryBelow, entriesRise, layersNo, setsNo, FlowFile, readSets, readFlow, setIn, entryIn, nothingLeft, oneMember}
 use Rattle.records.specs.Encoding.{entryBytes, flowFileBytes, ValidFlow}
 use Rattle.answers.proofs.Answer.{give-inj, asks-yes, bind-out, no-out}

@@ -12,8 +12,8 @@ use lib.ListN.{length, getD, List·getD-eq-default}
 use Rattle.nodes.proofs.Logic.{is-false, and-l, and-r, or-out, or-comm, lt-or-ge}
 use Rattle.answers.specs.Answer.{Answer, gives, no}
 use Rattle.records.specs.Records.{checked, written, kindOpen, kindEdges, kindInputs, kindOutputs, kindMeasurements}
-use Rattle.nodes.specs.Lists.{has}
-use Rattle.records.specs.JobFile.{JobFile, modeCausal, modePlanes, all, rises, pairsRise, highestOf, allows, allAllowed, openNo, edgesNo, nodesNo, measurementsNo, readMeasurements, readOutputs, readInputs, readEdges, readJob, joined, jobOf}
+use Rattle.nodes.specs.Lists.{has, all}
+use Rattle.records.specs.JobFile.{JobFile, modeCausal, modePlanes, rises, pairsRise, highestOf, allows, allAllowed, openNo, edgesNo, nodesNo, measurementsNo, readMeasurements, readOutputs, readInputs, readEdges, readJob, joined, jobOf}
 use Rattle.records.specs.Encoding.{jobBytes, ValidJob}
 use Rattle.answers.proofs.Answer.{give-inj, bind-out, no-out}
 use Rattle.records.proofs.Records.{and-out, checked-passed, checked-append, checked-written, record-bytes}

@@ -11,7 +11,8 @@ use borrow.Author.Tests.{le-leb, lt-leb, lt-ltb, le-ltb, eq-eqb, ne-eqb}
 use lib.Dec.{eqb, ltb}
 use lib.ListN.{length, getD, take, drop, length-drop}
 use lib.Seq.{drop-drop}
-use Rattle.records.specs.JobFile.{all, rises}
+use Rattle.nodes.specs.Lists.{all}
+use Rattle.records.specs.JobFile.{rises}
 use Rattle.records.specs.FlowFile.{SetEntry, addEntry, entriesIn, entriesOf, allEntries, entryBelow, entriesRise, framed, listed}
 use Rattle.records.specs.Views.{between}
 use Rattle.records.proofs.ReadingHead.{between-length}

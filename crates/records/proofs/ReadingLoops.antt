@@ -12,9 +12,9 @@ use lib.Dec.{eqb, leb, ltb}
 use lib.ListN.{length, getD, drop, drop-of-length-le}
 use lib.Seq.{drop-cons}
 use Rattle.nodes.specs.NodeSet.{highest}
-use Rattle.nodes.specs.Lists.{has}
+use Rattle.nodes.specs.Lists.{has, all}
 use Rattle.nodes.proofs.Logic.{lt-or-ge}
-use Rattle.records.specs.JobFile.{all, rises, pairsRise}
+use Rattle.records.specs.JobFile.{rises, pairsRise}
 
 pub rest-none : (l : List ℕ) (i : ℕ) → length l ≤ i → drop i l ≡ []
 rest-none l i h = drop-of-length-le l h

@@ -11,8 +11,8 @@ use lib.ListN.{length, getD}
 use Rattle.nodes.specs.NodeSet.{highest}
 use Rattle.answers.specs.Answer.{Answer, gives, refuses, refusal, no, passed}
 use Rattle.records.specs.Records.{Part, part, checked, kindOpen}
-use Rattle.nodes.specs.Lists.{has}
-use Rattle.records.specs.JobFile.{mostNodes, all, openNo}
+use Rattle.nodes.specs.Lists.{has, all}
+use Rattle.records.specs.JobFile.{mostNodes, openNo}
 use Rattle.records.specs.Refusals.{refusalOf}
 use Rattle.records.specs.Views.{bytesAt, Lies, LiesBehind, checkedOf, partAt, partOf, Inside}
 use Rattle.records.specs.declared.common.Refused.{Refused}

@@ -12,7 +12,7 @@ use lib.Seq.{length-take-le, take-append-le, drop-append-le, take-append-seam, d
 use Rattle.answers.specs.Answer.{Answer, gives, refuses, _>>=_, _>>_, asks, passed}
 use Rattle.answers.proofs.Answer.{give-inj, never, asks-out}
 use Rattle.records.specs.Records.{Part, part, checked, written, lengthField, kindField}
-use Rattle.records.specs.JobFile.{all}
+use Rattle.nodes.specs.Lists.{all}
 
 -- ---- tests
 pub and-out : (a b : Bool) → a && b ≡ true → (a ≡ true) × (b ≡ true)

@@ -14,13 +14,12 @@ use Rattle.nodes.specs.Row.{membersFrom, members}
 use Rattle.nodes.proofs.Logic.{is-false, dec, and-none, and-all, or-none, lt-or-ge, eqb-yes}
 use Rattle.nodes.proofs.Row.{ltb-yes, ltb-no}
 use Rattle.nodes.proofs.Members.{members-snoc}
-use Rattle.solver.specs.WorkMatrix.{listOf}
 use Rattle.flows.specs.Job.{Job}
 use Rattle.flows.specs.Search.{Progress}
 use Rattle.answers.specs.Answer.{gives}
 use Rattle.records.specs.Records.{part, checked, written, kindLayers, kindSets, kindNoFlow}
-use Rattle.nodes.specs.Lists.{has}
-use Rattle.records.specs.JobFile.{mostNodes, all, rises}
+use Rattle.nodes.specs.Lists.{has, listOf, all}
+use Rattle.records.specs.JobFile.{mostNodes, rises}
 use Rattle.records.specs.FlowFile.{SetEntry, allEntries, entryBelow, entriesRise, FlowFile, readFlow, setIn, entryIn, flowOf}
 use Rattle.records.specs.Encoding.{entryBytes, flowFileBytes, ValidFlow, entriesFor, foundFlow}
 use Rattle.records.specs.Writing.{setBytes, flowBytes, mostOutput}

@@ -6,12 +6,11 @@ use mathlib.Core.List.{List, [], _∷_, _++_}
 use lib.Dec.{ltb}
 use lib.ListN.{length}
 use Rattle.nodes.specs.Row.{members}
-use Rattle.solver.specs.WorkMatrix.{listOf}
 use Rattle.flows.specs.Job.{Job}
 use Rattle.flows.specs.Search.{Progress}
 use Rattle.records.specs.Records.{written, kindOpen, kindEdges, kindInputs, kindOutputs, kindMeasurements, kindLayers, kindSets}
-use Rattle.nodes.specs.Lists.{has}
-use Rattle.records.specs.JobFile.{JobFile, mostNodes, modeCausal, modePauli, all, rises, pairsRise, allAllowed}
+use Rattle.nodes.specs.Lists.{has, listOf, all}
+use Rattle.records.specs.JobFile.{JobFile, mostNodes, modeCausal, modePauli, rises, pairsRise, allAllowed}
 use Rattle.records.specs.FlowFile.{SetEntry, FlowFile, allEntries, entryBelow, entriesRise}
 
 -- a file of bytes, as every file of a program is; the definitions of the calls take any numbers

@@ -7,8 +7,8 @@ use lib.Dec.{eqb, ltb, leb}
 use lib.ListN.{length, getD, take, drop}
 use Rattle.answers.specs.Answer.{Answer, gives, asks, no, _>>=_, _>>_}
 use Rattle.records.specs.Records.{checked, kindLayers, kindSets}
-use Rattle.nodes.specs.Lists.{has}
-use Rattle.records.specs.JobFile.{all, rises, modeCausal}
+use Rattle.nodes.specs.Lists.{has, all}
+use Rattle.records.specs.JobFile.{rises, modeCausal}
 
 -- an entry of a sets record: node, count, members
 pub record SetEntry : Type 0 where

@@ -4,7 +4,7 @@ use mathlib.Core.Bool.{Bool, true, false, cond, _&&_, _||_}
 use mathlib.Core.List.{List, [], _∷_}
 use lib.Dec.{eqb, ltb, leb}
 use lib.ListN.{length, getD}
-use Rattle.nodes.specs.Lists.{has}
+use Rattle.nodes.specs.Lists.{has, all}
 use Rattle.flows.specs.Job.{Job, planeXY, planeXZ, pauliZ}
 use Rattle.answers.specs.Answer.{Answer, gives, no, _>>=_}
 use Rattle.records.specs.Records.{checked, kindOpen, kindEdges, kindInputs, kindOutputs, kindMeasurements}
@@ -21,11 +21,6 @@ modePlanes = 2
 
 abbrev pub modePauli : ℕ
 modePauli = 3
-
--- every element passes
-unfoldable pub all : (ℕ → Bool) → List ℕ → Bool
-all p [] = true
-all p (x ∷ l) = p x && all p l
 
 -- strictly ascending, from `low` on
 unfoldable pub rises : ℕ → List ℕ → Bool

@@ -5,7 +5,7 @@ use mathlib.Core.Option.{Option, none, some}
 use mathlib.Core.List.{List, [], _∷_, _++_}
 use lib.ListN.{length}
 use Rattle.nodes.specs.Row.{members}
-use Rattle.solver.specs.WorkMatrix.{listOf}
+use Rattle.nodes.specs.Lists.{listOf}
 use Rattle.flows.specs.Job.{Job}
 use Rattle.flows.specs.Search.{Progress}
 use Rattle.records.specs.Records.{headBytes, written, kindLayers, kindSets, kindNoFlow}

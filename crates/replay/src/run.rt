@@ -8,7 +8,7 @@ use crate::entry::work_len;
 use capi::bolz_find;
 use capi::bolz_solve;
 use capi::bolz_verify;
-use trial::holds;
+use compare::holds;
 
 const FIND: u8 = 102; // f
 

@@ -1,4 +1,4 @@
--- A list given by what stands at each place, and what adding one row of bytes to another does to the matrix.
+-- What adding one row of bytes to another does to the matrix.
 use mathlib.Core.Path.{_≡_, refl, sym, ap, ap₂, _∙_}
 use mathlib.Core.Logic.{_≢_, _⊎_, inl, inr, ⊎-elim}
 use mathlib.Core.Bool.{Bool, cond}
@@ -14,24 +14,10 @@ use lib.ListN.{getD, length, set, length-set, List·getD-eq-default}
 use lib.Seq.{getD-set-same, getD-set-other, ext-getD}
 use Rattle.nodes.specs.Bit.{bit, _⊕_}
 use Rattle.nodes.proofs.Bit.{bit-xor}
-use Rattle.solver.specs.WorkMatrix.{entryOf, listOf}
+use Rattle.nodes.specs.Lists.{listOf}
+use Rattle.nodes.proofs.Lists.{length-listOf, getD-listOf, is-listOf}
+use Rattle.solver.specs.WorkMatrix.{entryOf}
 use Rattle.solver.specs.Steps.{turns, xorAt, xorRow}
-
--- ---- lists by their places
-pub length-listOf : {A : Type 0} (n : ℕ) (f : ℕ → A) → length (listOf n f) ≡ n
-unfolding listOf
-length-listOf zero f = refl
-length-listOf (suc n) f = ap suc (length-listOf n (λ k. f (suc k)))
-
-pub getD-listOf : (n : ℕ) (f : ℕ → ℕ) (k : ℕ) → k < n → getD (listOf n f) k 0 ≡ f k
-unfolding listOf
-getD-listOf zero f k h = absurd (not-suc-le-zero h)
-getD-listOf (suc n) f zero h = refl
-getD-listOf (suc n) f (suc k) h = getD-listOf n (λ i. f (suc i)) k (le-of-suc-le-suc h)
-
-pub is-listOf : (l : List ℕ) (n : ℕ) (f : ℕ → ℕ) → length l ≡ n → ((k : ℕ) → k < n → getD l k 0 ≡ f k) → l ≡ listOf n f
-is-listOf l n f e h =
-    ext-getD 0 l (listOf n f) (e ∙ sym (length-listOf n f)) (λ k j. h k (rw e at j) ∙ sym (getD-listOf n f k (rw e at j)))
 
 -- ---- the loop that adds n bytes from s on to those from d on, where the two don't overlap
 abbrev pub xorByte : ℕ → ℕ → ℕ → List ℕ → List ℕ

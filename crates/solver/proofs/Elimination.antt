@@ -9,7 +9,8 @@ use native.Mathlib.Nat.{not-suc-le-zero, le-refl}
 use lib.Dec.{T, eqb, eqb→eq, ltb}
 use Rattle.nodes.specs.Bit.{_⊕_}
 use Rattle.nodes.specs.Row.{dot, anyBelow}
-use Rattle.solver.specs.System.{Solves, Dependent, IsAnswer, isSome, solve, pivot}
+use Rattle.nodes.specs.Options.{isSome}
+use Rattle.solver.specs.System.{Solves, Dependent, IsAnswer, solve, pivot}
 use Rattle.solver.specs.Reduced.{lead, Reduced}
 use Rattle.nodes.proofs.Logic.{is-false, both-ways, dec, eqb-no, eqb-yes, lt-or-ge, and-none, and-all, ⊕-none, ⊕-self, ⊕-eq}
 use Rattle.nodes.proofs.Row.{parity-and, dot-⊕, dot-rows, dot-ext, dot-prefix, dot-one}

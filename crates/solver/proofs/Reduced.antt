@@ -8,7 +8,8 @@ use native.Mathlib.Omega.{arith}
 use native.Mathlib.Nat.{le-refl, eq-or-lt-of-le}
 use lib.Dec.{T, eqb, eqb→eq, eqb-refl, ltb, ltb→lt}
 use Rattle.nodes.specs.Row.{dot, anyBelow}
-use Rattle.solver.specs.System.{System, Solves, Dependent, isSome, solve, pivot}
+use Rattle.nodes.specs.Options.{isSome}
+use Rattle.solver.specs.System.{System, Solves, Dependent, solve, pivot}
 use Rattle.solver.specs.Reduced.{lead, Reduced, contradicts, leads, readOff}
 use Rattle.nodes.proofs.Logic.{is-true, is-false, from-true, both-ways, dec, and-l, and-r, and-in, eqb-yes, beq-eq, and-none, and-all}
 use Rattle.nodes.proofs.Row.{parity-ext, parity-none, parity-one, any-in, any-out, any-ext, ltb-yes}

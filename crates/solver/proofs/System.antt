@@ -9,7 +9,8 @@ use native.Mathlib.Nat.{not-suc-le-zero, le-step, lt-suc-self, eq-or-lt-of-le, l
 use lib.Dec.{T, eqb, eqb→eq}
 use Rattle.nodes.specs.Bit.{_⊕_}
 use Rattle.nodes.specs.Row.{parity, allBelow}
-use Rattle.solver.specs.System.{System, sum, Solves, Dependent, Avoids, IsAnswer, isSome, firstOf, taking, solve, pivot}
+use Rattle.nodes.specs.Options.{isSome, firstOf}
+use Rattle.solver.specs.System.{System, sum, Solves, Dependent, Avoids, IsAnswer, taking, solve, pivot}
 use Rattle.nodes.proofs.Logic.{is-true, is-false, from-true, dec, and-l, and-r, and-in, not-in, not-out, eqb-no, eqb-yes, beq-eq, and-none, ⊕-none, ⊕-self, ⊕-eq, ⊕-comm, ⊕-assoc}
 use Rattle.nodes.proofs.Row.{parity-ext, parity-⊕, all-in, all-out}
 

@@ -13,17 +13,17 @@ use lib.Dec.{T, eqb, ltb, lt→ltb}
 use lib.ListN.{getD, length, length-set}
 use lib.Pow.{pow-pos, pow-lt, split, shr-shr}
 use lib.Seq.{getD-set-same, getD-set-other}
-use Rattle.nodes.specs.Bit.{bit, isOne}
+use Rattle.nodes.specs.Bit.{bit, isOne, digits, one}
 use Rattle.nodes.specs.Row.{lowest, allBelow}
 use Rattle.nodes.proofs.Logic.{is-false, from-false, not-in, not-out, or-l, or-r, or-out, or-none, eqb-no, eqb-yes, lt-or-ge}
 use Rattle.nodes.proofs.Row.{all-out, ltb-no}
 use Rattle.nodes.proofs.Members.{lowest-none, lowest-here, lowest-unique}
 use Rattle.nodes.proofs.Bit.{bit-zero, bit-past, bit-ext, bit-or, bit-pow, bit-low, bit-half}
-use Rattle.nodes.proofs.Digits.{trailing-lowest}
+use Rattle.nodes.proofs.Digits.{trailing-lowest, digits-lt, bit-digits, digits-is}
 use Rattle.solver.specs.Reduced.{lead}
-use Rattle.solver.specs.WorkMatrix.{entryOf, one, digits, bytesOf}
+use Rattle.solver.specs.WorkMatrix.{entryOf, bytesOf}
 use Rattle.solver.specs.Steps.{withBit}
-use Rattle.solver.proofs.Bytes.{length-listOf, getD-listOf, is-listOf}
+use Rattle.nodes.proofs.Lists.{length-listOf, getD-listOf, is-listOf}
 
 -- ---- bytes
 bit-shr : (a s k : ℕ) → bit (a / 2 ^ s) k ≡ bit a (s + k)
@@ -141,38 +141,6 @@ module _ (w : ℕ) (l : List ℕ) (row : ℕ) where
         bad : (t : ℕ) → s ≤ t → T (ltb (8 * q + t) width) ⊎ T (not (entryOf w l row (8 * q + t))) → T (entryOf w l row (8 * q + t)) → ⊥
         bad t lo (inl a) c = from-false (ltb (8 * q + t) width) (ltb-no (8 * q + t) width (omega arith)) a
         bad t lo (inr a) c = not-out (entryOf w l row (8 * q + t)) a c
-
--- ---- a number by its digits
-pub digits-lt : (n : ℕ) (f : ℕ → Bool) → digits n f < 2 ^ n
-unfolding digits
-digits-lt zero f = pow-pos 0
-digits-lt (suc n) f =
-    let d : digits n (λ i. f (suc i)) < 2 ^ n = digits-lt n (λ i. f (suc i)) in
-    let p : 2 ^ suc n ≡ 2 ^ n * 2 = pow-suc 2 n in
-    by (f 0) d p
-  where
-    by : (b : Bool) → digits n (λ i. f (suc i)) < 2 ^ n → 2 ^ suc n ≡ 2 ^ n * 2 → one b + 2 * digits n (λ i. f (suc i)) < 2 ^ suc n
-    by true d p = omega arith
-    by false d p = omega arith
-
-pub bit-digits : (n : ℕ) (f : ℕ → Bool) (k : ℕ) → k < n → bit (digits n f) k ≡ f k
-unfolding digits
-bit-digits zero f k h = absurd (not-suc-le-zero h)
-bit-digits (suc n) f zero h = bit-low (one (f 0) + 2 * digits n (λ i. f (suc i))) ∙ by (f 0)
-  where
-    by : (b : Bool) → isOne ((one b + 2 * digits n (λ i. f (suc i))) % 2) ≡ b
-    by true = let e : (1 + 2 * digits n (λ i. f (suc i))) % 2 ≡ 1 = omega arith in ap isOne e
-    by false = let e : (0 + 2 * digits n (λ i. f (suc i))) % 2 ≡ 0 = omega arith in ap isOne e
-bit-digits (suc n) f (suc k) h =
-    sym (bit-half (one (f 0) + 2 * digits n (λ i. f (suc i))) k) ∙ ap (λ (x : ℕ). bit x k) (by (f 0))
-    ∙ bit-digits n (λ i. f (suc i)) k (le-of-suc-le-suc h)
-  where
-    by : (b : Bool) → (one b + 2 * digits n (λ i. f (suc i))) / 2 ≡ digits n (λ i. f (suc i))
-    by true = omega arith
-    by false = omega arith
-
-pub digits-is : (n x : ℕ) (f : ℕ → Bool) → x < 2 ^ n → ((k : ℕ) → k < n → bit x k ≡ f k) → x ≡ digits n f
-digits-is n x f h e = bit-ext n x (digits n f) h (digits-lt n f) (λ k l. e k l ∙ sym (bit-digits n f k l))
 
 -- ---- a row of bits as bytes
 pub byte-at : (w : ℕ) (x : ℕ → Bool) (q : ℕ) → q < w → getD (bytesOf w x) q 0 ≡ digits 8 (λ t. x (8 * q + t))

@@ -9,7 +9,8 @@ use lib.Bits.{bitOr, bitXor}
 use lib.ListN.{length, getD, set}
 use Rattle.nodes.specs.Row.{allBelow, lowestFrom}
 use Rattle.solver.specs.Reduced.{lead, contradicts, leads, readOff}
-use Rattle.solver.specs.WorkMatrix.{entryOf, listOf, bytesOf}
+use Rattle.nodes.specs.Lists.{listOf}
+use Rattle.solver.specs.WorkMatrix.{entryOf, bytesOf}
 
 -- what n turns of a loop make, where turn j does f j
 unfoldable pub turns : {A : Type 0} → (ℕ → A → A) → ℕ → A → A

@@ -7,6 +7,7 @@ use mathlib.Core.Option.{Option, none, some}
 use lib.Dec.{T, eqb}
 use Rattle.nodes.specs.Bit.{_⊕_}
 use Rattle.nodes.specs.Row.{parity, allBelow}
+use Rattle.nodes.specs.Options.{isSome, firstOf}
 
 -- The left side: rows are numbered below `rows`; a row or column that is not at hand takes no part.
 pub record System : Type 0 where
@@ -38,14 +39,6 @@ pub record IsAnswer (s : System) (n : ℕ) (b x : ℕ → Bool) : Type 0 where
   pub within : (k : ℕ) → T (x k) → (k < n) × T (s .column k)
 
 -- ---- the answer, computed column by column
-abbrev pub isSome : Option (ℕ → Bool) → Bool
-isSome none = false
-isSome (some x) = true
-
-abbrev pub firstOf : Option (ℕ → Bool) → Option (ℕ → Bool) → Option (ℕ → Bool)
-firstOf (some x) o = some x
-firstOf none o = o
-
 -- a solution with column n taken too
 abbrev pub taking : ℕ → Option (ℕ → Bool) → Option (ℕ → Bool)
 taking n none = none

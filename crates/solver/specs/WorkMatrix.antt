@@ -4,7 +4,8 @@ use mathlib.Core.Bool.{Bool, true, false, not, _||_}
 use mathlib.Core.List.{List, [], _∷_}
 use lib.Dec.{ltb}
 use lib.ListN.{getD}
-use Rattle.nodes.specs.Bit.{bit}
+use Rattle.nodes.specs.Bit.{bit, digits}
+use Rattle.nodes.specs.Lists.{listOf}
 use Rattle.nodes.specs.Row.{allBelow}
 use Rattle.solver.specs.System.{System}
 
@@ -25,19 +26,5 @@ abbrev pub nothingBeyond : ℕ → List ℕ → ℕ → ℕ → Bool
 nothingBeyond w l rows width = allBelow rows (λ i. allBelow (8 * w) (λ k. ltb k width || not (entryOf w l i k)))
 
 -- ---- a row of bits as w bytes
-abbrev pub one : Bool → ℕ
-one true = 1
-one false = 0
-
--- the number whose digits at the k lowest places are f
-unfoldable pub digits : ℕ → (ℕ → Bool) → ℕ
-digits zero f = 0
-digits (suc k) f = one (f 0) + 2 * digits k (λ i. f (suc i))
-
--- f 0, f 1, .. f (n - 1)
-unfoldable pub listOf : {A : Type 0} → ℕ → (ℕ → A) → List A
-listOf zero f = []
-listOf (suc n) f = f 0 ∷ listOf n (λ k. f (suc k))
-
 abbrev pub bytesOf : ℕ → (ℕ → Bool) → List ℕ
 bytesOf w x = listOf w (λ q. digits 8 (λ t. x (8 * q + t)))

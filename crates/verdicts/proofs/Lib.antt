@@ -1,8 +1,3 @@
-pub mod Cases
-pub mod Demand
-pub mod Judging
-pub mod Published
 pub mod Questions
-pub mod Refusals
-pub mod Solutions
 pub mod Verdict
+pub mod Published

@@ -1,1 +1,1 @@
-// The questions of the verifiers, the calls, the programs and the demands: definitions and theorems, no code.
+// The verifier's questions, and the published conditions that they stand for: definitions and theorems, no code.

@@ -1,6 +1,6 @@
 use mathlib.Core.Path.{sym, ap, _∙_}
-use Rattle.tables.specs.Replies.{replyOf}
-use Rattle.tables.specs.declared.Reply.{Reply}
+use Rattle.calls.specs.Replies.{replyOf}
+use Rattle.calls.specs.declared.Reply.{Reply}
 use Rattle.capi.specs.Codes.{answerCode}
 use borrow.Author.Needs.{needs}
 use Rattle.capi.proofs.reply_code.Statement.{statement}

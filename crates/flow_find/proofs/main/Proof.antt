@@ -4,7 +4,7 @@ use native.Mathlib.Omega.{arith}
 use lib.ListN.{length}
 use lib.Seq.{length-take-le}
 use Rattle.records.specs.Writing.{mostOutput}
-use Rattle.verdicts.specs.Programs.{judgedBytes}
+use Rattle.demands.specs.Programs.{judgedBytes}
 use Rattle.messages.specs.Message.{lineRoom}
 use Rattle.programs.proofs.Both.{both-few}
 use Rattle.streams.specs.Streams.{InBuffer}

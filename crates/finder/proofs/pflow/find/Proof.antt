@@ -1,7 +1,8 @@
 use mathlib.Core.Path.{refl, sym, ap, _∙_}
 use mathlib.Core.Bool.{Bool, true}
 use Prim.Native.Nat.{ℕ}
-use Rattle.nodes.specs.SetTable.{tableWords, zeros}
+use Rattle.nodes.specs.Lists.{zeros}
+use Rattle.nodes.specs.SetTable.{tableWords}
 use Rattle.nodes.proofs.SetTable.{zeros-empty}
 use Rattle.finder.specs.Finder.{progressAt, jobIn}
 use borrow.Author.Tests.{not-true, not-false}

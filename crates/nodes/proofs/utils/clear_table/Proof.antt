@@ -2,7 +2,7 @@ use mathlib.Core.Path.{_≡_, refl}
 use Prim.Native.Nat.{_-_, _≤_}
 use native.Mathlib.Omega.{arith}
 use lib.ListN.{length, take}
-use Rattle.nodes.specs.SetTable.{zeros}
+use Rattle.nodes.specs.Lists.{zeros}
 use Rattle.nodes.proofs.SetTable.{zeros-more, zeros-whole}
 use borrow.Author.Needs.{needs}
 use Rattle.nodes.proofs.utils.clear_table.Statement.{statement}

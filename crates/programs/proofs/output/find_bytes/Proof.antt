@@ -2,15 +2,15 @@ use Prim.Native.Nat.{ℕ}
 use mathlib.Core.Path.{_≡_, sym, ap, _∙_, subst}
 use mathlib.Core.List.{List}
 use mathlib.Core.Option.{some}
-use Rattle.nodes.specs.SetTable.{zeros}
+use Rattle.nodes.specs.Lists.{zeros}
 use Rattle.solver.specs.Solver.{workBytes}
 use Rattle.answers.specs.Answer.{Refusal}
 use Rattle.records.specs.Refusals.{refusalOf}
-use Rattle.verdicts.specs.Calls.{Outcome, findCall}
-use Rattle.verdicts.specs.Programs.{judgedBytes, refusalBytes}
-use Rattle.tables.specs.declared.Reply.{Reply}
+use Rattle.demands.specs.Calls.{Outcome, findCall}
+use Rattle.demands.specs.Programs.{judgedBytes, refusalBytes}
+use Rattle.calls.specs.declared.Reply.{Reply}
 use Rattle.programs.specs.declared.output.Output.{Output}
-use Rattle.tables.specs.Replies.{replyOf}
+use Rattle.calls.specs.Replies.{replyOf}
 use Rattle.programs.specs.Printing.{Printed, tooLong, printed, outputOf}
 use Rattle.programs.proofs.Printing.{first-bytes, find-gives, find-20, find-refuses}
 use borrow.Author.Needs.{needs}

@@ -4,11 +4,11 @@ use mathlib.Core.List.{List, []}
 use mathlib.Core.Option.{some}
 use Rattle.answers.specs.Answer.{Refusal}
 use Rattle.records.specs.Refusals.{refusalOf}
-use Rattle.verdicts.specs.Calls.{Outcome, verifyCall}
-use Rattle.verdicts.specs.Programs.{judgedBytes, refusalBytes}
-use Rattle.tables.specs.declared.Reply.{Reply}
+use Rattle.demands.specs.Calls.{Outcome, verifyCall}
+use Rattle.demands.specs.Programs.{judgedBytes, refusalBytes}
+use Rattle.calls.specs.declared.Reply.{Reply}
 use Rattle.programs.specs.declared.output.Output.{Output}
-use Rattle.tables.specs.Replies.{replyOf}
+use Rattle.calls.specs.Replies.{replyOf}
 use Rattle.programs.specs.Printing.{printed, outputOf}
 use Rattle.programs.proofs.Printing.{first-bytes, verify-gives, verify-refuses}
 use borrow.Author.Needs.{needs}

@@ -3,7 +3,7 @@ use mathlib.Core.Option.{none, some}
 use Rattle.answers.specs.Answer.{Refusal}
 use Rattle.records.specs.Refusals.{numbersIn}
 use Rattle.records.specs.Splice.{putOf}
-use Rattle.verdicts.specs.Programs.{refusalBytes}
+use Rattle.demands.specs.Programs.{refusalBytes}
 use Rattle.programs.specs.declared.output.Output.{Output}
 use Rattle.programs.specs.Printing.{Printed, outputOf}
 use Rattle.programs.proofs.Printing.{refusal-put}

@@ -5,7 +5,8 @@ use borrow.Author.Tests.{not-true, not-false, eq-eqb, ne-eqb}
 use lib.Dec.{ltb}
 use lib.ListN.{length}
 use Rattle.nodes.specs.Row.{count}
-use Rattle.records.specs.JobFile.{all, highestOf}
+use Rattle.nodes.specs.Lists.{all}
+use Rattle.records.specs.JobFile.{highestOf}
 use Rattle.records.proofs.JobFile.{nodes-out}
 use Rattle.records.proofs.ReadingMeasurements.{zeroAt, allowed-tests}
 use borrow.Author.Needs.{needs}

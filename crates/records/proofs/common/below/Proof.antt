@@ -7,7 +7,7 @@ use lib.Dec.{ltb}
 use lib.ListN.{length, getD, drop}
 use borrow.Author.Tests.{lt-ltb}
 use Rattle.nodes.proofs.Logic.{and-all, and-turn}
-use Rattle.records.specs.JobFile.{all}
+use Rattle.nodes.specs.Lists.{all}
 use Rattle.records.proofs.ReadingLoops.{all-end, all-next, covers, none-below}
 use borrow.Author.Needs.{needs}
 use Rattle.records.proofs.common.below.Statement.{statement}

@@ -3,7 +3,7 @@ use Prim.Native.Nat.{_-_, _≤_}
 use native.Mathlib.Omega.{arith}
 use borrow.Author.Tests.{eq-eqb, ne-eqb}
 use lib.ListN.{length, getD, drop}
-use Rattle.records.specs.JobFile.{all}
+use Rattle.nodes.specs.Lists.{all}
 use Rattle.records.proofs.Records.{below-at}
 use Rattle.records.proofs.ReadingLoops.{all-end, all-next}
 use Rattle.records.proofs.ReadingMeasurements.{zeroAt}

@@ -1,0 +1,62 @@
+use Prim.Native.Nat.{ℕ, _-_}
+use mathlib.Core.Path.{_≡_, ap, ap₂, _∙_}
+use mathlib.Core.Bool.{Bool, not, _&&_}
+use mathlib.Core.List.{List}
+use native.Mathlib.Omega.{arith}
+use borrow.Author.Needs.{needs}
+use lib.ListN.{take}
+use Rattle.nodes.specs.Row.{members}
+use Rattle.nodes.specs.NodeSet.{member, capacity}
+use Rattle.nodes.specs.SetTable.{setAt}
+use Rattle.records.specs.Splice.{putFirst, putCount}
+use Rattle.records.specs.Writing.{flowRecords}
+use Rattle.calls.specs.Replies.{putReply}
+use Rattle.calls.proofs.find.write_found.Statement.{statement}
+use Rattle.calls.proofs.find.write_found.Tie as tie
+
+below-requires : tie.Need-below-requires
+below-requires c κs = search needs
+
+difference-requires : tie.Need-difference-requires
+difference-requires c κs = search needs
+
+sub-write-flow : tie.Need-sub-write-flow
+sub-write-flow c = search needs
+
+part-write-flow-start : tie.Need-part-write-flow-start
+part-write-flow-start c = search needs
+
+part-write-flow-end : tie.Need-part-write-flow-end
+part-write-flow-end c = search needs
+
+write-flow-requires : tie.Need-write-flow-requires
+write-flow-requires c κs = search needs
+
+answered-requires : tie.Need-answered-requires
+answered-requires c κs = search needs
+
+same-length : tie.Need-same-length
+same-length c = search needs
+
+returns : tie.Need-returns
+returns c = let a = c .before .before .before .before .before .before .before .before .before .before .before .args in
+    let l = a .layers .now in
+    let wrote = c .before .before .before .write-flow in
+    let all : a .n - 0 ≡ a .n = omega arith in
+    let nodes = c .before .before .before .before .before .before .difference .ensures ∙ ap {B = ℕ → Bool} (λ (g : ℕ → Bool) (u : ℕ). g u && not (member (a .outputs) u)) (c .before .before .before .before .before .before .before .below .ensures) in
+    let bytes = ap₂ (λ (k : ℕ) (g : ℕ → Bool). flowRecords (take k l) capacity (setAt (a .sets .now)) (members capacity g)) all nodes in
+    (c .answered .ensures ∙ ap putReply (wrote .ensures .0 ∙ ap (λ (b : List ℕ). putCount b (a .out .now)) bytes), wrote .ensures .1 ∙ ap (λ (b : List ℕ). putFirst b (a .out .now)) bytes)
+
+pub write-found-spec : {M : Type 1} → statement M
+write-found-spec =
+    tie.close
+    (tie.spec
+    below-requires
+    difference-requires
+    sub-write-flow
+    part-write-flow-start
+    part-write-flow-end
+    write-flow-requires
+    answered-requires
+    same-length
+    returns)

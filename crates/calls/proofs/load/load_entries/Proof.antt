@@ -1,0 +1,179 @@
+use mathlib.Core.Path.{_≡_, refl, sym, ap, _∙_}
+use mathlib.Core.Bool.{Bool, true, _&&_, _||_}
+use Prim.Native.Nat.{ℕ, _+_, _*_, _-_, _≤_}
+use native.Mathlib.Omega.{arith}
+use lib.Dec.{eqb}
+use lib.ListN.{length, getD, drop, length-replicate}
+use borrow.Author.Tests.{le-leb}
+use Rattle.nodes.specs.NodeSet.{member, highest, capacity}
+use Rattle.nodes.specs.SetTable.{setWords, setAt, tableWords}
+use Rattle.nodes.proofs.Logic.{and-all}
+use Rattle.nodes.specs.Lists.{has}
+use Rattle.records.specs.FlowFile.{entriesOf, framed, listed, allEntries, entryBelow, setIn, entryIn}
+use Rattle.records.specs.Views.{between}
+use Rattle.records.proofs.ReadingEntries.{two-more, fits, framed-next}
+use Rattle.records.proofs.ReadingRecords.{has-small}
+use Rattle.calls.proofs.LoadingEdges.{cleared}
+use Rattle.calls.proofs.LoadingTables.{set-end, entry-end, set-more, entry-more, below-out}
+use borrow.Author.Needs.{needs}
+use Rattle.calls.proofs.load.load_entries.Statement.{statement}
+use Rattle.calls.proofs.load.load_entries.Tie as tie
+
+abbrev Inv-loop : tie.InvT-loop
+Inv-loop sets table₀ entries₀ i₀ table entries i = (i ≤ length sets) × (length table ≡ tableWords) × (framed (entriesOf (drop i sets)) ≡ true) × (allEntries (entryBelow capacity) (listed (entriesOf (drop i sets))) ≡ true)
+    × ((u v : ℕ) → setIn (listed (entriesOf sets)) u v ≡ setAt table u v || setIn (listed (entriesOf (drop i sets))) u v)
+    × ((u : ℕ) → entryIn (listed (entriesOf sets)) u ≡ member entries u || entryIn (listed (entriesOf (drop i sets))) u)
+
+abbrev μ-loop : tie.MeasureT-loop
+μ-loop sets table₀ entries₀ i₀ table entries i = length sets - i
+
+clear-table-requires : tie.Need-clear-table-requires Inv-loop μ-loop
+clear-table-requires c κs = search needs
+
+empty-requires : tie.Need-empty-requires Inv-loop μ-loop
+empty-requires c κs = search needs
+
+loop-holds : tie.Need-loop-holds Inv-loop μ-loop
+loop-holds c = let t = c .before .before .before in
+    let s = t .before .before .before .before in (
+      search needs,
+      ap length (t .clear-table .ensures) ∙ length-replicate _ 0 ∙ s .pre .0,
+      s .pre .1 .0,
+      s .pre .1 .1,
+      (λ u v. ap (λ (b : Bool). b || setIn (listed (entriesOf (s .args .sets .now))) u v) (sym (cleared _ (length (s .args .table .now)) (t .clear-table .ensures) u v))),
+      λ u. ap (λ (f : ℕ → Bool). f u || entryIn (listed (entriesOf (s .args .sets .now))) u) (sym (c .empty .ensures)),
+    )
+
+shared-slice-read-u : tie.Need-shared-slice-read-u Inv-loop μ-loop
+shared-slice-read-u c = search needs
+
+add-start : tie.Need-add-start Inv-loop μ-loop
+add-start c = let l = c .before .before .loop in
+    let p = c .before .before .before .before .before .before .before .before .before .before .args .sets .now in
+    let x = two-more p (l .i) (l .inv .2) (omega arith) in
+    let y = fits p (l .i) (l .inv .2) (omega arith) in
+    search needs
+
+add-end : tie.Need-add-end Inv-loop μ-loop
+add-end c = let l = c .before .before .loop in
+    let p = c .before .before .before .before .before .before .before .before .before .before .args .sets .now in
+    let x = two-more p (l .i) (l .inv .2) (omega arith) in
+    let y = fits p (l .i) (l .inv .2) (omega arith) in
+    search needs
+
+shared-slice-read-end : tie.Need-shared-slice-read-end Inv-loop μ-loop
+shared-slice-read-end c = let l = c .before .before .before .loop in
+    let p = c .before .before .before .before .before .before .before .before .before .before .before .args .sets .now in
+    let x = two-more p (l .i) (l .inv .2) (omega arith) in
+    let y = fits p (l .i) (l .inv .2) (omega arith) in
+    omega arith
+
+cast-end : tie.Need-cast-end Inv-loop μ-loop
+cast-end c = omega (arith, c .shared-slice-known3 .given (c .before .before .before .loop .i + 1))
+
+add-end-2 : tie.Need-add-end-2 Inv-loop μ-loop
+add-end-2 c = let l = c .before .before .before .loop in
+    let p = c .before .before .before .before .before .before .before .before .before .before .before .args .sets .now in
+    let x = two-more p (l .i) (l .inv .2) (omega arith) in
+    let y = fits p (l .i) (l .inv .2) (omega arith) in
+    search needs
+
+sub-set-of : tie.Need-sub-set-of Inv-loop μ-loop
+sub-set-of c = let l = c .before .before .before .loop in
+    let p = c .before .before .before .before .before .before .before .before .before .before .before .args .sets .now in
+    let x = two-more p (l .i) (l .inv .2) (omega arith) in
+    let y = fits p (l .i) (l .inv .2) (omega arith) in
+    search needs
+
+part-set-of-start : tie.Need-part-set-of-start Inv-loop μ-loop
+part-set-of-start c = let l = c .before .before .before .loop in
+    let p = c .before .before .before .before .before .before .before .before .before .before .before .args .sets .now in
+    let x = two-more p (l .i) (l .inv .2) (omega arith) in
+    let y = fits p (l .i) (l .inv .2) (omega arith) in
+    search needs
+
+part-set-of-end : tie.Need-part-set-of-end Inv-loop μ-loop
+part-set-of-end c = let l = c .before .before .before .loop in
+    let p = c .before .before .before .before .before .before .before .before .before .before .before .args .sets .now in
+    let x = two-more p (l .i) (l .inv .2) (omega arith) in
+    let y = fits p (l .i) (l .inv .2) (omega arith) in
+    search needs
+
+set-of-requires : tie.Need-set-of-requires Inv-loop μ-loop
+set-of-requires c κs = search needs
+
+add-set-requires : tie.Need-add-set-requires Inv-loop μ-loop
+add-set-requires c κs = search needs
+
+with-requires : tie.Need-with-requires Inv-loop μ-loop
+with-requires c κs = search needs
+
+loop-less : tie.Need-loop-less Inv-loop μ-loop
+loop-less c = let l = c .before .before .before .before .before .before .before .before .before .before .loop in
+    let p = c .before .before .before .before .before .before .before .before .before .before .before .before .before .before .before .before .before .before .args .sets .now in
+    let x = two-more p (l .i) (l .inv .2) (omega arith) in
+    let y = fits p (l .i) (l .inv .2) (omega arith) in
+    omega arith
+
+loop-again : tie.Need-loop-again Inv-loop μ-loop
+loop-again c = let l = c .before .before .before .before .before .before .before .before .before .before .loop in
+    let p = c .before .before .before .before .before .before .before .before .before .before .before .before .before .before .before .before .before .before .args .sets .now in
+    let x = two-more p (l .i) (l .inv .2) (omega arith) in
+    let y = fits p (l .i) (l .inv .2) (omega arith) in
+    let e : l .i + 2 + getD p (l .i + 1) 0 ≡ l .i + 2 + getD p (l .i + 1) 0 = refl in
+    let j = l .i + 2 + getD p (l .i + 1) 0 in
+    let (a, b, d) = below-out p (l .i) j e (omega arith) (l .inv .2) capacity (l .inv .3) in
+    let m = c .before .before .before in
+    let s = m .before .before in
+    let fit : setWords * getD p (l .i) 0 + setWords ≤ length (l .table) = omega arith in
+    let room = le-leb (setWords * getD p (l .i) 0 + setWords) (length (l .table)) fit in
+    let put : (k : ℕ) → member (c .with .result) k ≡ member (l .entries) k || eqb k (getD p (l .i) 0) = λ k. ap (λ (f : ℕ → Bool). f k) (c .with .ensures) ∙ ap (λ (t : Bool). member (l .entries) k || (eqb k (getD p (l .i) 0) && t)) (le-leb (getD p (l .i) 0) highest (omega arith)) ∙ ap (λ (t : Bool). member (l .entries) k || t) (and-all (eqb k (getD p (l .i) 0))) in
+    let few : (k : ℕ) → member (s .set-of .result) k ≡ has (between (l .i + 2) j p) k = λ k. ap (λ (f : ℕ → Bool). f k) (s .set-of .ensures) ∙ has-small capacity (between (l .i + 2) j p) (omega arith) b k in (
+      omega arith,
+      search needs,
+      sym (framed-next p (l .i) j e (omega arith)) ∙ l .inv .2,
+      d,
+      (λ u v. l .inv .4 u v ∙ set-more p (l .i) j e (omega arith) (l .inv .2) u v (setAt (l .table) u v)
+          ∙ ap (λ (t : Bool). t || setIn (listed (entriesOf (drop j p))) u v)
+          (sym (m .add-set .ensures u v ∙ ap (λ (t : Bool). setAt (l .table) u v || ((eqb u (getD p (l .i) 0) && member (s .set-of .result) v) && t)) room
+          ∙ ap (λ (t : Bool). setAt (l .table) u v || t) (and-all (eqb u (getD p (l .i) 0) && member (s .set-of .result) v)) ∙ ap (λ (t : Bool). setAt (l .table) u v || (eqb u (getD p (l .i) 0) && t)) (few v)))),
+      λ u. l .inv .5 u ∙ entry-more p (l .i) j e (omega arith) (l .inv .2) u (member (l .entries) u)
+          ∙ ap (λ (t : Bool). t || entryIn (listed (entriesOf (drop j p))) u)
+          (sym (put u)),
+    )
+
+same-length : tie.Need-same-length Inv-loop μ-loop
+same-length c = search needs
+
+returns : tie.Need-returns Inv-loop μ-loop
+returns c = let l = c .before .loop in
+    let p = c .before .before .before .before .before .before .before .before .before .args .sets .now in (
+      (λ u v. sym (l .inv .4 u v ∙ set-end p (l .i) u v (setAt (l .table) u v) (omega arith))),
+      λ u. sym (l .inv .5 u ∙ entry-end p (l .i) u (member (l .entries) u) (omega arith)),
+    )
+
+pub load-entries-spec : {M : Type 1} → statement M
+load-entries-spec =
+    tie.close
+    (tie.spec
+    Inv-loop
+    μ-loop
+    clear-table-requires
+    empty-requires
+    loop-holds
+    shared-slice-read-u
+    add-start
+    add-end
+    shared-slice-read-end
+    cast-end
+    add-end-2
+    sub-set-of
+    part-set-of-start
+    part-set-of-end
+    set-of-requires
+    add-set-requires
+    with-requires
+    loop-less
+    loop-again
+    same-length
+    returns)

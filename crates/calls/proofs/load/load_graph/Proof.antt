@@ -1,0 +1,100 @@
+use Prim.Native.Nat.{ℕ, _+_, _-_, _≤_}
+use mathlib.Core.Path.{_≡_, refl, sym, ap, _∙_}
+use mathlib.Core.Bool.{Bool, _&&_, _||_}
+use native.Mathlib.Omega.{arith}
+use lib.Dec.{eqb}
+use lib.ListN.{length, getD, drop}
+use Rattle.nodes.specs.NodeSet.{capacity}
+use Rattle.nodes.specs.SetTable.{setAt}
+use Rattle.nodes.proofs.Logic.{or-none}
+use Rattle.records.specs.JobFile.{joined}
+use Rattle.records.proofs.Records.{below-at}
+use Rattle.calls.proofs.LoadingEdges.{cleared, joined-end, joined-more}
+use borrow.Author.Needs.{needs}
+use Rattle.calls.proofs.load.load_graph.Statement.{statement}
+use Rattle.calls.proofs.load.load_graph.Tie as tie
+
+abbrev Inv-loop : tie.InvT-loop
+Inv-loop edges graph₀ i₀ graph i = (i ≤ length edges) × (length graph ≡ length graph₀) × ((u v : ℕ) → joined edges u v ≡ setAt graph u v || joined (drop i edges) u v)
+
+abbrev μ-loop : tie.MeasureT-loop
+μ-loop edges graph₀ i₀ graph i = length edges - i
+
+clear-table-requires : tie.Need-clear-table-requires Inv-loop μ-loop
+clear-table-requires c κs = search needs
+
+loop-holds : tie.Need-loop-holds Inv-loop μ-loop
+loop-holds c =
+    let t = c .before .before in
+    let a = c .before .before .before .before .before .before .args in
+    (search needs, refl, λ u v. ap (λ (b : Bool). b || joined (a .edges .now) u v) (sym (cleared (t .clear-table .last .0) (length (a .graph .now)) (t .clear-table .ensures) u v)))
+
+add-loop : tie.Need-add-loop Inv-loop μ-loop
+add-loop c = search needs
+
+shared-slice-read-a : tie.Need-shared-slice-read-a Inv-loop μ-loop
+shared-slice-read-a c = search needs
+
+add-b : tie.Need-add-b Inv-loop μ-loop
+add-b c = search needs
+
+shared-slice-read-b : tie.Need-shared-slice-read-b Inv-loop μ-loop
+shared-slice-read-b c = search needs
+
+join-requires : tie.Need-join-requires Inv-loop μ-loop
+join-requires c κs =
+    let s = c .before .before .before .before .before .before .before .before .before .before .before in
+    let l = c .before .before .before .before .loop in
+    (search needs, below-at capacity (s .args .edges .now) (l .i) (s .pre .1) (omega arith), below-at capacity (s .args .edges .now) (l .i + 1) (s .pre .1) (omega arith))
+
+join-requires-2 : tie.Need-join-requires-2 Inv-loop μ-loop
+join-requires-2 c κs =
+    let s = c .before .before .before .before .before .before .before .before .before .before .before .before .before .before .before in
+    let l = c .before .before .before .before .before .before .before .before .loop in
+    (search needs, below-at capacity (s .args .edges .now) (l .i + 1) (s .pre .1) (omega arith), below-at capacity (s .args .edges .now) (l .i) (s .pre .1) (omega arith))
+
+add-i : tie.Need-add-i Inv-loop μ-loop
+add-i c = search needs
+
+loop-less : tie.Need-loop-less Inv-loop μ-loop
+loop-less c = search needs
+
+loop-again : tie.Need-loop-again Inv-loop μ-loop
+loop-again c =
+    let l = c .before .before .before .before .before .before .before .before .before .before .before .loop in
+    let p = c .before .before .before .before .before .before .before .before .before .before .before .before .before .before .before .before .before .before .args .edges .now in (
+      search needs,
+      search needs,
+      λ u v. l .inv .2 u v ∙ joined-more p (l .i) u v (omega arith) (setAt (l .graph) u v)
+          ∙ ap (λ (t : Bool). t || joined (drop (l .i + 2) p) u v)
+          (sym (c .before .before .join2 .ensures u v ∙ ap (λ (t : Bool). t || (eqb u (getD p (l .i + 1) 0) && eqb v (getD p (l .i) 0))) (c .before .before .before .before .before .before .join .ensures u v))),
+    )
+
+same-length : tie.Need-same-length Inv-loop μ-loop
+same-length c = search needs
+
+returns : tie.Need-returns Inv-loop μ-loop
+returns c u v =
+    let l = c .before .loop in
+    let p = c .before .before .before .before .before .before .before .before .args .edges .now in
+    sym (l .inv .2 u v ∙ ap (λ (t : Bool). setAt (l .graph) u v || t) (joined-end p (l .i) u v (omega arith)) ∙ or-none (setAt (l .graph) u v))
+
+pub load-graph-spec : {M : Type 1} → statement M
+load-graph-spec =
+    tie.close
+    (tie.spec
+    Inv-loop
+    μ-loop
+    clear-table-requires
+    loop-holds
+    add-loop
+    shared-slice-read-a
+    add-b
+    shared-slice-read-b
+    join-requires
+    join-requires-2
+    add-i
+    loop-less
+    loop-again
+    same-length
+    returns)

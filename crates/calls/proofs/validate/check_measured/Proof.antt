@@ -1,0 +1,70 @@
+use mathlib.Core.Path.{_≡_, sym, ap, _∙_, fun-ext}
+use mathlib.Core.Option.{some}
+use mathlib.Core.List.{[]}
+use Prim.Native.Nat.{ℕ}
+use lib.ListN.{getD}
+use borrow.Author.Tests.{not-true, not-false}
+use Rattle.nodes.specs.Row.{lowest}
+use Rattle.nodes.specs.NodeSet.{member, wordsOf}
+use Rattle.nodes.proofs.NodeSet.{member-past}
+use Rattle.finder.specs.Finder.{jobIn}
+use Rattle.verdicts.specs.Verdict.{each, measuredAsk}
+use Rattle.calls.specs.Loaded.{flowIn, noNodes, firstIn}
+use Rattle.calls.proofs.Asking.{first-none, first-some}
+use Rattle.calls.proofs.AskingNodes.{measured-first}
+use borrow.Author.Needs.{needs}
+use Rattle.calls.proofs.validate.check_measured.Statement.{statement}
+use Rattle.calls.proofs.validate.check_measured.Tie as tie
+
+bare : (c : tie.After-is-empty) → let a = c .before .before .before .before .before .before .args in
+    each (a .n) (measuredAsk (jobIn (a .n) [] noNodes noNodes (a .measured .now)) (flowIn [] (a .entries) [])) ≡ firstIn (member (c .before .difference .result)) (λ u. record { number = 17; a = u; b = 0 })
+bare c =
+    let a = c .before .before .before .before .before .before .args in
+    let d = c .before in
+    let m = d .before in
+    let s = m .before in
+    measured-first (a .n) (member (a .entries)) (member (d .difference .result)) (λ u. getD (a .measured .now) u 0) (λ k l. member-past (wordsOf (a .entries)) k l)
+    (d .difference .ensures ∙ fun-ext (λ k. rw (m .intersection .ensures, s .nodes-from .ensures, s .before .below .ensures)))
+
+below-requires : tie.Need-below-requires
+below-requires c κs = search needs
+
+nodes-from-requires : tie.Need-nodes-from-requires
+nodes-from-requires c κs = search needs
+
+intersection-requires : tie.Need-intersection-requires
+intersection-requires c κs = search needs
+
+difference-requires : tie.Need-difference-requires
+difference-requires c κs = search needs
+
+is-empty-requires : tie.Need-is-empty-requires
+is-empty-requires c κs = search needs
+
+returns : tie.Need-returns
+returns c = let e = c .before in
+    let a = e .before .before .before .before .before .before .args in
+    first-none (member (e .before .difference .result)) (λ u. record { number = 17; a = u; b = 0 }) (not-true _ (sym (e .is-empty .ensures) ∙ c .if1 .taken))
+    ∙ sym (bare e)
+
+lowest-requires : tie.Need-lowest-requires
+lowest-requires c κs = search needs
+
+returns-2 : tie.Need-returns-2
+returns-2 c = let e = c .before .before in
+    ap (λ (u : ℕ). some (record { number = 17; a = u; b = 0 })) (c .lowest .ensures)
+    ∙ first-some (member (e .before .difference .result)) (λ u. record { number = 17; a = u; b = 0 }) (not-false _ (sym (e .is-empty .ensures) ∙ c .before .if1 .left))
+    ∙ sym (bare e)
+
+pub check-measured-spec : {M : Type 1} → statement M
+check-measured-spec =
+    tie.close
+    (tie.spec
+    below-requires
+    nodes-from-requires
+    intersection-requires
+    difference-requires
+    is-empty-requires
+    returns
+    lowest-requires
+    returns-2)

@@ -1,0 +1,29 @@
+use mathlib.Core.Path.{sym, ap, _∙_}
+use mathlib.Core.Option.{some}
+use Prim.Native.Nat.{ℕ}
+use borrow.Author.Tests.{not-true, not-false}
+use Rattle.nodes.specs.Row.{lowest}
+use Rattle.nodes.specs.NodeSet.{member}
+use Rattle.calls.proofs.Asking.{first-none, first-some}
+use borrow.Author.Needs.{needs}
+use Rattle.calls.proofs.validate.in_order.Statement.{statement}
+use Rattle.calls.proofs.validate.in_order.Tie as tie
+
+is-empty-requires : tie.Need-is-empty-requires
+is-empty-requires c κs = search needs
+
+returns : tie.Need-returns
+returns c = let a = c .before .before .args in
+    first-none (member (a .early)) (λ k. record { number = 18; a = a .i; b = k }) (not-true _ (sym (c .before .is-empty .ensures) ∙ c .if1 .taken))
+
+lowest-requires : tie.Need-lowest-requires
+lowest-requires c κs = search needs
+
+returns-2 : tie.Need-returns-2
+returns-2 c = let b = c .before .before in
+    let a = b .before .args in
+    ap (λ (k : ℕ). some (record { number = 18; a = a .i; b = k })) (c .lowest .ensures)
+    ∙ first-some (member (a .early)) (λ k. record { number = 18; a = a .i; b = k }) (not-false _ (sym (b .is-empty .ensures) ∙ c .before .if1 .left))
+
+pub in-order-spec : {M : Type 1} → statement M
+in-order-spec = tie.close (tie.spec is-empty-requires returns lowest-requires returns-2)

@@ -1,0 +1,71 @@
+use mathlib.Core.Path.{_≡_, ap, ap₂, _∙_, fun-ext}
+use mathlib.Core.Bool.{Bool, _&&_, _||_}
+use Prim.Native.Nat.{ℕ, _-_, _≤_}
+use native.Mathlib.Omega.{arith}
+use lib.Dec.{eqb, leb}
+use lib.ListN.{getD}
+use Rattle.nodes.specs.NodeSet.{member, highest}
+use Rattle.calls.specs.Loaded.{within}
+use Rattle.calls.proofs.AskingNodes.{from-none, from-more}
+use borrow.Author.Needs.{needs}
+use Rattle.calls.proofs.validate.nodes_from.Statement.{statement}
+use Rattle.calls.proofs.validate.nodes_from.Tie as tie
+
+abbrev Inv-loop : tie.InvT-loop
+Inv-loop n bytes low s₀ v₀ s v = (v ≤ n) × ((u : ℕ) → member s u ≡ within v u && leb low (getD bytes u 0))
+
+abbrev μ-loop : tie.MeasureT-loop
+μ-loop n bytes low s₀ v₀ s v = n - v
+
+empty-requires : tie.Need-empty-requires Inv-loop μ-loop
+empty-requires c κs = search needs
+
+loop-holds : tie.Need-loop-holds Inv-loop μ-loop
+loop-holds c = let a = c .before .before .args in (search needs, λ u. ap (λ (f : ℕ → Bool). f u) (c .empty .ensures) ∙ from-none (λ k. getD (a .bytes .now) k 0) (a .low) u)
+
+cast-loop : tie.Need-cast-loop Inv-loop μ-loop
+cast-loop c = search needs
+
+byte-at-requires : tie.Need-byte-at-requires Inv-loop μ-loop
+byte-at-requires c κs = search needs
+
+with-if-requires : tie.Need-with-if-requires Inv-loop μ-loop
+with-if-requires c κs = search needs
+
+add-v : tie.Need-add-v Inv-loop μ-loop
+add-v c = search needs
+
+loop-less : tie.Need-loop-less Inv-loop μ-loop
+loop-less c = search needs
+
+loop-again : tie.Need-loop-again Inv-loop μ-loop
+loop-again c = let b = c .before .byte-at in
+    let l = c .before .before .before .loop in
+    let a = c .before .before .before .before .before .before .args in (
+      search needs,
+      λ u. ap (λ (f : ℕ → Bool). f u) (c .with-if .ensures)
+          ∙ ap₂ (λ (x : Bool) (y : ℕ). x || (leb (a .low) y && (eqb u (l .v) && leb (l .v) highest))) (l .inv .1 u) (b .ensures)
+          ∙ from-more (λ k. getD (a .bytes .now) k 0) (a .low) (l .v) u,
+    )
+
+returns : tie.Need-returns Inv-loop μ-loop
+returns c = let l = c .before .loop in
+    let a = c .before .before .before .before .args in
+    let e : l .v ≡ a .n = omega arith in
+    fun-ext (λ u. l .inv .1 u ∙ ap (λ (k : ℕ). within k u && leb (a .low) (getD (a .bytes .now) u 0)) e)
+
+pub nodes-from-spec : {M : Type 1} → statement M
+nodes-from-spec =
+    tie.close
+    (tie.spec
+    Inv-loop
+    μ-loop
+    empty-requires
+    loop-holds
+    cast-loop
+    byte-at-requires
+    with-if-requires
+    add-v
+    loop-less
+    loop-again
+    returns)

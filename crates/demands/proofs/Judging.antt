@@ -1,0 +1,178 @@
+-- A job followed by a flow: what the verifier asks of the two together, and what reading tells of them.
+use Prim.Native.Nat.{ℕ, zero, suc, _+_, _≤_, _<_}
+use mathlib.Core.Path.{_≡_, refl, sym, _∙_, subst}
+use mathlib.Core.Bool.{Bool, true, false, not, _&&_, _||_}
+use mathlib.Core.Option.{Option, none, some}
+use mathlib.Core.List.{List, [], _∷_, _++_}
+use mathlib.Core.Logic.{_⊎_, inl, inr, _↔_}
+use native.Mathlib.Omega.{arith}
+use native.Mathlib.Nat.{not-suc-le-zero, le-of-suc-le-suc}
+use lib.Dec.{T, eqb, leb, eqb→eq, eqb-refl, leb→le}
+use lib.ListN.{length, getD}
+use Rattle.nodes.specs.Lists.{has}
+use Rattle.nodes.proofs.Logic.{is-true, is-false, from-true, or-l, or-r, or-all, eqb-comm}
+use Rattle.flows.specs.Job.{planeXZ}
+use Rattle.answers.specs.Answer.{Refusal, Answer, gives, refuses, _>>_}
+use Rattle.records.specs.JobFile.{JobFile, rises, readJob, jobOf, modeCausal, modePlanes, modePauli}
+use Rattle.records.specs.FlowFile.{SetEntry, FlowFile, allEntries, entriesRise, readFlow, flowOf, nothingLeft, oneMember, entryIn, setIn}
+use Rattle.records.specs.Encoding.{ValidJob, ValidFlow}
+use Rattle.verdicts.specs.Verdict.{verify}
+use Rattle.demands.specs.Calls.{verdict, verifyAsks}
+use Rattle.verdicts.specs.Published.{Measured, NoInputs, PublishedFlow, byLayer, LayerRule, Domain, CausalAccepted, AcceptedFlow}
+use Rattle.answers.proofs.Answer.{never, bind-out}
+use Rattle.records.proofs.Records.{and-out}
+use Rattle.records.proofs.JobFile.{job-asked, job-append, measured-range, output-zero, measured-most, measured-plane}
+use Rattle.records.proofs.FlowFile.{flow-asked, set-entry, place-entry, set-at, nodes-below, members-below, nothing-left, one-member-asked, one-member-other, one-member}
+use Rattle.verdicts.proofs.Published.{one-to-three, Readable, planes-accepts, accepts-planes, paulis-accepts, accepts-paulis, causal-accepts, accepts-causal, published-conditions, conditions-published}
+
+verdict-out : (o : Option Refusal) (b : Bool) → verdict o ≡ gives b → o ≡ none
+verdict-out none b e = refl
+verdict-out (some r) b e = absurd (never e)
+
+then-out : {A B : Type 0} (m : Answer A) (k : Answer B) (b : B) → (m >> k) ≡ gives b → (a : A) × (m ≡ gives a) × (k ≡ gives b)
+then-out (gives a) k b e = (a, refl, e)
+then-out (refuses r) k b e = absurd (never e)
+
+-- all that the verifier asks of a file that reads as job and flow
+pub record Judged (f : JobFile) (flow : List ℕ) (g : FlowFile) : Type 0 where
+  pub reads : readFlow (f .n) flow ≡ gives g
+  pub nothing : g .after ≡ []
+  pub single : (b : Bool) × (oneMember (f .mode) (g .sets) ≡ gives b)
+  pub accepted : verify (jobOf f) (flowOf g) (f .mode) ≡ none
+
+module _ (file : List ℕ) (f : JobFile) (reads-job : readJob file ≡ gives f) (ends : f .after ≡ []) (flow : List ℕ) where
+  whole : readJob (file ++ flow) ≡ gives (record { n = f .n; mode = f .mode; edges = f .edges; inputs = f .inputs; outputs = f .outputs; measurements = f .measurements; after = flow })
+  whole = job-append file flow f reads-job ∙ rw ends
+
+  pub judged-out : (b : Bool) → verifyAsks (file ++ flow) ≡ gives b → (g : FlowFile) × Judged f flow g
+  unfolding verifyAsks
+  judged-out b e =
+      let (g, p, q) = bind-out (readFlow (f .n) flow) (λ g. nothingLeft (g .after) >> (oneMember (f .mode) (g .sets) >> verdict (verify (jobOf f) (flowOf g) (f .mode)))) b (rw whole at e) in
+      let (x, r, s) = then-out (nothingLeft (g .after)) (oneMember (f .mode) (g .sets) >> verdict (verify (jobOf f) (flowOf g) (f .mode))) b q in
+      let (y, t, u) = then-out (oneMember (f .mode) (g .sets)) (verdict (verify (jobOf f) (flowOf g) (f .mode))) b s in
+      (g, record { reads = p; nothing = nothing-left (g .after) x r; single = (y, t); accepted = verdict-out (verify (jobOf f) (flowOf g) (f .mode)) b u })
+
+  pub judged-in : (g : FlowFile) → Judged f flow g → verifyAsks (file ++ flow) ≡ gives true
+  unfolding verifyAsks
+  judged-in g h = rw (whole, h .reads, h .nothing, h .single .1, h .accepted)
+
+-- ---- what reading tells
+module _ (f : JobFile) (v : ValidJob f) where
+  not-output : (u : ℕ) → (T (jobOf f .output u) → ⊥) → jobOf f .output u ≡ false
+  not-output u o = is-false (jobOf f .output u) o
+
+  pub readable : (g : FlowFile) → ValidFlow (f .n) g → Readable (jobOf f) (flowOf g)
+  readable g w = record {
+    unmeasured = λ u l o. output-zero f v u l (is-true (jobOf f .output u) o);
+    measured = λ u s. (measured-range f v u (s .0) (not-output u (s .1)) .0, below (jobOf f .measured u) (measured-most f v u));
+    entries = λ u k t. set-entry (g .sets) u k t;
+    nodes = λ u k t. members-below (f .n) (g .sets) u k (w .below) t;
+  }
+    where
+      below : (m : ℕ) → m ≤ 6 → m < 7
+      below m l = omega arith
+
+  pub planes : f .mode ≡ modePlanes → (u : ℕ) → Measured (jobOf f) u → jobOf f .measured u ≤ planeXZ
+  planes e u s = measured-plane f v e u (s .0) (not-output u (s .1)) .1
+
+-- ---- question 9 follows from the conditions of causal flow
+-- an ascending list of k alone has one element
+only-one : (k : ℕ) (l : List ℕ) → rises 0 l ≡ true → ((m : ℕ) → T (has l m) → m ≡ k) → T (has l k) → length l ≡ 1
+unfolding has rises
+only-one k [] r h t = absurd t
+only-one k (x ∷ []) r h t = refl
+only-one k (x ∷ y ∷ l) r h t =
+    absurd
+    (apart (h x (or-l (eqb x x) (eqb y x || has l x) (eqb-refl x))) (h y (or-r (eqb x y) (eqb y y || has l y) (or-l (eqb y y) (has l y) (eqb-refl y))))
+    (leb→le (x + 1) y (from-true (leb (x + 1) y) (and-out (leb (x + 1) y) (rises (y + 1) l) (and-out (leb 0 x) (rises (x + 1) (y ∷ l)) r .1) .0))))
+  where
+    apart : x ≡ k → y ≡ k → x + 1 ≤ y → ⊥
+    apart p q l = omega arith
+
+set-rises : (low : ℕ) (es : List SetEntry) (d : SetEntry) (i : ℕ) → entriesRise low es ≡ true → i < length es → rises 0 (getD es i d .set) ≡ true
+unfolding entriesRise
+set-rises low [] d i a h = absurd (not-suc-le-zero h)
+set-rises low (e ∷ es) d zero a h = and-out (leb low (e .node)) (rises 0 (e .set)) (and-out (leb low (e .node) && rises 0 (e .set)) (entriesRise (e .node + 1) es) a .0) .1
+set-rises low (e ∷ es) d (suc i) a h = set-rises (e .node + 1) es d i (and-out (leb low (e .node) && rises 0 (e .set)) (entriesRise (e .node + 1) es) a .1) (le-of-suc-le-suc h)
+
+entries-all : (p : SetEntry → Bool) (es : List SetEntry) (d : SetEntry) → ((i : ℕ) → i < length es → p (getD es i d) ≡ true) → allEntries p es ≡ true
+unfolding allEntries
+entries-all p [] d h = refl
+entries-all p (e ∷ es) d h = rw (h 0 (omega arith), entries-all p es d (λ i l. h (suc i) (omega arith)))
+
+module _ (f : JobFile) (g : FlowFile) (w : ValidFlow (f .n) g) where
+  causal-members : CausalAccepted (jobOf f) (flowOf g) → allEntries (λ e. eqb (length (e .set)) 1) (g .sets) ≡ true
+  causal-members c = entries-all (λ e. eqb (length (e .set)) 1) (g .sets) d one
+    where
+      d : SetEntry
+      d = record { node = 0; set = [] }
+
+      one : (i : ℕ) → i < length (g .sets) → eqb (length (getD (g .sets) i d .set)) 1 ≡ true
+      one i l =
+          let t = place-entry (g .sets) d i l in
+          let u = getD (g .sets) i d .node in
+          let below = nodes-below (f .n) (g .sets) u (w .below) t in
+          let measured : Measured (jobOf f) u = (below, c .domain u below .0 t) in
+          let (s, flow, same) = c .flow in
+          let here : (k : ℕ) → k < f .n → has (getD (g .sets) i d .set) k ≡ eqb k (s u) = λ k m. sym (set-at 0 (g .sets) d i k (w .rise) l) ∙ same u k measured m in
+          rw
+          (only-one (s u) (getD (g .sets) i d .set) (set-rises 0 (g .sets) d i (w .rise) l)
+          (λ k q. let m = members-below (f .n) (g .sets) u k (w .below) (rw (set-at 0 (g .sets) d i k (w .rise) l) q) in eqb→eq k (s u) (rw (here k m) at q))
+          (rw (here (s u) (flow .node u measured)) (eqb-refl (s u))))
+
+  one-passed : AcceptedFlow (f .mode) (jobOf f) (flowOf g) → oneMember (f .mode) (g .sets) ≡ gives true
+  one-passed (inl (q, c)) = rw (causal-members c, or-all (not (eqb (f .mode) modeCausal)))
+  one-passed (inr (inl (q, c))) = one-member-other (f .mode) (g .sets) (λ e. omega (arith, q, e))
+  one-passed (inr (inr (q, c))) = one-member-other (f .mode) (g .sets) (λ e. omega (arith, q, e))
+
+-- ---- each verifier against its published conditions, over all bytes that pass reading
+module _ (f : JobFile) (v : ValidJob f) (g : FlowFile) (w : ValidFlow (f .n) g) (single : (b : Bool) × (oneMember (f .mode) (g .sets) ≡ gives b)) where
+  one-each : f .mode ≡ modeCausal → (u : ℕ) → T (entryIn (g .sets) u) → (k : ℕ) × (k < f .n) × ((m : ℕ) → setIn (g .sets) u m ≡ eqb m k)
+  one-each e u t =
+      let (k, h) = one-member 0 (g .sets) u (w .rise) (one-member-asked (g .sets) (single .0) (subst (λ (m : ℕ). oneMember m (g .sets) ≡ gives (single .0)) e (single .1))) t in
+      (k, members-below (f .n) (g .sets) u k (w .below) (subst T (sym (h k ∙ same k)) tt), λ m. h m ∙ eqb-comm k m)
+    where
+      same : (k : ℕ) → eqb k k ≡ true
+      same k = is-true (eqb k k) (eqb-refl k)
+
+  mode-cases : (f .mode ≡ modeCausal) ⊎ ((f .mode ≡ modePlanes) ⊎ (f .mode ≡ modePauli))
+  mode-cases = one-to-three (f .mode) (v .modeFrom) (v .modeTo)
+
+  pub verify-published : verify (jobOf f) (flowOf g) (f .mode) ≡ none → AcceptedFlow (f .mode) (jobOf f) (flowOf g)
+  verify-published e = go mode-cases
+    where
+      go : (f .mode ≡ modeCausal) ⊎ ((f .mode ≡ modePlanes) ⊎ (f .mode ≡ modePauli)) → AcceptedFlow (f .mode) (jobOf f) (flowOf g)
+      go (inl q) = inl (q, causal-accepts (jobOf f) (flowOf g) (readable f v g w) (one-each q) (subst (λ (m : ℕ). verify (jobOf f) (flowOf g) m ≡ none) q e))
+      go (inr (inl q)) = inr (inl (q, planes-accepts (jobOf f) (flowOf g) (readable f v g w) (planes f v q) (subst (λ (m : ℕ). verify (jobOf f) (flowOf g) m ≡ none) q e)))
+      go (inr (inr q)) = inr (inr (q, paulis-accepts (jobOf f) (flowOf g) (readable f v g w) (subst (λ (m : ℕ). verify (jobOf f) (flowOf g) m ≡ none) q e)))
+
+  pub published-verify : AcceptedFlow (f .mode) (jobOf f) (flowOf g) → verify (jobOf f) (flowOf g) (f .mode) ≡ none
+  published-verify (inl (q, c)) = subst (λ (m : ℕ). verify (jobOf f) (flowOf g) m ≡ none) (sym q) (accepts-causal (jobOf f) (flowOf g) (readable f v g w) (one-each q) c)
+  published-verify (inr (inl (q, c))) = subst (λ (m : ℕ). verify (jobOf f) (flowOf g) m ≡ none) (sym q) (accepts-planes (jobOf f) (flowOf g) (readable f v g w) (planes f v q) c)
+  published-verify (inr (inr (q, c))) = subst (λ (m : ℕ). verify (jobOf f) (flowOf g) m ≡ none) (sym q) (accepts-paulis (jobOf f) (flowOf g) (readable f v g w) c)
+
+-- no question is answered no exactly where the mode's published conditions hold with the listed differences
+module _ (s : List ℕ) (f : JobFile) (g : FlowFile) (reads-job : readJob s ≡ gives f) (reads-flow : readFlow (f .n) (f .after) ≡ gives g) (ends : g .after ≡ []) where
+  valid : ValidJob f
+  valid = job-asked s f reads-job
+
+  valid-flow : ValidFlow (f .n) g
+  valid-flow = flow-asked (f .n) (f .after) g reads-flow
+
+  pub verifier-published : verifyAsks s ≡ gives true ↔ AcceptedFlow (f .mode) (jobOf f) (flowOf g)
+  unfolding verifyAsks
+  verifier-published = (
+    (λ e. let (b, t, a) = then-out (oneMember (f .mode) (g .sets)) (verdict (verify (jobOf f) (flowOf g) (f .mode))) true (rw (reads-job, reads-flow, ends) at e) in
+        verify-published f valid g valid-flow (b, t) (verdict-out (verify (jobOf f) (flowOf g) (f .mode)) true a)),
+    λ c. let t = one-passed f g valid-flow c in rw (reads-job, reads-flow, ends, t, published-verify f valid g valid-flow (true, t) c),
+  )
+
+  -- a flow by its paper, by an order that the layers give, is accepted where the layers are as the listed differences say
+  pub published-accepted : Domain (jobOf f) (flowOf g .entry) → LayerRule (f .mode) (jobOf f) (flowOf g .layer) → PublishedFlow (f .mode) (jobOf f) (byLayer (flowOf g .layer)) (flowOf g .set)
+      → verifyAsks s ≡ gives true
+  published-accepted d r p = verifier-published .1 (published-conditions (f .mode) (jobOf f) (flowOf g) d r p)
+
+  -- and an accepted flow that has no input in its own set is a flow by its paper: no other difference is left
+  pub accepted-published : verifyAsks s ≡ gives true → NoInputs (jobOf f) (flowOf g .set)
+      → Domain (jobOf f) (flowOf g .entry) × LayerRule (f .mode) (jobOf f) (flowOf g .layer) × PublishedFlow (f .mode) (jobOf f) (byLayer (flowOf g .layer)) (flowOf g .set)
+  accepted-published e i = conditions-published (f .mode) (jobOf f) (flowOf g) i (verifier-published .0 e)

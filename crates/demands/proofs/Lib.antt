@@ -1,0 +1,5 @@
+pub mod Judging
+pub mod Refusals
+pub mod Demand
+pub mod Solutions
+pub mod Cases

@@ -1,0 +1,79 @@
+-- The calls of finder and verifier, for every argument: the answer and what each lent buffer then holds.
+use Prim.Native.Nat.{ℕ, _+_}
+use mathlib.Core.Bool.{Bool, true, cond, _||_}
+use mathlib.Core.Option.{Option, none, some}
+use mathlib.Core.List.{List, [], _++_}
+use lib.Dec.{eqb, leb}
+use lib.ListN.{length, drop}
+use Rattle.nodes.specs.Lists.{zeros}
+use Rattle.solver.specs.Solver.{workBytes}
+use Rattle.flows.specs.Job.{Job}
+use Rattle.flows.specs.Search.{Progress}
+use Rattle.flows.specs.Planes as Planes
+use Rattle.flows.specs.Paulis as Paulis
+use Rattle.answers.specs.Answer.{Refusal, Answer, gives, refuses, refusal, asks, _>>=_, _>>_}
+use Rattle.records.specs.Records.{written, kindAccepted}
+use Rattle.records.specs.Writing.{flowBytes}
+use Rattle.records.specs.JobFile.{JobFile, readJob, jobOf, measuredOf, modePlanes, modePauli}
+use Rattle.records.specs.FlowFile.{readFlow, flowOf, nothingLeft, oneMember}
+use Rattle.verdicts.specs.Verdict.{verify}
+
+-- ---- what the finder writes
+-- mode 2 searches by planes, mode 3 by Paulis
+abbrev pub search : ℕ → Job → Option Progress
+search mode j = cond (eqb mode modePlanes) (Planes.find j) (Paulis.find j)
+
+abbrev pub foundBytes : JobFile → List ℕ
+foundBytes f = flowBytes (jobOf f) (search (measuredOf f .mode) (jobOf f))
+
+-- the finder's questions before its search: is nothing left (8), is the mode 2 or 3 (10), is the work buffer right (11)
+unfoldable pub findAsks : List ℕ → List ℕ → Answer JobFile
+findAsks file work = do
+  f ← readJob file
+  nothingLeft (f .after)
+  asks 10 (eqb (f .mode) modePlanes || eqb (f .mode) modePauli)
+  asks 11 (eqb (length work) workBytes)
+  gives f
+
+-- the verifier's questions, the writer's aside
+abbrev pub verdict : Option Refusal → Answer Bool
+verdict none = gives true
+verdict (some r) = refuses r
+
+unfoldable pub verifyAsks : List ℕ → Answer Bool
+verifyAsks file = do
+  f ← readJob file
+  g ← readFlow (f .n) (f .after)
+  nothingLeft (g .after)
+  oneMember (f .mode) (g .sets)
+  verdict (verify (jobOf f) (flowOf g) (measuredOf f .mode))
+
+-- ---- the lent buffers
+-- the answer is the number of bytes written
+pub record Outcome : Type 0 where
+  pub answer : Answer ℕ
+  pub work : List ℕ
+  pub out : List ℕ
+
+-- does the result fit the lent buffer (20)? Bytes after it stay as they were.
+unfoldable pub put : (work result out : List ℕ) → Outcome
+put work result out =
+    cond (leb (length result) (length out))
+    (record { answer = gives (length result); work = work; out = result ++ drop (length result) out })
+    (record { answer = refuses (refusal 20); work = work; out = out })
+
+-- a refusal touches nothing, but 20 leaves the work buffer zero; so does an answer
+abbrev pub findOutcome : Answer JobFile → (work out : List ℕ) → Outcome
+findOutcome (refuses r) work out = record { answer = refuses r; work = work; out = out }
+findOutcome (gives f) work out = put (zeros (length work)) (foundBytes f) out
+
+unfoldable pub findCall : (file work out : List ℕ) → Outcome
+findCall file work out = findOutcome (findAsks file work) work out
+
+-- the verifier has no work buffer
+abbrev pub verifyOutcome : Answer Bool → List ℕ → Outcome
+verifyOutcome (refuses r) out = record { answer = refuses r; work = []; out = out }
+verifyOutcome (gives b) out = put [] (written kindAccepted []) out
+
+unfoldable pub verifyCall : (file out : List ℕ) → Outcome
+verifyCall file out = verifyOutcome (verifyAsks file) out

@@ -1,0 +1,5 @@
+pub mod Calls
+pub mod Cases
+pub mod Demand
+pub mod Programs
+pub mod Solutions
