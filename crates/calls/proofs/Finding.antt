@@ -27,7 +27,7 @@ use Rattle.finder.proofs.Below.{progress-below}
 use Rattle.answers.specs.Answer.{Refusal, Answer, gives, refuses, refusal}
 use Rattle.answers.proofs.Answer.{give-inj, never}
 use Rattle.records.specs.Records.{written, kindNoFlow}
-use Rattle.nodes.specs.Lists.{has}
+use Rattle.nodes.specs.Lists.{has, zeros}
 use Rattle.records.specs.JobFile.{JobFile, joined, readJob, modePlanes, modePauli, measuredOf, jobOf}
 use Rattle.records.specs.Encoding.{ValidJob}
 use Rattle.records.specs.Writing.{flowBytes}
@@ -35,7 +35,6 @@ use Rattle.records.specs.Splice.{putFirst, putCount}
 use Rattle.records.proofs.JobFile.{job-asked, measured-plane}
 use Rattle.records.proofs.ReadingRecords.{has-small}
 use Rattle.calls.proofs.Found.{found-written}
-use Rattle.nodes.specs.SetTable.{zeros}
 use Rattle.solver.specs.Solver.{workBytes}
 use Rattle.demands.specs.Calls.{foundBytes, Outcome, put, findAsks, findCall}
 use Rattle.calls.specs.Replies.{putReply, recordsFor}

@@ -1,13 +1,12 @@
 -- The line that tells a refusal to a person, from its number, a and b alone.
-use Prim.Native.Nat.{ℕ, _+_, _/_, _%_}
+use Prim.Native.Nat.{ℕ, zero, suc, _+_, _/_, _%_}
 use Prim.Native.Char.{code}
 use Prim.Native.String.{String, [] as none, _∷_ as _then_}
 use mathlib.Core.Bool.{Bool, cond}
 use mathlib.Core.List.{List, [], _∷_, _++_}
 use lib.Dec.{eqb, ltb, leb}
 use lib.ListN.{length, drop}
-use Rattle.messages.specs.declared.Piece.{Piece}
-use Rattle.messages.specs.declared.Piece.the-variants.{One, Two, Three}
+use Rattle.answers.specs.Answer.{Refusal}
 
 -- Document 01's questions, each as a 'no' to it is told: A stands for a, B for b. Number, a and b are all that is known, so the words of 14, 18 and
 -- 19 name both causes.
@@ -50,24 +49,25 @@ codes (c then s) = code c ∷ codes s
 abbrev pub digit : ℕ → ℕ
 digit d = code "0" + d
 
--- a byte in decimal, without zeros in front
-unfoldable pub inDecimal : ℕ → List ℕ
-inDecimal n =
-    cond (ltb n 10) (digit n ∷ [])
-    (cond (ltb n 100) (digit (n / 10) ∷ digit (n % 10) ∷ [])
-    (digit (n / 100) ∷ digit (n / 10 % 10) ∷ digit (n % 10) ∷ []))
+-- a number in decimal, without zeros in front; k is more than its digits
+unfoldable pub decimalIn : (k n : ℕ) → List ℕ
+decimalIn zero n = []
+decimalIn (suc k) n = let before = decimalIn k (n / 10) in cond (ltb n 10) (digit n ∷ []) (before ++ digit (n % 10) ∷ [])
 
--- a letter of a template: N, A and B stand for the numbers, any other for itself
-unfoldable pub spelled : (number a b : ℕ) → ℕ → List ℕ
-spelled number a b c =
-    cond (eqb c (code "N")) (inDecimal number)
-    (cond (eqb c (code "A")) (inDecimal a)
-    (cond (eqb c (code "B")) (inDecimal b)
+unfoldable pub inDecimal : ℕ → List ℕ
+inDecimal n = decimalIn (suc n) n
+
+-- a letter of a template: N, A and B stand for number, a and b, any other for itself
+unfoldable pub spelled : Refusal → ℕ → List ℕ
+spelled r c =
+    cond (eqb c (code "N")) (inDecimal (r .number))
+    (cond (eqb c (code "A")) (inDecimal (r .a))
+    (cond (eqb c (code "B")) (inDecimal (r .b))
     (c ∷ [])))
 
-unfoldable pub filled : (number a b : ℕ) → List ℕ → List ℕ
-filled number a b [] = []
-filled number a b (c ∷ cs) = spelled number a b c ++ filled number a b cs
+unfoldable pub filled : Refusal → List ℕ → List ℕ
+filled r [] = []
+filled r (c ∷ cs) = spelled r c ++ filled r cs
 
 -- what every line begins with
 abbrev pub beginning : String
@@ -77,16 +77,20 @@ beginning = "refused N: "
 abbrev pub template : (words : List ℕ) → List ℕ
 template words = codes beginning ++ (words ++ code "\n" ∷ [])
 
-abbrev pub line : (number a b : ℕ) → List ℕ
-line number a b = filled number a b (template (codes (wordsIn questions number)))
+abbrev pub line : Refusal → List ℕ
+line r = filled r (template (codes (wordsIn questions (r .number))))
 
 -- a buffer of so many bytes has room for every line
 abbrev pub lineRoom : ℕ
-lineRoom = 81
+lineRoom = 83
 
--- has it room for a line of these words, with numbers of three digits?
+-- the longest numbers: a byte each, and b two
+abbrev pub longest : Refusal
+longest = record { number = 255; a = 255; b = 65535 }
+
+-- has it room for a line of these words?
 abbrev pub roomFor : (words : List ℕ) → Bool
-roomFor words = leb (length (filled 255 255 255 (template words))) lineRoom
+roomFor words = leb (length (filled longest (template words))) lineRoom
 
 -- a buffer after writing, and how many bytes were written
 pub record Written : Type 0 where
@@ -99,9 +103,3 @@ putWhole bytes out =
     cond (leb (length bytes) (length out))
     (record { count = length bytes; out = bytes ++ drop (length bytes) out })
     (record { count = 0; out = out })
-
--- the bytes of a piece of the code
-abbrev pub bytesOf : Piece → List ℕ
-bytesOf (One x) = x ∷ []
-bytesOf (Two x y) = x ∷ y ∷ []
-bytesOf (Three x y z) = x ∷ y ∷ z ∷ []
