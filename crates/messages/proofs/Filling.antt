@@ -1,6 +1,6 @@
 -- A template filled letter by letter, and written piece by piece.
 use Prim.Native.Nat.{ℕ, suc, _+_, _/_, _%_, _≤_, _<_}
-use mathlib.Core.Path.{_≡_, refl, sym, ap, ap₂, _∙_}
+use mathlib.Core.Path.{_≡_, refl, sym, ap, ap₂, _∙_, subst}
 use mathlib.Core.Bool.{Bool, true, false, cond}
 use mathlib.Core.List.{List, [], _∷_, _++_, append-assoc}
 use native.Mathlib.Nat.{zero-add}
@@ -11,20 +11,12 @@ use lib.Seq.{sets, drop-cons, sets-eq, take-append-seam}
 use borrow.Author.Tests.{le-leb, lt-leb, leb-true, ne-eqb}
 use Prim.Native.Char.{code}
 use Prim.Native.String.{String}
-use Rattle.messages.specs.Message.{questions, wordsIn, unknown, codes, digit, inDecimal, spelled, filled, template, beginning, line, lineRoom, roomFor, Written, putWhole}
+use Rattle.answers.specs.Answer.{Refusal}
+use Rattle.messages.specs.Message.{decimalIn, inDecimal, spelled, filled, longest, Written, putWhole}
+use Rattle.messages.proofs.Sets.{sets-append}
+use Rattle.messages.proofs.Decimal.{decimal-most}
 
--- ---- one thing written after the other
-pub sets-append : (l xs ys : List ℕ) (at : ℕ) → sets l at (xs ++ ys) ≡ sets (sets l at xs) (at + length xs) ys
-sets-append l [] ys at = ap (λ (k : ℕ). sets l k ys) (none at)
-  where
-    none : (at : ℕ) → at ≡ at + 0
-    none at = omega arith
-sets-append l (x ∷ xs) ys at =
-    sets-append (set l at x) xs ys (suc at) ∙ ap (λ (k : ℕ). sets (sets (set l at x) (suc at) xs) k ys) (move at (length xs))
-  where
-    move : (at n : ℕ) → suc at + n ≡ at + suc n
-    move at n = omega arith
-
+-- ---- bytes at the front
 -- bytes written at the front, from place i on
 pub front-step : (bytes out : List ℕ) (i : ℕ) → i < length bytes → sets (set out i (getD bytes i 0)) (i + 1) (drop (i + 1) bytes) ≡ sets out i (drop i bytes)
 front-step bytes out i h =
@@ -49,93 +41,104 @@ front-done bytes before out i e h p =
     (sym (ap (sets out i) (drop-of-length-le bytes {i = i} (omega arith))) ∙ p ∙ front-put bytes before h)
     ∙ sym (rw (le-leb (length bytes) (length before) h) refl)
 
--- ---- lengths: numbers of three digits are the longest
+-- what was written, by another name
+pub put-as : (x y : List ℕ) (at k : ℕ) (out next : List ℕ) → x ≡ y → (next ≡ sets out at x) × (k ≡ at + length x) → (next ≡ sets out at y) × (k ≡ at + length y)
+put-as x y at k out next e h = subst (λ (z : List ℕ). (next ≡ sets out at z) × (k ≡ at + length z)) e h
+
+-- ---- lengths
 either : (t : Bool) (x y u w : List ℕ) → length x ≤ length u → length y ≤ length w → length (cond t x y) ≤ length (cond t u w)
 either true x y u w p q = p
 either false x y u w p q = q
 
-decimal-most : (n : ℕ) → length (inDecimal n) ≤ length (inDecimal 255)
-unfolding inDecimal
-decimal-most n = of (ltb n 10) (ltb n 100)
-  where
-    of : (s t : Bool) → length (cond s (digit n ∷ []) (cond t (digit (n / 10) ∷ digit (n % 10) ∷ []) (digit (n / 100) ∷ digit (n / 10 % 10) ∷ digit (n % 10) ∷ []))) ≤ 3
-    of true t = omega arith
-    of false true = omega arith
-    of false false = omega arith
+-- what the code's refusals have room for
+abbrev pub Small : Refusal → Type 0
+Small r = (r .number < 256) × (r .a < 256) × (r .b < 65536)
 
-module _ (number a b : ℕ) where
-  spelled-most : (c : ℕ) → length (spelled number a b c) ≤ length (spelled 255 255 255 c)
-  unfolding spelled
+module _ (r : Refusal) (small : Small r) where
+  spelled-most : (c : ℕ) → length (spelled r c) ≤ length (spelled longest c)
+  unfolding spelled decimalIn inDecimal
   spelled-most c =
-      either (eqb c (code "N")) _ _ _ _ (decimal-most number)
-      (either (eqb c (code "A")) _ _ _ _ (decimal-most a)
-      (either (eqb c (code "B")) _ _ _ _ (decimal-most b) (omega arith)))
+      either (eqb c (code "N")) _ _ _ _ (decimal-most 2 (r .number) (omega (arith, small .0)))
+      (either (eqb c (code "A")) _ _ _ _ (decimal-most 2 (r .a) (omega (arith, small .1)))
+      (either (eqb c (code "B")) _ _ _ _ (decimal-most 4 (r .b) (omega (arith, small .2))) (omega arith)))
 
-  pub filled-most : (t : List ℕ) → length (filled number a b t) ≤ length (filled 255 255 255 t)
+  pub filled-most : (t : List ℕ) → length (filled r t) ≤ length (filled longest t)
   unfolding filled
   filled-most [] = omega arith
-  filled-most (c ∷ t) =
-      omega
-      (arith, length-append (spelled number a b c) (filled number a b t), length-append (spelled 255 255 255 c) (filled 255 255 255 t), spelled-most c, filled-most t)
+  filled-most (c ∷ t) = omega (arith, length-append (spelled r c) (filled r t), length-append (spelled longest c) (filled longest t), spelled-most c, filled-most t)
+
+module _ (r : Refusal) where
+  -- ---- one letter
+  pub spelled-number : (c : ℕ) → c ≡ code "N" → inDecimal (r .number) ≡ spelled r c
+  unfolding spelled
+  spelled-number c e = rw e refl
+
+  pub spelled-a : (c : ℕ) → c ≡ code "A" → inDecimal (r .a) ≡ spelled r c
+  unfolding spelled
+  spelled-a c e = rw e refl
+
+  pub spelled-b : (c : ℕ) → c ≡ code "B" → inDecimal (r .b) ≡ spelled r c
+  unfolding spelled
+  spelled-b c e = rw e refl
+
+  pub spelled-other : (c : ℕ) → (c ≡ code "N" → ⊥) → (c ≡ code "A" → ⊥) → (c ≡ code "B" → ⊥) → c ∷ [] ≡ spelled r c
+  unfolding spelled
+  spelled-other c n a b = rw (ne-eqb c (code "N") n, ne-eqb c (code "A") a, ne-eqb c (code "B") b) refl
 
   -- ---- the letters from place i on
-  pub filled-end : (t : List ℕ) (i : ℕ) → length t ≤ i → filled number a b (drop i t) ≡ []
+  pub filled-end : (t : List ℕ) (i : ℕ) → length t ≤ i → filled r (drop i t) ≡ []
   unfolding filled
-  filled-end t i h = ap (filled number a b) (drop-of-length-le t h)
+  filled-end t i h = ap (filled r) (drop-of-length-le t h)
 
-  pub filled-step : (t : List ℕ) (i : ℕ) → i < length t → filled number a b (drop i t) ≡ spelled number a b (getD t i 0) ++ filled number a b (drop (i + 1) t)
+  pub filled-step : (t : List ℕ) (i : ℕ) → i < length t → filled r (drop i t) ≡ spelled r (getD t i 0) ++ filled r (drop (i + 1) t)
   unfolding filled
-  filled-step t i h = ap (filled number a b) (drop-cons t i 0 h ∙ ap (λ (k : ℕ). getD t i 0 ∷ drop k t) (next i))
+  filled-step t i h = ap (filled r) (drop-cons t i 0 h ∙ ap (λ (k : ℕ). getD t i 0 ∷ drop k t) (next i))
     where
       next : (i : ℕ) → suc i ≡ i + 1
       next i = omega arith
 
-  pub length-step : (t : List ℕ) (i k : ℕ) (piece : List ℕ) → i < length t → k ≡ length piece → piece ≡ spelled number a b (getD t i 0)
-      → length (filled number a b (drop i t)) ≡ k + length (filled number a b (drop (i + 1) t))
-  length-step t i k piece h e p =
-      ap length (filled-step t i h) ∙ length-append (spelled number a b (getD t i 0)) (filled number a b (drop (i + 1) t))
-      ∙ ap (λ (j : ℕ). j + length (filled number a b (drop (i + 1) t))) (sym (e ∙ ap length p))
+  pub length-step : (t : List ℕ) (i : ℕ) → i < length t → length (filled r (drop i t)) ≡ length (spelled r (getD t i 0)) + length (filled r (drop (i + 1) t))
+  length-step t i h = ap length (filled-step t i h) ∙ length-append (spelled r (getD t i 0)) (filled r (drop (i + 1) t))
 
-  pub put-step : (t : List ℕ) (i k : ℕ) (piece : List ℕ) (p : ℕ) (out next : List ℕ) → i < length t → k ≡ length piece → piece ≡ spelled number a b (getD t i 0)
-      → next ≡ sets out p piece → sets next (p + k) (filled number a b (drop (i + 1) t)) ≡ sets out p (filled number a b (drop i t))
-  put-step t i k piece p out next h e q r =
-      ap₂ (λ (l : List ℕ) (j : ℕ). sets l (p + j) rest) r e ∙ sym (sets-append out piece rest p)
-      ∙ ap (sets out p) (ap (λ (x : List ℕ). x ++ rest) q ∙ sym (filled-step t i h))
-    where
-      rest : List ℕ
-      rest = filled number a b (drop (i + 1) t)
+  pub put-step : (t : List ℕ) (i p q : ℕ) (out next : List ℕ) → i < length t → q ≡ p + length (spelled r (getD t i 0)) → next ≡ sets out p (spelled r (getD t i 0))
+      → sets next q (filled r (drop (i + 1) t)) ≡ sets out p (filled r (drop i t))
+  put-step t i p q out next h e f =
+      ap₂ (λ (l : List ℕ) (k : ℕ). sets l k (filled r (drop (i + 1) t))) f e ∙ sym (sets-append out (spelled r (getD t i 0)) (filled r (drop (i + 1) t)) p)
+      ∙ ap (sets out p) (sym (filled-step t i h))
 
   -- ---- a line of three parts
-  pub filled-append : (s t : List ℕ) → filled number a b (s ++ t) ≡ filled number a b s ++ filled number a b t
+  pub filled-append : (s t : List ℕ) → filled r (s ++ t) ≡ filled r s ++ filled r t
   unfolding filled
   filled-append [] t = refl
   filled-append (c ∷ s) t =
-      ap (λ (x : List ℕ). spelled number a b c ++ x) (filled-append s t) ∙ sym (append-assoc (spelled number a b c) (filled number a b s) (filled number a b t))
+      ap (λ (x : List ℕ). spelled r c ++ x) (filled-append s t) ∙ sym (append-assoc (spelled r c) (filled r s) (filled r t))
 
   -- head and words filled, and the line's end
   module _ (head words : List ℕ) where
     abbrev first : List ℕ
-    first = filled number a b head
+    first = filled r head
 
     abbrev second : List ℕ
-    second = filled number a b words
+    second = filled r words
 
     abbrev whole : List ℕ
-    whole = filled number a b (head ++ (words ++ code "\n" ∷ []))
+    whole = filled r (head ++ (words ++ code "\n" ∷ []))
 
-    parts : whole ≡ first ++ (second ++ code "\n" ∷ [])
-    unfolding filled spelled
+    abbrev last : List ℕ
+    last = filled r (code "\n" ∷ [])
+
+    parts : whole ≡ first ++ (second ++ last)
     parts = filled-append head (words ++ code "\n" ∷ []) ∙ ap (λ (x : List ℕ). first ++ x) (filled-append words (code "\n" ∷ []))
 
-    pub whole-length : length whole ≡ length first + length second + 1
-    whole-length = ap length parts ∙ length-append first (second ++ code "\n" ∷ []) ∙ omega (arith, length-append second (code "\n" ∷ []))
+    pub whole-length : length whole ≡ length first + length second + length last
+    whole-length = ap length parts ∙ length-append first (second ++ last) ∙ omega (arith, length-append second last)
 
-    pub whole-put : (start end : ℕ) (out one two three : List ℕ) → length whole ≤ length out
+    pub whole-put : (start end past : ℕ) (out one two three : List ℕ) → length whole ≤ length out
         → one ≡ sets out 0 first → start ≡ 0 + length first → two ≡ sets one start second → end ≡ start + length second
-        → three ≡ sets two end (code "\n" ∷ []) → take (end + 1) three ≡ whole
-    whole-put start end out one two three room p s q t r = ap₂ take size written ∙ take-append-seam whole (drop (length whole) out)
+        → three ≡ sets two end last → past ≡ end + length last → take past three ≡ whole
+    whole-put start end past out one two three room p s q t f z = ap₂ take size written ∙ take-append-seam whole (drop (length whole) out)
       where
-        size : end + 1 ≡ length whole
+        size : past ≡ length whole
         size = omega (arith, whole-length)
 
         both : two ≡ sets (sets out 0 first) (0 + length first) second
@@ -146,38 +149,8 @@ module _ (number a b : ℕ) where
 
         written : three ≡ whole ++ drop (length whole) out
         written =
-            r
-            ∙ ap₂ (λ (l : List ℕ) (k : ℕ). sets l k (code "\n" ∷ [])) both place
-            ∙ sym (sets-append out first (second ++ code "\n" ∷ []) 0 ∙ sets-append (sets out 0 first) second (code "\n" ∷ []) (0 + length first))
+            f
+            ∙ ap₂ (λ (l : List ℕ) (k : ℕ). sets l k last) both place
+            ∙ sym (sets-append out first (second ++ last) 0 ∙ sets-append (sets out 0 first) second last (0 + length first))
             ∙ ap (sets out 0) (sym parts)
             ∙ front-put whole out room
-
-  -- a line of these words has room
-  pub whole-room : (words : List ℕ) → roomFor words ≡ true → length (filled number a b (codes beginning)) + length (filled number a b words) + 1 ≤ lineRoom
-  whole-room words h =
-      omega
-      (arith, whole-length (codes beginning) words, filled-most (template words), leb-true (length (filled 255 255 255 (template words))) lineRoom h)
-
--- ---- the words of a question
-pub asked : (number a b k : ℕ) (out : List ℕ) (w : Written) → number ≡ k
-    → w ≡ putWhole (filled number a b (template (codes (wordsIn questions k)))) out → w ≡ putWhole (line number a b) out
-asked number a b k out w e h = h ∙ ap (λ (n : ℕ). putWhole (filled number a b (template (codes (wordsIn questions n)))) out) (sym e)
-
-pub unasked : (number a b : ℕ) (out : List ℕ) (w : Written) → wordsIn questions number ≡ unknown
-    → w ≡ putWhole (filled number a b (template (codes unknown))) out → w ≡ putWhole (line number a b) out
-unasked number a b out w e h = h ∙ ap (λ (s : String). putWhole (filled number a b (template (codes s))) out) (sym e)
-
--- the last case of a match: the number is none of those before it
-abbrev NoneOf : ℕ → List (ℕ × String) → Type 0 → Type 0
-NoneOf n [] before = before
-NoneOf n (q ∷ qs) before = NoneOf n qs (before × (n ≡ q .0 → ⊥))
-
-none-in : (n : ℕ) (qs : List (ℕ × String)) (before : Type 0) → NoneOf n qs before → (wordsIn qs n ≡ unknown) × before
-unfolding wordsIn
-none-in n [] before h = (refl, h)
-none-in n (q ∷ qs) before h =
-    let r = none-in n qs (before × (n ≡ q .0 → ⊥)) h in
-    (rw (ne-eqb n (q .0) (r .1 .1)) (r .0), r .1 .0)
-
-pub none-asked : (n : ℕ) (before : Type 0) → NoneOf n questions before → wordsIn questions n ≡ unknown
-none-asked n before h = none-in n questions before h .0

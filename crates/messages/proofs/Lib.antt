@@ -1,2 +1,5 @@
+pub mod Sets
+pub mod Text
+pub mod Decimal
 pub mod Filling
 pub mod Lines

@@ -1,12 +1,14 @@
 // A refusal in words: one line for the person at the bench, from number, a and b alone.
 ghost use mathlib.Core.Path.{_≡_};
+ghost use mathlib.Core.Bool.{cond};
+ghost use lib.Dec.{eqb};
 ghost use Prim.Native.Nat.{_+_, _-_, _<_, _≤_};
 ghost use lib.ListN.{length, take, drop};
 ghost use lib.Seq.{sets};
 ghost use Rattle.answers.specs.Refusals.{refusalOf};
 ghost use Rattle.messages.specs.Message.{inDecimal, spelled, filled, template, line, lineRoom, putWhole};
 ghost use Rattle.messages.specs.Message.{digit as Message·digit};
-ghost use Rattle.messages.specs.Text.{behind, firstLine};
+ghost use Rattle.messages.specs.Text.{lineFeed, behind, firstLine, orAll, lineAt};
 use answers::Refusal;
 
 // A buffer of so many bytes has room for every line.
@@ -25,10 +27,11 @@ fn put_decimal(out: &mut [u8], at: usize, n: u16) -> usize
     ensures { λ _. ⌜ now (out .exit) ≡ sets (now (out .entry)) at (inDecimal n) ⌝ }
     ensures { λ r. ⌜ r ≡ at + length (inDecimal n) ⌝ }
 {
-    let mut p = at;
-    if n >= 10 {
-        p = put_decimal(out, at, n / 10);
+    if n < 10 {
+        out[at] = digit(n);
+        return at + 1;
     }
+    let p = put_decimal(out, at, n / 10);
     out[p] = digit(n % 10);
     p + 1
 }
@@ -94,6 +97,17 @@ fn put_line(out: &mut [u8], words: &[u8], q: Refusal) -> usize
 
 // ---- The lines of a text.
 
+// One line fewer where this letter ends one.
+fn lines_left(left: u8, letter: u8) -> u8
+    requires { ⌜ 0 < left ⌝ }
+    ensures { λ r. ⌜ r ≡ cond (eqb letter lineFeed) (left - 1) left ⌝ }
+{
+    if letter == b'\n' {
+        return left - 1;
+    }
+    left
+}
+
 // Where the text behind its first k lines begins; its end where it has no more.
 fn line_start(text: &[u8], k: u8) -> usize
     ensures { λ r. ⌜ (r ≤ length (now (text .entry))) × (drop r (now (text .entry)) ≡ behind k (now (text .entry))) ⌝ }
@@ -104,12 +118,21 @@ fn line_start(text: &[u8], k: u8) -> usize
         if left == 0 {
             return i;
         }
-        if text[i] == b'\n' {
-            left -= 1;
-        }
+        left = lines_left(left, text[i]);
         i += 1;
     }
     i
+}
+
+// Where line k begins, from 0 on; where there is none, the first.
+fn line_of(text: &[u8], k: u8) -> usize
+    ensures { λ r. ⌜ (r ≤ length (now (text .entry))) × (drop r (now (text .entry)) ≡ orAll (behind k (now (text .entry))) (now (text .entry))) ⌝ }
+{
+    let start = line_start(text, k);
+    if start == text.len() {
+        return 0;
+    }
+    start
 }
 
 // Where the line that begins at this place ends.
@@ -127,12 +150,23 @@ fn line_end(text: &[u8], start: usize) -> usize
     i
 }
 
-// The line of a refusal at the front of the buffer; how many bytes it takes, or 0 where it does not fit. The words of number k
-// are line k of the text; its first line is for numbers that no question has.
+// The line with the words of the refusal's number, in a text that has those of number k as line k and, first of all, those of
+// a number that no question has.
+fn tell(text: &[u8], q: Refusal, out: &mut [u8]) -> usize
+    requires { ⌜ length (filled (refusalOf q) (template (lineAt (q .0) (now text)))) ≤ lineRoom ⌝ }
+    ensures { λ r. ⌜ record { count = r; out = now (out .exit) } ≡ putWhole (filled (refusalOf q) (template (lineAt (q .0) (now (text .entry))))) (now (out .entry)) ⌝ }
+{
+    let start = line_of(text, q.0);
+    let end = line_end(text, start);
+    put_line(out, &text[start..end], q)
+}
+
+// The line of a refusal at the front of the buffer; how many bytes it takes, or 0 where it does not fit.
 pub fn message(q: Refusal, out: &mut [u8]) -> usize
     ensures { λ r. ⌜ record { count = r; out = now (out .exit) } ≡ putWhole (line (refusalOf q)) (now (out .entry)) ⌝ }
 {
-    let text = b"unknown question\n\
+    tell(
+        b"unknown question\n\
         the next record is missing or of another kind\n\
         the payload of a record is cut off\n\
         a record's length does not suit its kind\n\
@@ -152,11 +186,8 @@ pub fn message(q: Refusal, out: &mut [u8]) -> usize
         node A has an entry and no measurement\n\
         node B is not later than node A, or in mode 1 not its neighbour\n\
         node A's set does not suit its or a Y measurement\n\
-        the result does not fit the lent buffer\n";
-    let mut start = line_start(text, q.0);
-    if start == text.len() {
-        start = 0;
-    }
-    let end = line_end(text, start);
-    put_line(out, &text[start..end], q)
+        the result does not fit the lent buffer\n",
+        q,
+        out,
+    )
 }

@@ -1,69 +1,70 @@
 use Prim.Native.Nat.{_+_, _-_, _≤_}
 use mathlib.Core.Path.{_≡_, refl, sym, ap, _∙_}
 use native.Mathlib.Omega.{arith}
-use borrow.Author.Needs.{needs}
 use lib.ListN.{length, drop}
 use lib.Seq.{sets}
+use Rattle.answers.specs.Refusals.{refusalOf}
 use Rattle.messages.specs.Message.{filled}
 use Rattle.messages.proofs.Filling.{filled-end, length-step, put-step}
+use borrow.Author.Needs.{needs}
 use Rattle.messages.proofs.put_filled.Statement.{statement}
 use Rattle.messages.proofs.put_filled.Tie as tie
+use Rattle.messages.proofs.put_filled.Reads as reads
+use Rattle.messages.proofs.put_filled.Lts as lts
+use Rattle.messages.proofs.put_letter.Reads as put-letter-reads
 
 abbrev Inv-loop : tie.InvT-loop
-Inv-loop out₀ at letters m p₀ i₀ out p i = (i ≤ length letters)
+Inv-loop out₀ at letters q p₀ i₀ out p i = (i ≤ length letters)
     × (length out ≡ length out₀)
-    × (p + length (filled (m .number) (m .a) (m .b) (drop i letters)) ≡ at + length (filled (m .number) (m .a) (m .b) letters))
-    × (sets out p (filled (m .number) (m .a) (m .b) (drop i letters)) ≡ sets out₀ at (filled (m .number) (m .a) (m .b) letters))
+    × (p + length (filled (refusalOf q) (drop i letters)) ≡ at + length (filled (refusalOf q) letters))
+    × (sets out p (filled (refusalOf q) (drop i letters)) ≡ sets out₀ at (filled (refusalOf q) letters))
 
 abbrev μ-loop : tie.MeasureT-loop
-μ-loop out₀ at letters m p₀ i₀ out p i = length letters - i
+μ-loop out₀ at letters q p₀ i₀ out p i = length letters - i
 
+-- src/lib.rt:61:5
 loop-holds : tie.Need-loop-holds Inv-loop μ-loop
 loop-holds c = (search needs, refl, refl, refl)
 
-shared-slice-read-spell : tie.Need-shared-slice-read-spell Inv-loop μ-loop
-shared-slice-read-spell c = search needs
+-- src/lib.rt:62:32
+shared-slice-read-put-letter : tie.Need-shared-slice-read-put-letter Inv-loop μ-loop
+shared-slice-read-put-letter c = search needs
 
-spell-requires : tie.Need-spell-requires Inv-loop μ-loop
-spell-requires c κs = search needs
+-- src/lib.rt:62:9
+put-letter-requires : tie.Need-put-letter-requires Inv-loop μ-loop
+put-letter-requires c κs = let l = c .before .before .before .loop in
+    let a = c .before .before .before .before .before .before .args in
+    omega (arith, length-step (refusalOf (a .q)) (a .letters .now) (l .i) (omega arith), l .inv .2)
 
-put-piece-requires : tie.Need-put-piece-requires Inv-loop μ-loop
-put-piece-requires c κs = let l = c .before .before .before .before .loop in
-    let a = c .before .before .before .before .before .before .before .args in
-    let step = length-step (a .m .number) (a .m .a) (a .m .b) (a .letters .now) (l .i) _ _ (omega arith) refl (c .before .spell .ensures) in
-    omega (arith, step)
-
-piece-len-requires : tie.Need-piece-len-requires Inv-loop μ-loop
-piece-len-requires c κs = search needs
-
-add-p : tie.Need-add-p Inv-loop μ-loop
-add-p c = let l = c .before .before .before .before .before .before .before .before .loop in
-    let a = c .before .before .before .before .before .before .before .before .before .before .before .args in
-    let step = length-step (a .m .number) (a .m .a) (a .m .b) (a .letters .now) (l .i) _ _ (omega arith) (c .piece-len .ensures) (c .before .before .before .before .before .spell .ensures) in
-    omega (arith, step)
-
+-- src/lib.rt:63:9
 add-i : tie.Need-add-i Inv-loop μ-loop
 add-i c = search needs
 
+-- src/lib.rt:61:5
 loop-less : tie.Need-loop-less Inv-loop μ-loop
 loop-less c = search needs
 
+-- src/lib.rt:61:5
 loop-again : tie.Need-loop-again Inv-loop μ-loop
-loop-again c = let l = c .before .before .before .before .before .before .before .before .loop in
-    let a = c .before .before .before .before .before .before .before .before .before .before .before .args in
-    let spelt = c .before .before .before .before .before .spell .ensures in
-    let step = length-step (a .m .number) (a .m .a) (a .m .b) (a .letters .now) (l .i) _ _ (omega arith) (c .piece-len .ensures) spelt in
-    let put = put-step (a .m .number) (a .m .a) (a .m .b) (a .letters .now) (l .i) _ _ (l .p) (l .out) _ (omega arith) (c .piece-len .ensures) spelt (c .before .before .before .put-piece .ensures) in
-    (search needs, search needs, omega (arith, step), put ∙ l .inv .3)
+loop-again c = let l = c .before .before .before .before .before .before .loop in
+    let a = c .before .before .before .before .before .before .before .before .before .args in
+    let put = c .before .before .put-letter .ensures in (
+      search needs,
+      search needs,
+      omega (arith, length-step (refusalOf (a .q)) (a .letters .now) (l .i) (omega arith), put .1, l .inv .2),
+      put-step (refusalOf (a .q)) (a .letters .now) (l .i) (l .p) _ (l .out) _ (omega arith) (put .1) (put .0) ∙ l .inv .3,
+    )
 
+-- src/lib.rt:54:1
 same-length : tie.Need-same-length Inv-loop μ-loop
 same-length c = search needs
 
+-- src/lib.rt:54:1
 returns : tie.Need-returns Inv-loop μ-loop
 returns c = let l = c .before .loop in
     let a = c .before .before .before .before .args in
-    let done = filled-end (a .m .number) (a .m .a) (a .m .b) (a .letters .now) (l .i) (omega arith) in
-    (sym (ap (sets (l .out) (l .p)) done) ∙ l .inv .3, omega (arith, ap length done))
+    let done = filled-end (refusalOf (a .q)) (a .letters .now) (l .i) (omega arith) in
+    (sym (ap (sets (l .out) (l .p)) done) ∙ l .inv .3, omega (arith, ap length done, l .inv .2))
 
 pub put-filled-spec : {M : Type 1} → statement M
 put-filled-spec =
@@ -72,11 +73,8 @@ put-filled-spec =
     Inv-loop
     μ-loop
     loop-holds
-    shared-slice-read-spell
-    spell-requires
-    put-piece-requires
-    piece-len-requires
-    add-p
+    shared-slice-read-put-letter
+    put-letter-requires
     add-i
     loop-less
     loop-again
