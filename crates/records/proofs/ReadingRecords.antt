@@ -13,9 +13,9 @@ use Rattle.answers.specs.Answer.{Answer, gives, refuses, refusal, no, passed}
 use Rattle.records.specs.Records.{Part, part, checked, kindOpen}
 use Rattle.nodes.specs.Lists.{has, all}
 use Rattle.records.specs.JobFile.{mostNodes, openNo}
-use Rattle.records.specs.Refusals.{refusalOf}
+use Rattle.answers.specs.Refusals.{refusalOf}
 use Rattle.records.specs.Views.{bytesAt, Lies, LiesBehind, checkedOf, partAt, partOf, Inside}
-use Rattle.records.specs.declared.common.Refused.{Refused}
+use Rattle.answers.specs.declared.Refusal.{Refusal}
 use Rattle.records.specs.declared.common.Place.{Place}
 use Rattle.records.specs.declared.common.Found.{Found}
 use Rattle.records.specs.declared.common.Found.the-variants.{Payload, Refused as NotFound}
@@ -34,7 +34,7 @@ module _ (k : ℕ) (c : Checked) (e : checkedOf c ≡ passed k true) (p : Part) 
       by zero f = refl
       by (suc k) f = absurd (never (sym f))
 
-  passed-no : (q : Refused) → c ≡ NotPassed q → refuses (refusalOf q) ≡ passed k p
+  passed-no : (q : Refusal) → c ≡ NotPassed q → refuses (refusalOf q) ≡ passed k p
   passed-no q h = by k (rw h at e)
     where
       by : (k : ℕ) → refuses (refusalOf q) ≡ passed k true → refuses (refusalOf q) ≡ passed k p
@@ -46,19 +46,19 @@ module _ (s : List ℕ) (r : Found) {m : Answer Part} (e : partOf s r ≡ m) whe
   pub found-part : (p : Place) → r ≡ Payload p → m ≡ gives (partAt s p)
   found-part p h = sym e ∙ ap (partOf s) h
 
-  pub found-no : (q : Refused) → r ≡ NotFound q → m ≡ refuses (refusalOf q)
+  pub found-no : (q : Refusal) → r ≡ NotFound q → m ≡ refuses (refusalOf q)
   found-no q h = sym e ∙ ap (partOf s) h
 
 pub inside-of : (s : List ℕ) (at : ℕ) (r : Found) → Inside s at r → (p : Place) → r ≡ Payload p → LiesBehind s at p
 inside-of s at r h p e = rw e at h
 
 module _ (s t : List ℕ) (kind : ℕ) (r : Found) (e : partOf s r ≡ part kind t) (test : List ℕ → ℕ) where
-  pub checked-stops : (q : Refused) → r ≡ NotFound q → refuses (refusalOf q) ≡ checked kind test t
+  pub checked-stops : (q : Refusal) → r ≡ NotFound q → refuses (refusalOf q) ≡ checked kind test t
   unfolding checked
   checked-stops q h = rw (found-no s r e q h)
 
   module _ (p : Place) (h : r ≡ Payload p) (c : Checked) (f : checkedOf c ≡ passed (test (bytesAt p s)) true) where
-    pub checked-no : (q : Refused) → c ≡ NotPassed q → refuses (refusalOf q) ≡ checked kind test t
+    pub checked-no : (q : Refusal) → c ≡ NotPassed q → refuses (refusalOf q) ≡ checked kind test t
     unfolding checked
     checked-no q g = rw (found-part s r e p h) (passed-no (test (bytesAt p s)) c f (partAt s p) q g)
 

@@ -2,7 +2,6 @@ pub mod Encoding
 pub mod FlowFile
 pub mod JobFile
 pub mod Records
-pub mod Refusals
 pub mod Splice
 pub mod Views
 pub mod Writing

@@ -8,7 +8,7 @@ use Rattle.answers.specs.Answer.{Answer, gives, refuses}
 use Rattle.records.specs.Records.{Part, headBytes}
 use Rattle.records.specs.JobFile.{JobFile, openNo, edgesNo, nodesNo}
 use Rattle.records.specs.FlowFile.{FlowFile, entriesOf, listed, layersNo, setsNo}
-use Rattle.records.specs.Refusals.{refusalOf}
+use Rattle.answers.specs.Refusals.{refusalOf}
 use Rattle.records.specs.declared.common.Place.{Place}
 use Rattle.records.specs.declared.common.JobPlaces.{JobPlaces}
 use Rattle.records.specs.declared.common.FlowPlaces.{FlowPlaces}

@@ -11,8 +11,8 @@ ghost use Rattle.nodes.specs.Lists.{has, all};
 ghost use Rattle.nodes.specs.Row.{count};
 ghost use Rattle.records.specs.JobFile.{mostNodes, rises, pairsRise, highestOf, allAllowed, openNo, edgesNo, nodesNo, measurementsNo, readJob, readEdges, readInputs, readOutputs, readMeasurements};
 ghost use Rattle.records.specs.FlowFile.{entriesOf, framed, listed, allEntries, entryBelow, entriesRise, layersNo, setsNo, readFlow, readSets};
-ghost use Rattle.records.specs.Refusals.{refusalOf, numbersIn};
 ghost use Rattle.records.specs.Views.{bytesAt, LiesBehind, openingBytes, checkedOf, askOf, partOf, Inside, jobOfRead, JobInside, flowOfRead, FlowInside};
+use answers::Refusal;
 use flows::PAULI_Z;
 use flows::PLANE_XY;
 use flows::PLANE_XZ;
@@ -52,74 +52,6 @@ pub const MODE_PLANES: u8 = 2;
 
 pub const MODE_PAULI: u8 = 3;
 
-// Why a call is refused, with document 01's number beside each case. Three causes share number 3, and two number 19.
-pub enum Refused {
-    NoRecord, // 1
-    CutPayload, // 2
-    OddEdges, // 3
-    CutEntry, // 3
-    WrongLength, // 3
-    WrongOpening, // 4
-    NodeTooLarge, // 5
-    NotAscending, // 6
-    WrongMeasurement, // 7
-    BytesLeft, // 8
-    NotOneMember, // 9
-    ModeNotSearched, // 10
-    WrongWorkBuffer, // 11
-    InvalidFlowCodomain(u8), // 13
-    InvalidFlowDomain(u8), // 14
-    ExcessiveNonZeroLayer(u8, u8), // 15: the node, its layer
-    ExcessiveZeroLayer(u8), // 16
-    InvalidMeasurementSpec(u8), // 17
-    InconsistentFlowOrder(u8, u8), // 18
-    InconsistentFlowPlane(u8), // 19, mode 2
-    InconsistentFlowPPlane(u8), // 19, mode 3
-    ResultTooLong, // 20
-}
-
-// Document 01's number of a refusal, with a and b.
-pub struct Numbers {
-    pub number: u8,
-    pub a: u8,
-    pub b: u8,
-}
-
-fn three(number: u8, a: u8, b: u8) -> Numbers
-    ensures { λ r. ⌜ numbersIn r ≡ record { number = number; a = a; b = b } ⌝ }
-{
-    Numbers { number, a, b }
-}
-
-pub fn numbers_of(q: Refused) -> Numbers
-    ensures { λ r. ⌜ numbersIn r ≡ refusalOf q ⌝ }
-{
-    match q {
-        Refused::NoRecord => three(1, 0, 0),
-        Refused::CutPayload => three(2, 0, 0),
-        Refused::OddEdges => three(3, 0, 0),
-        Refused::CutEntry => three(3, 0, 0),
-        Refused::WrongLength => three(3, 0, 0),
-        Refused::WrongOpening => three(4, 0, 0),
-        Refused::NodeTooLarge => three(5, 0, 0),
-        Refused::NotAscending => three(6, 0, 0),
-        Refused::WrongMeasurement => three(7, 0, 0),
-        Refused::BytesLeft => three(8, 0, 0),
-        Refused::NotOneMember => three(9, 0, 0),
-        Refused::ModeNotSearched => three(10, 0, 0),
-        Refused::WrongWorkBuffer => three(11, 0, 0),
-        Refused::InvalidFlowCodomain(a) => three(13, a, 0),
-        Refused::InvalidFlowDomain(a) => three(14, a, 0),
-        Refused::ExcessiveNonZeroLayer(a, b) => three(15, a, b),
-        Refused::ExcessiveZeroLayer(a) => three(16, a, 0),
-        Refused::InvalidMeasurementSpec(a) => three(17, a, 0),
-        Refused::InconsistentFlowOrder(a, b) => three(18, a, b),
-        Refused::InconsistentFlowPlane(a) => three(19, a, 0),
-        Refused::InconsistentFlowPPlane(a) => three(19, a, 0),
-        Refused::ResultTooLong => three(20, 0, 0),
-    }
-}
-
 // Where a payload lies in the file.
 pub struct Place {
     pub start: usize,
@@ -138,7 +70,7 @@ pub struct JobPlaces {
 
 pub enum JobRead {
     Job(JobPlaces),
-    Refused(Refused),
+    Refused(Refusal),
 }
 
 // Where the payloads of a flow lie; the bytes behind it start where the sets end.
@@ -149,19 +81,19 @@ pub struct FlowPlaces {
 
 pub enum FlowRead {
     Flow(FlowPlaces),
-    Refused(Refused),
+    Refused(Refusal),
 }
 
 // A record that was looked for.
 enum Found {
     Payload(Place),
-    Refused(Refused),
+    Refused(Refusal),
 }
 
 // What the questions of a payload answer.
 enum Checked {
     Passed,
-    Refused(Refused),
+    Refused(Refusal),
 }
 
 // The kinds of payload that are asked alone, with the count of nodes.
@@ -209,18 +141,18 @@ fn head(file: &[u8], at: usize, kind: u16) -> Found
 {
     let len = file.len();
     if len < HEAD_BYTES {
-        return Found::Refused(Refused::NoRecord);
+        return Found::Refused(Refusal::NO_RECORD);
     }
     if at > len - HEAD_BYTES {
-        return Found::Refused(Refused::NoRecord);
+        return Found::Refused(Refusal::NO_RECORD);
     }
     if kind_field(file, at) != kind as usize {
-        return Found::Refused(Refused::NoRecord);
+        return Found::Refused(Refusal::NO_RECORD);
     }
     let count = length_field(file, at);
     let start = at + HEAD_BYTES;
     if count > len - start {
-        return Found::Refused(Refused::CutPayload);
+        return Found::Refused(Refusal::CUT_PAYLOAD);
     }
     Found::Payload(Place {
         start,
@@ -459,16 +391,16 @@ fn ask_open(opening: &[u8]) -> Checked
     ensures { λ r. ⌜ checkedOf r ≡ passed (openNo (now (opening .entry))) true ⌝ }
 {
     if opening.len() != 2 {
-        return Checked::Refused(Refused::WrongLength);
+        return Checked::Refused(Refusal::WRONG_LENGTH);
     }
     if opening[0] > MOST_NODES {
-        return Checked::Refused(Refused::WrongOpening);
+        return Checked::Refused(Refusal::WRONG_OPENING);
     }
     if opening[1] < MODE_CAUSAL {
-        return Checked::Refused(Refused::WrongOpening);
+        return Checked::Refused(Refusal::WRONG_OPENING);
     }
     if opening[1] > MODE_PAULI {
-        return Checked::Refused(Refused::WrongOpening);
+        return Checked::Refused(Refusal::WRONG_OPENING);
     }
     Checked::Passed
 }
@@ -477,13 +409,13 @@ fn ask_edges(edges: &[u8], n: usize) -> Checked
     ensures { λ r. ⌜ checkedOf r ≡ passed (edgesNo n (now (edges .entry))) true ⌝ }
 {
     if edges.len() % 2 != 0 {
-        return Checked::Refused(Refused::OddEdges);
+        return Checked::Refused(Refusal::WRONG_LENGTH);
     }
     if !below(edges, n) {
-        return Checked::Refused(Refused::NodeTooLarge);
+        return Checked::Refused(Refusal::NODE_TOO_LARGE);
     }
     if !pairs_rising(edges) {
-        return Checked::Refused(Refused::NotAscending);
+        return Checked::Refused(Refusal::NOT_ASCENDING);
     }
     Checked::Passed
 }
@@ -492,10 +424,10 @@ fn ask_nodes(nodes: &[u8], n: usize) -> Checked
     ensures { λ r. ⌜ checkedOf r ≡ passed (nodesNo n (now (nodes .entry))) true ⌝ }
 {
     if !below(nodes, n) {
-        return Checked::Refused(Refused::NodeTooLarge);
+        return Checked::Refused(Refusal::NODE_TOO_LARGE);
     }
     if !rising(nodes) {
-        return Checked::Refused(Refused::NotAscending);
+        return Checked::Refused(Refusal::NOT_ASCENDING);
     }
     Checked::Passed
 }
@@ -505,10 +437,10 @@ fn ask_measurements(measurements: &[u8], n: usize, mode: u8, outputs: &[u8]) -> 
     ensures { λ r. ⌜ checkedOf r ≡ passed (measurementsNo n mode (has (now (outputs .entry))) (now (measurements .entry))) true ⌝ }
 {
     if measurements.len() != n {
-        return Checked::Refused(Refused::WrongLength);
+        return Checked::Refused(Refusal::WRONG_LENGTH);
     }
     if !all_allowed(measurements, mode, outputs) {
-        return Checked::Refused(Refused::WrongMeasurement);
+        return Checked::Refused(Refusal::WRONG_MEASUREMENT);
     }
     Checked::Passed
 }
@@ -517,7 +449,7 @@ fn ask_layers(layers: &[u8], n: usize) -> Checked
     ensures { λ r. ⌜ checkedOf r ≡ passed (layersNo n (now (layers .entry))) true ⌝ }
 {
     if layers.len() != n {
-        return Checked::Refused(Refused::WrongLength);
+        return Checked::Refused(Refusal::WRONG_LENGTH);
     }
     Checked::Passed
 }
@@ -526,13 +458,13 @@ fn ask_sets(sets: &[u8], n: usize) -> Checked
     ensures { λ r. ⌜ checkedOf r ≡ passed (setsNo n (now (sets .entry))) true ⌝ }
 {
     if !entries_end(sets) {
-        return Checked::Refused(Refused::CutEntry);
+        return Checked::Refused(Refusal::WRONG_LENGTH);
     }
     if !entries_below(sets, n) {
-        return Checked::Refused(Refused::NodeTooLarge);
+        return Checked::Refused(Refusal::NODE_TOO_LARGE);
     }
     if !entries_rising(sets) {
-        return Checked::Refused(Refused::NotAscending);
+        return Checked::Refused(Refusal::NOT_ASCENDING);
     }
     Checked::Passed
 }
