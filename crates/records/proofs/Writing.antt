@@ -20,13 +20,14 @@ use Rattle.answers.specs.Answer.{gives}
 use Rattle.records.specs.Records.{part, checked, written, kindLayers, kindSets, kindNoFlow}
 use Rattle.nodes.specs.Lists.{has, listOf, all}
 use Rattle.records.specs.JobFile.{mostNodes, rises}
-use Rattle.records.specs.FlowFile.{SetEntry, allEntries, entryBelow, entriesRise, FlowFile, readFlow, setIn, entryIn, flowOf}
-use Rattle.records.specs.Encoding.{entryBytes, flowFileBytes, ValidFlow, entriesFor, foundFlow}
+use Rattle.records.specs.FlowFile.{SetEntry, allEntries, entryBelow, entriesRise, entryBytes, FlowFile, readFlow, setIn, entryIn, flowOf}
+use Rattle.records.specs.Encoding.{flowFileBytes, ValidFlow, entriesFor, foundFlow}
 use Rattle.records.specs.Writing.{setBytes, flowBytes, mostOutput}
 use Rattle.answers.proofs.Answer.{never}
 use Rattle.records.proofs.Records.{and-out, all-append, all-more, written-length, written-bytes}
+use Rattle.records.proofs.Encoding.{flow-decodes}
 use Rattle.records.proofs.JobFile.{rises-length}
-use Rattle.records.proofs.FlowFile.{flow-decodes, entries-few, entry-bytes-length}
+use Rattle.records.proofs.FlowFile.{entries-few, entry-bytes-length}
 
 -- ---- lists of values
 pub list-length : {A : Type 0} (n : ℕ) (f : ℕ → A) → length (listOf n f) ≡ n

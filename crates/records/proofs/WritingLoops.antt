@@ -14,9 +14,9 @@ use Rattle.nodes.specs.NodeSet.{capacity}
 use Rattle.nodes.proofs.Count.{count-empty, count-le}
 use Rattle.nodes.proofs.Members.{members-length, lowest-some}
 use Rattle.nodes.proofs.Remove.{removed, count-lowest, members-cons}
-use Rattle.records.specs.Records.{headBytes, written, kindLayers, kindSets}
+use Rattle.records.specs.Records.{headBytes, headOf, written, kindLayers, kindSets}
 use Rattle.records.specs.Writing.{setBytes}
-use Rattle.records.specs.Splice.{splice, headOf, putFirst, putCount}
+use Rattle.records.specs.Splice.{splice, putFirst, putCount}
 use Rattle.records.proofs.Records.{written-length}
 use Rattle.records.proofs.Splice.{splice-more, splice-cons, splice-splice}
 

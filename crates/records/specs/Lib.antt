@@ -1,5 +1,6 @@
 pub mod Encoding
 pub mod FlowFile
+pub mod Format
 pub mod JobFile
 pub mod Records
 pub mod Splice

@@ -1,6 +1,6 @@
 -- Bytes put into a buffer at a place: the bytes before and behind them stay.
-use Prim.Native.Nat.{ℕ, _+_, _/_, _%_}
-use mathlib.Core.List.{List, [], _∷_, _++_}
+use Prim.Native.Nat.{ℕ, _+_}
+use mathlib.Core.List.{List, _++_}
 use lib.ListN.{length, take, drop}
 use lib.Dec.{leb}
 use mathlib.Core.Bool.{cond}
@@ -10,10 +10,6 @@ use Rattle.records.specs.declared.writer.Put.the-variants.{Bytes, TooLon
 
 unfoldable pub splice : ℕ → List ℕ → List ℕ → List ℕ
 splice at bytes l = take at l ++ (bytes ++ drop (at + length bytes) l)
-
--- the six bytes before a payload of that length
-abbrev pub headOf : (len kind : ℕ) → List ℕ
-headOf len kind = len % 256 ∷ len / 256 % 256 ∷ len / 256 / 256 % 256 ∷ len / 256 / 256 / 256 % 256 ∷ kind % 256 ∷ kind / 256 ∷ []
 
 -- bytes at the front of a buffer, where they fit
 abbrev pub putFirst : (bytes out : List ℕ) → List ℕ

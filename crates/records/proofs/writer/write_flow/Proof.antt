@@ -8,7 +8,8 @@ use Rattle.nodes.specs.NodeSet.{capacity, member}
 use Rattle.nodes.specs.SetTable.{setAt}
 use Rattle.records.specs.Records.{kindLayers, kindSets}
 use Rattle.records.specs.Writing.{setBytes, flowRecords}
-use Rattle.records.specs.Splice.{splice, headOf}
+use Rattle.records.specs.Records.{headOf}
+use Rattle.records.specs.Splice.{splice}
 use Rattle.records.proofs.WritingLoops.{record-put, records-put, flow-length, put-fits, put-not}
 use Rattle.records.proofs.writer.write_flow.Statement.{statement}
 use Rattle.records.proofs.writer.write_flow.Tie as tie
