@@ -1,27 +1,31 @@
 -- The views of what was read: one record, from what the code found and asked; and a format, record after record.
-use Prim.Native.Nat.{ℕ, _+_, _<_, _≤_}
-use mathlib.Core.Path.{_≡_, refl, sym, ap, _∙_}
+use Prim.Native.Nat.{ℕ, _+_, _-_, _<_, _≤_}
+use mathlib.Core.Path.{_≡_, refl, sym, ap, ap₂, _∙_}
 use mathlib.Core.Bool.{Bool, true, false, cond}
 use mathlib.Core.Option.{some}
-use mathlib.Core.List.{List, []}
+use mathlib.Core.List.{List, [], _++_}
 use native.Mathlib.Omega.{arith}
 use borrow.Author.Tests.{le-leb, lt-leb}
-use lib.Dec.{eqb}
-use lib.ListN.{length, drop, length-drop}
+use lib.Dec.{eqb, ltb}
+use lib.ListN.{length, take, drop, length-append, length-drop, take-append-drop}
+use lib.Seq.{take-append-seam}
+use Rattle.nodes.specs.Lists.{all}
 use Rattle.answers.specs.Answer.{Refusal, Answer, gives, refuses, _>>=_, _>>_}
 use Rattle.answers.specs.Refusals.{refusalOf}
 use Rattle.answers.specs.declared.Refusal as Code
 use Rattle.answers.proofs.Answer.{never}
 use Rattle.records.specs.Records.{Part, allYes, part, checked, headBytes, kindField}
 use Rattle.records.specs.Format.{Front, front, Format, PayloadFormat, recordOf, then, carries, choice}
-use Rattle.records.specs.Views.{bytesAt, PayloadAt, checkedOf, partAt, recordOfRead, RecordAt, restOf, recordBehind, placeOf, payloadOf, startAt, optionalOfRead, optionalBehind, marked, choiceOfRead, choiceBehind}
+use Rattle.records.specs.Views.{bytesAt, InFile, PayloadAt, keptAround, checkedOf, partAt, recordOfRead, RecordAt, restOf, recordBehind, placeOf, payloadOf, startAt, optionalOfRead, optionalBehind, marked, choiceOfRead, choiceBehind}
 use Rattle.records.specs.declared.common.Place.{Place}
 use Rattle.records.specs.declared.questions.Checked.{Checked}
 use Rattle.records.specs.declared.questions.Checked.the-variants.{Passed, Refused as NotPassed}
 use Rattle.records.specs.declared.reader.RecordRead.{RecordRead}
 use Rattle.records.specs.declared.reader.RecordRead.the-variants.{Payload, Refused as NoRecord}
 use Rattle.records.specs.declared.reader.Branch.{Branch}
-use Rattle.records.proofs.Records.{checked-passed}
+use Rattle.records.specs.Encoding.{Bytes}
+use Rattle.records.proofs.Records.{all-right, checked-passed}
+use Rattle.records.proofs.Format.{Exact, Decoded}
 
 -- ---- the record, from what the code found and what it asked
 module _ (s t : List ℕ) (kind : ℕ) (r : RecordRead) (e : recordOfRead s r ≡ part kind t) (questions : List ℕ → Answer Bool) where
@@ -158,3 +162,17 @@ pub carries-at : (s : List ℕ) (at kind : ℕ) → at + headBytes ≤ length s 
 carries-at s at kind h =
     let e : headBytes ≤ length (drop at s) = simp length-drop (omega arith) in
     simp (le-leb headBytes (length (drop at s)) e)
+
+-- ---- parts of a file that are kept
+-- a place between two steps of reading holds the bytes of the value that was read there
+pub place-encoded : {A : Type 0} (f : Format A) → Exact f → (s : List ℕ) (p : Place) (a : A) → InFile s p → Bytes s → f .decode (drop (p .start) s) ≡ gives (front a (drop (p .end) s)) → bytesAt p s ≡ f .encode a
+place-encoded f x s p a (h, l) b e =
+    let r : Decoded f (drop (p .start) s) a (drop (p .end) s) = x .encodes (drop (p .start) s) a (drop (p .end) s) (all-right (λ b. ltb b 256) (take (p .start) s) (drop (p .start) s) (ap (all (λ b. ltb b 256)) (take-append-drop (p .start) s) ∙ b)) e in
+    let size : p .end - p .start ≡ length (f .encode a) = omega (arith, ap length (r .same), length-append (f .encode a) (drop (p .end) s), length-drop (p .start) s, length-drop (p .end) s) in
+    ap₂ (λ (k : ℕ) (l : List ℕ). take k l) size (r .same) ∙ take-append-seam (f .encode a) (drop (p .end) s)
+
+-- new bytes between two values that are kept
+pub kept-around : {A C : Type 0} (f : Format A) (h : Format C) → Exact f → Exact h → (s new : List ℕ) (p q : Place) (a : A) (c : C) → InFile s p → InFile s q → Bytes s
+    → f .decode (drop (p .start) s) ≡ gives (front a (drop (p .end) s)) → h .decode (drop (q .start) s) ≡ gives (front c (drop (q .end) s))
+    → keptAround s p new q ≡ f .encode a ++ (new ++ h .encode c)
+kept-around f h x y s new p q a c lp lq b e g = rw (place-encoded f x s p a lp b e, place-encoded h y s q c lq b g)

@@ -4,15 +4,16 @@ use mathlib.Core.Bool.{Bool, true, false, cond, _&&_, _||_}
 use mathlib.Core.List.{List, [], _∷_}
 use lib.Dec.{eqb, ltb, leb}
 use lib.ListN.{length, getD}
+use Rattle.nodes.specs.NodeSet.{capacity}
 use Rattle.nodes.specs.Lists.{has, all}
 use Rattle.flows.specs.Job.{Job, planeXY, planeXZ, pauliZ}
 use Rattle.answers.specs.Answer.{Answer, gives, asks, _>>=_, _>>_}
 use Rattle.records.specs.Format.{Front, Format, PayloadFormat, plain, recordOf, then}
 use Rattle.records.specs.Records.{kindOpen, kindEdges, kindInputs, kindOutputs, kindMeasurements}
 
--- the most nodes a job may have
+-- the most nodes a job may have: as many as a set can have
 abbrev pub mostNodes : ℕ
-mostNodes = 128
+mostNodes = capacity
 
 abbrev pub modeCausal : ℕ
 modeCausal = 1

@@ -3,7 +3,7 @@ use Prim.Native.Nat.{ℕ, _+_, _-_, _≤_}
 use mathlib.Core.Path.{_≡_}
 use mathlib.Core.Bool.{Bool, true, false, cond}
 use mathlib.Core.Option.{Option, none, some}
-use mathlib.Core.List.{List}
+use mathlib.Core.List.{List, _++_}
 use lib.ListN.{length, take, drop}
 use Rattle.nodes.specs.Lists.{has}
 use Rattle.answers.specs.Answer.{Answer, gives, refuses, _>>=_}
@@ -41,6 +41,10 @@ InFile s p = (p .start ≤ p .end) × (p .end ≤ length s)
 -- the payload of the record that starts at `at`: behind the record's head, also where it is empty
 abbrev pub PayloadAt : List ℕ → (at : ℕ) → Place → Type 0
 PayloadAt s at p = (p .start ≡ at + headBytes) × InFile s p
+
+-- bytes between two parts of a file that are kept
+abbrev pub keptAround : List ℕ → Place → List ℕ → Place → List ℕ
+keptAround s first bytes last = bytesAt first s ++ (bytes ++ bytesAt last s)
 
 -- ---- the questions of a payload
 abbrev pub checkedOf : Checked → Answer Bool

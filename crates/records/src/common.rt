@@ -4,6 +4,7 @@ ghost use Prim.Native.Nat.{_<_};
 ghost use lib.ListN.{getD};
 ghost use Rattle.records.specs.Views.{bytesAt};
 use answers::Refusal;
+use nodes::utils::CAPACITY;
 
 // The bytes of a record's length and kind.
 pub const HEAD_BYTES: usize = 6;
@@ -31,7 +32,8 @@ pub const KIND_ACCEPTED: u16 = 0x0014;
 
 pub const KIND_REFUSAL: u16 = 0x001F;
 
-pub const MOST_NODES: u8 = 128;
+// As many nodes as a set can have.
+pub const MOST_NODES: usize = CAPACITY;
 
 pub const MODE_CAUSAL: u8 = 1;
 

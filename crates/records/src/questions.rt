@@ -7,7 +7,7 @@ ghost use lib.ListN.{length, getD};
 ghost use Rattle.nodes.specs.Lists.{has, all};
 ghost use Rattle.nodes.specs.Row.{count};
 ghost use Rattle.records.specs.Records.{allYes};
-ghost use Rattle.records.specs.JobFile.{mostNodes, rises, pairsRise, highestOf, allAllowed, openingAsks, edgesAsks, nodesAsks, measurementsAsks};
+ghost use Rattle.records.specs.JobFile.{mostNodes, rises, pairsRise, highestOf, allAllowed, openingAllowed, openingAsks, edgesAsks, nodesAsks, measurementsAsks};
 ghost use Rattle.records.specs.FlowFile.{entriesOf, framed, listed, allEntries, entryBelow, entriesRise, layersAsks, setsAsks};
 ghost use Rattle.records.specs.Views.{checkedOf, asksOf, Granted};
 use crate::common::ENTRY_HEAD_BYTES;
@@ -253,19 +253,26 @@ pub fn one_member(sets: &[u8]) -> bool
 
 // ---- The questions of each kind, in order.
 
+// Are the number of nodes and the mode allowed?
+fn opening_allowed(n: usize, mode: u8) -> bool
+    ensures { λ r. ⌜ r ≡ openingAllowed n mode ⌝ }
+{
+    if n > MOST_NODES {
+        return false;
+    }
+    if mode < MODE_CAUSAL {
+        return false;
+    }
+    mode <= MODE_PAULI
+}
+
 fn ask_opening(opening: &[u8]) -> Checked
     ensures { λ r. ⌜ checkedOf r ≡ openingAsks (now (opening .entry)) ⌝ }
 {
     if opening.len() != 2 {
         return Checked::Refused(Refusal::WRONG_LENGTH);
     }
-    if opening[0] > MOST_NODES {
-        return Checked::Refused(Refusal::WRONG_OPENING);
-    }
-    if opening[1] < MODE_CAUSAL {
-        return Checked::Refused(Refusal::WRONG_OPENING);
-    }
-    if opening[1] > MODE_PAULI {
+    if !opening_allowed(number(opening[0]), opening[1]) {
         return Checked::Refused(Refusal::WRONG_OPENING);
     }
     Checked::Passed

@@ -290,7 +290,7 @@ pub fn set_of(nodes: &[u8]) -> NodeSet
     let mut s = NodeSet::empty();
     let mut i = 0;
     while i < nodes.len() {
-        s = s.with(nodes[i]);
+        s = s.with(number(nodes[i]));
         i += 1;
     }
     s

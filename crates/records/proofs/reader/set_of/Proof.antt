@@ -1,9 +1,10 @@
 use mathlib.Core.Path.{_≡_, refl, sym, ap, _∙_, fun-ext}
-use mathlib.Core.Bool.{Bool, _||_}
+use mathlib.Core.Bool.{Bool, _&&_, _||_}
+use lib.Dec.{eqb, leb}
 use Prim.Native.Nat.{ℕ, _+_, _-_, _≤_}
 use native.Mathlib.Omega.{arith}
 use lib.ListN.{length, drop}
-use Rattle.nodes.specs.NodeSet.{member}
+use Rattle.nodes.specs.NodeSet.{member, highest}
 use Rattle.records.proofs.ReadingLoops.{lists, lists-end, lists-more}
 use borrow.Author.Needs.{needs}
 use Rattle.records.proofs.reader.set_of.Statement.{statement}
@@ -21,8 +22,11 @@ empty-requires c κs = search needs
 loop-holds : tie.Need-loop-holds Inv-loop μ-loop
 loop-holds c = (search needs, λ u. rw (c .empty .ensures) refl)
 
-shared-slice-read-with : tie.Need-shared-slice-read-with Inv-loop μ-loop
-shared-slice-read-with c = search needs
+shared-slice-read-number : tie.Need-shared-slice-read-number Inv-loop μ-loop
+shared-slice-read-number c = search needs
+
+number-requires : tie.Need-number-requires Inv-loop μ-loop
+number-requires c κs = search needs
 
 with-requires : tie.Need-with-requires Inv-loop μ-loop
 with-requires c κs = search needs
@@ -35,11 +39,13 @@ loop-less c = search needs
 
 loop-again : tie.Need-loop-again Inv-loop μ-loop
 loop-again c =
-    let l = c .before .before .before .loop in
-    let a = c .before .before .before .before .before .before .args in (
+    let l = c .before .before .before .before .loop in
+    let a = c .before .before .before .before .before .before .before .args in
+    let x = c .before .number in
+    let put = c .with .ensures ∙ ap {B = ℕ → Bool} (λ (v : ℕ) (u : ℕ). member (l .s) u || (eqb u v && leb v highest)) (x .ensures .0) in (
       search needs,
       λ u. l .inv .1 u ∙ lists-more (a .nodes .now) (l .i) u (omega arith) (member (l .s) u)
-          ∙ ap (λ (m : ℕ → Bool). m u || lists (drop (l .i + 1) (a .nodes .now)) u) (sym (c .with .ensures)),
+          ∙ ap (λ (m : ℕ → Bool). m u || lists (drop (l .i + 1) (a .nodes .now)) u) (sym put),
     )
 
 returns : tie.Need-returns Inv-loop μ-loop
@@ -56,7 +62,8 @@ set-of-spec =
     μ-loop
     empty-requires
     loop-holds
-    shared-slice-read-with
+    shared-slice-read-number
+    number-requires
     with-requires
     add-i
     loop-less
