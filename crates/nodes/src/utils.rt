@@ -1,7 +1,7 @@
 // Sets of nodes, a digit for each node, and tables of such sets.
 ghost use mathlib.Core.Path.{_≡_};
 ghost use mathlib.Core.Bool.{false, not, _&&_, _||_};
-ghost use Prim.Native.Nat.{_%_, _^_, _≤_};
+ghost use Prim.Native.Nat.{_+_, _%_, _^_, _≤_};
 ghost use lib.Dec.{eqb, leb, ltb};
 ghost use lib.Bits.{bitXor};
 ghost use lib.ListN.{length, getD, set};
@@ -11,12 +11,18 @@ ghost use Rattle.nodes.specs.NodeSet.{wordBits, highest, capacity, words
 ghost use Rattle.nodes.specs.Lists.{zeros};
 ghost use Rattle.nodes.specs.SetTable.{setAt, putSet, addSet, addSets, raised};
 
-const WORD_BITS: u8 = 64;
+const WORD_BITS: usize = 64;
 
-const SET_WORDS: usize = 2;
+// How many nodes a set can have.
+pub const CAPACITY: usize = NodeSet::HIGHEST + 1;
+
+const SET_WORDS: usize = CAPACITY / WORD_BITS;
+
+// The words of a table with a set for each node.
+pub const TABLE_WORDS: usize = CAPACITY * SET_WORDS;
 
 // The word with one digit, that of node v.
-pub fn mask(v: u8) -> u64
+pub fn mask(v: usize) -> u64
     ensures { λ r. ⌜ r ≡ 2 ^ (v % wordBits) ⌝ }
 {
     1 << (v % WORD_BITS)
@@ -28,7 +34,7 @@ pub struct NodeSet {
 }
 
 impl NodeSet {
-    pub const HIGHEST: u8 = 127;
+    pub const HIGHEST: usize = 127;
 
     pub fn empty() -> Self
         ensures { λ r. ⌜ member r ≡ (λ u. false) ⌝ }
@@ -40,22 +46,22 @@ impl NodeSet {
     pub fn below(n: usize) -> Self
         ensures { λ r. ⌜ member r ≡ (λ u. ltb u n && leb u highest) ⌝ }
     {
-        if n < WORD_BITS as usize {
+        if n < WORD_BITS {
             return NodeSet {
-                low: mask(n as u8) - 1,
+                low: mask(n) - 1,
                 high: 0,
             };
         }
-        if n <= NodeSet::HIGHEST as usize {
+        if n <= NodeSet::HIGHEST {
             return NodeSet {
                 low: !0,
-                high: mask(n as u8) - 1,
+                high: mask(n) - 1,
             };
         }
         NodeSet { low: !0, high: !0 }
     }
 
-    pub fn has(self, v: u8) -> bool
+    pub fn has(self, v: usize) -> bool
         ensures { λ r. ⌜ r ≡ member self v ⌝ }
     {
         if v < WORD_BITS {
@@ -68,7 +74,7 @@ impl NodeSet {
     }
 
     // v is added where a set can have it; else the set is as it was.
-    pub fn with(mut self, v: u8) -> Self
+    pub fn with(mut self, v: usize) -> Self
         ensures { λ r. ⌜ member r ≡ (λ u. member self u || (eqb u v && leb v highest)) ⌝ }
     {
         if v < WORD_BITS {
@@ -79,7 +85,7 @@ impl NodeSet {
         self
     }
 
-    pub fn without(mut self, v: u8) -> Self
+    pub fn without(mut self, v: usize) -> Self
         ensures { λ r. ⌜ member r ≡ (λ u. member self u && not (eqb u v)) ⌝ }
     {
         if v < WORD_BITS {
@@ -152,13 +158,13 @@ impl NodeSet {
     }
 
     // The least member; one past the highest node where there is none.
-    pub fn lowest(self) -> u8
+    pub fn lowest(self) -> usize
         ensures { λ r. ⌜ r ≡ lowest capacity (member self) ⌝ }
     {
         if self.low != 0 {
-            return u64::trailing_zeros(self.low) as u8;
+            return u64::trailing_zeros(self.low) as usize;
         }
-        WORD_BITS + u64::trailing_zeros(self.high) as u8
+        WORD_BITS + u64::trailing_zeros(self.high) as usize
     }
 
     // The least member alone.
@@ -182,19 +188,20 @@ impl NodeSet {
 }
 
 // Set u of a table; a word that lies past the table has no member.
-pub fn set_at(table: &[u64], u: u8) -> NodeSet
+pub fn set_at(table: &[u64], u: usize) -> NodeSet
     ensures { λ r. ⌜ member r ≡ setAt (now (table .entry)) u ⌝ }
 {
-    let at = SET_WORDS * u as usize;
-    if at + 1 < table.len() {
+    if u < table.len() / SET_WORDS {
+        let at = SET_WORDS * u;
         return NodeSet {
             low: table[at],
             high: table[at + 1],
         };
     }
-    if at < table.len() {
+    // the table ends within set u
+    if u < table.len() - table.len() / SET_WORDS {
         return NodeSet {
-            low: table[at],
+            low: table[SET_WORDS * u],
             high: 0,
         };
     }
@@ -202,11 +209,11 @@ pub fn set_at(table: &[u64], u: u8) -> NodeSet
 }
 
 // s becomes set u of the table, where both its words lie in it; else the table is as it was.
-pub fn put_set(table: &mut [u64], u: u8, s: NodeSet)
+pub fn put_set(table: &mut [u64], u: usize, s: NodeSet)
     ensures { λ _. ⌜ now (table .exit) ≡ putSet (now (table .entry)) u (wordsOf s) ⌝ }
 {
-    let at = SET_WORDS * u as usize;
-    if at + 1 < table.len() {
+    if u < table.len() / SET_WORDS {
+        let at = SET_WORDS * u;
         table[at] = s.low;
         table[at + 1] = s.high;
     }
@@ -231,22 +238,23 @@ fn add_word(table: &mut [u64], at: usize, word: u64)
     }
 }
 
-fn add_set(table: &mut [u64], u: u8, x: NodeSet)
+fn add_set(table: &mut [u64], u: usize, x: NodeSet)
+    requires { ⌜ u ≤ capacity + wordBits ⌝ }
     ensures { λ _. ⌜ now (table .exit) ≡ addSet (now (table .entry)) u (wordsOf x) ⌝ }
 {
-    let at = SET_WORDS * u as usize;
+    let at = SET_WORDS * u;
     add_word(table, at, x.low);
     add_word(table, at + 1, x.high);
 }
 
 // x is added to the set of each node whose digit the word has; the word begins with node `base`.
-fn add_in_word(table: &mut [u64], base: u8, word: u64, x: NodeSet)
+fn add_in_word(table: &mut [u64], base: usize, word: u64, x: NodeSet)
     requires { ⌜ base ≤ capacity ⌝ }
     ensures { λ _. ⌜ now (table .exit) ≡ addSets (now (table .entry)) (raised base (members wordBits (bit word))) (wordsOf x) ⌝ }
 {
     let mut left = word;
     while left != 0 {
-        add_set(table, base + u64::trailing_zeros(left) as u8, x);
+        add_set(table, base + u64::trailing_zeros(left) as usize, x);
         left &= left - 1;
     }
 }

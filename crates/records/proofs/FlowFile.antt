@@ -1,25 +1,24 @@
--- Flows: the entries of a sets record and their bytes, what a flow that was read has passed, and what follows for its nodes.
+-- Flows: the entries of a sets record and their bytes, the questions of the records as facts, and what follows for the nodes.
 use Prim.Native.Nat.{ℕ, zero, suc, _+_, _*_, _≤_, _<_, zero-le}
 use mathlib.Core.Path.{_≡_, refl, sym, ap, _∙_}
 use mathlib.Core.Bool.{Bool, true, false, cond, _&&_, _||_, false≢true}
-use mathlib.Core.Logic.{_⊎_, inl, inr, _↔_, _≢_}
+use mathlib.Core.Logic.{_⊎_, inl, inr, _≢_}
 use mathlib.Core.Option.{Option, none, some, Option·some-injective, Option·none-ne-some}
-use mathlib.Core.List.{List, [], _∷_, _++_, append-assoc}
+use mathlib.Core.List.{List, [], _∷_, _++_}
 use native.Mathlib.Omega.{arith}
-use native.Mathlib.Nat.{mul-le-mul, not-suc-le-zero, lt-suc-self, le-of-suc-le-suc}
+use native.Mathlib.Nat.{not-suc-le-zero, lt-suc-self, le-of-suc-le-suc}
 use borrow.Author.Tests.{leb-true, ltb-true, eqb-true, le-leb, eq-eqb, ne-eqb}
 use lib.Dec.{T, eqb, ltb, leb, eqb→eq, eqb-refl}
 use lib.ListN.{length, getD, take, drop, length-append, take-append-drop}
 use lib.Seq.{length-take-le, take-append-seam, drop-append-seam}
 use Rattle.nodes.proofs.Logic.{is-false, from-false, and-l, and-r, or-l, or-r, or-out, or-none, eqb-yes}
-use Rattle.answers.specs.Answer.{Answer, gives, no}
-use Rattle.records.specs.Records.{checked, written, kindLayers, kindSets}
+use Rattle.answers.specs.Answer.{gives, asks, _>>_}
+use Rattle.records.specs.Records.{allYes}
 use Rattle.nodes.specs.Lists.{has, all}
-use Rattle.records.specs.JobFile.{mostNodes, modeCausal, rises}
-use Rattle.records.specs.FlowFile.{SetEntry, addEntry, entriesIn, entriesOf, framed, listed, allEntries, entryBelow, entriesRise, layersNo, setsNo, FlowFile, readSets, readFlow, setIn, entryIn, nothingLeft, oneMember}
-use Rattle.records.specs.Encoding.{entryBytes, flowFileBytes, ValidFlow}
-use Rattle.answers.proofs.Answer.{give-inj, asks-yes, bind-out, no-out}
-use Rattle.records.proofs.Records.{and-out, checked-passed, checked-append, checked-written, record-bytes}
+use Rattle.records.specs.JobFile.{modeCausal, rises}
+use Rattle.records.specs.FlowFile.{SetEntry, addEntry, entriesIn, entriesOf, framed, listed, allEntries, entryBelow, entriesRise, layersAsks, setsAsks, entryBytes, setIn, entryIn, nothingLeft, oneMember}
+use Rattle.answers.proofs.Answer.{asks-yes}
+use Rattle.records.proofs.Records.{and-out, asks-then, asks-last}
 use Rattle.records.proofs.JobFile.{has-below, rises-length}
 
 -- ---- entries and their bytes
@@ -58,76 +57,29 @@ pub entries-encode : (s : List ℕ) (es : List SetEntry) → entriesOf s ≡ som
 entries-encode s es e = bytes-of (suc (length s)) s es e
 
 -- ---- the questions of each record, as facts
-layers-out : (n : ℕ) (p : List ℕ) → layersNo n p ≡ 0 → length p ≡ n
-unfolding layersNo
-layers-out n p e = eqb-true (length p) n (no-out 2 (eqb (length p) n) 0 e .0)
+pub layers-out : (n : ℕ) (p : List ℕ) → allYes (layersAsks n p) ≡ true → length p ≡ n
+unfolding layersAsks
+layers-out n p e = eqb-true (length p) n (asks-last 3 (eqb (length p) n) e)
 
-layers-in : (n : ℕ) (p : List ℕ) → length p ≡ n → layersNo n p ≡ 0
-unfolding layersNo
+pub layers-in : (n : ℕ) (p : List ℕ) → length p ≡ n → allYes (layersAsks n p) ≡ true
+unfolding layersAsks
 layers-in n p e = rw (eq-eqb (length p) n e)
 
 framed-out : (o : Option (List SetEntry)) → framed o ≡ true → o ≡ some (listed o)
 framed-out none e = absurd (false≢true e)
 framed-out (some es) e = refl
 
-sets-out : (n : ℕ) (p : List ℕ) → setsNo n p ≡ 0 → (entriesOf p ≡ some (listed (entriesOf p))) × (allEntries (entryBelow n) (listed (entriesOf p)) ≡ true) × (entriesRise 0 (listed (entriesOf p)) ≡ true)
-unfolding setsNo
+pub sets-out : (n : ℕ) (p : List ℕ) → allYes (setsAsks n p) ≡ true → (entriesOf p ≡ some (listed (entriesOf p))) × (allEntries (entryBelow n) (listed (entriesOf p)) ≡ true) × (entriesRise 0 (listed (entriesOf p)) ≡ true)
+unfolding setsAsks
 sets-out n p e =
-    let (a, b) = no-out 2 (framed (entriesOf p)) (no 5 (allEntries (entryBelow n) (listed (entriesOf p))) (no 6 (entriesRise 0 (listed (entriesOf p))) 0)) e in
-    let (c, d) = no-out 4 (allEntries (entryBelow n) (listed (entriesOf p))) (no 6 (entriesRise 0 (listed (entriesOf p))) 0) b in
-    (framed-out (entriesOf p) a, c, no-out 5 (entriesRise 0 (listed (entriesOf p))) 0 d .0)
+    let es = listed (entriesOf p) in
+    let (a, b) = asks-then 3 (framed (entriesOf p)) (asks 5 (allEntries (entryBelow n) es) >> asks 6 (entriesRise 0 es)) e in
+    let (c, d) = asks-then 5 (allEntries (entryBelow n) es) (asks 6 (entriesRise 0 es)) b in
+    (framed-out (entriesOf p) a, c, asks-last 6 (entriesRise 0 es) d)
 
-sets-in : (n : ℕ) (es : List SetEntry) → allEntries (entryBelow n) es ≡ true → entriesRise 0 es ≡ true → setsNo n (entryBytes es) ≡ 0
-unfolding setsNo
+pub sets-in : (n : ℕ) (es : List SetEntry) → allEntries (entryBelow n) es ≡ true → entriesRise 0 es ≡ true → allYes (setsAsks n (entryBytes es)) ≡ true
+unfolding setsAsks
 sets-in n es a b = rw (entries-back es, a, b)
-
--- ---- the two records of a flow, each with the bytes behind it
-pub record FlowParts (n : ℕ) (s : List ℕ) (g : FlowFile) : Type 0 where
-  pub afterLayers : List ℕ
-  pub layers : checked kindLayers (layersNo n) s ≡ gives (record { payload = g .layers; rest = afterLayers })
-  pub sets : checked kindSets (setsNo n) afterLayers ≡ gives (record { payload = entryBytes (g .sets); rest = g .after })
-
-pub flow-of-parts : (n : ℕ) (s : List ℕ) (g : FlowFile) → FlowParts n s g → readFlow n s ≡ gives g
-unfolding readFlow readSets
-flow-of-parts n s g j = rw (j .layers, j .sets, entries-back (g .sets))
-
-pub flow-parts : (n : ℕ) (s : List ℕ) (g : FlowFile) → readFlow n s ≡ gives g → FlowParts n s g
-unfolding readFlow readSets
-flow-parts n s g e =
-    let (p, a1, e1) = bind-out (checked kindLayers (layersNo n) s) (λ p. readSets n (p .payload) (p .rest)) g e in
-    let (q, a2, e2) = bind-out (checked kindSets (setsNo n) (p .rest)) (λ q. gives (record { layers = p .payload; sets = listed (entriesOf (q .payload)); after = q .rest })) g e1 in
-    let (f, x, y) = sets-out n (q .payload) (checked-passed kindSets (setsNo n) (p .rest) q a2 .1) in
-    let here : FlowFile = record { layers = p .payload; sets = listed (entriesOf (q .payload)); after = q .rest } in
-    same here g e2 (record {
-      afterLayers = p .rest;
-      layers = a1;
-      sets = a2 ∙ ap (λ (t : List ℕ). gives (record { payload = t; rest = q .rest })) (entries-encode (q .payload) (listed (entriesOf (q .payload))) f);
-    })
-  where
-    same : (f g : FlowFile) → _≡_ {A = Answer FlowFile} (gives f) (gives g) → FlowParts n s f → FlowParts n s g
-    same f g e x = let h : f ≡ g = give-inj e in rw h at x
-
--- ---- what reading has asked
-pub flow-asked : (n : ℕ) (s : List ℕ) (g : FlowFile) → readFlow n s ≡ gives g → ValidFlow n g
-flow-asked n s g e =
-    let j : FlowParts n s g = flow-parts n s g e in
-    let (a, b, c) = sets-out n (entryBytes (g .sets)) (checked-passed kindSets (setsNo n) (j .afterLayers) (record { payload = entryBytes (g .sets); rest = g .after }) (j .sets) .1) in
-    let same : listed (entriesOf (entryBytes (g .sets))) ≡ g .sets = ap listed (entries-back (g .sets)) in
-    record {
-      count = layers-out n (g .layers) (checked-passed kindLayers (layersNo n) s (record { payload = g .layers; rest = j .afterLayers }) (j .layers) .1);
-      below = ap (allEntries (entryBelow n)) (sym same) ∙ b;
-      rise = ap (entriesRise 0) (sym same) ∙ c;
-    }
-
--- ---- bytes behind
-pub flow-append : (n : ℕ) (s t : List ℕ) (g : FlowFile) → readFlow n s ≡ gives g → readFlow n (s ++ t) ≡ gives (record { layers = g .layers; sets = g .sets; after = g .after ++ t })
-flow-append n s t g e =
-    let j : FlowParts n s g = flow-parts n s g e in
-    flow-of-parts n (s ++ t) (record { layers = g .layers; sets = g .sets; after = g .after ++ t }) (record {
-      afterLayers = j .afterLayers ++ t;
-      layers = checked-append kindLayers (layersNo n) s t (record { payload = g .layers; rest = j .afterLayers }) (j .layers);
-      sets = checked-append kindSets (setsNo n) (j .afterLayers) t (record { payload = entryBytes (g .sets); rest = g .after }) (j .sets);
-    })
 
 -- ---- how many entries and bytes there can be
 pub entries-few : (low n : ℕ) (es : List SetEntry) → low ≤ n → allEntries (entryBelow n) es ≡ true → entriesRise low es ≡ true → length es + low ≤ n
@@ -151,32 +103,6 @@ entry-bytes-length low n (e ∷ es) a b =
     let ih : length (entryBytes es) ≤ length es * (n + 2) = entry-bytes-length (e .node + 1) n es q t in
     let l : length (e .set ++ entryBytes es) ≡ length (e .set) + length (entryBytes es) = length-append (e .set) (entryBytes es) in
     omega arith
-
--- ---- the bytes of a flow
-pub flow-decodes : (n : ℕ) (g : FlowFile) → n ≤ mostNodes → ValidFlow n g → readFlow n (flowFileBytes g ++ g .after) ≡ gives g
-flow-decodes n g h v =
-    let few : length (g .sets) + 0 ≤ n = entries-few 0 n (g .sets) zero-le (v .below) (v .rise) in
-    let long : length (entryBytes (g .sets)) ≤ length (g .sets) * (n + 2) = entry-bytes-length 0 n (g .sets) (v .below) (v .rise) in
-    let most : length (g .sets) * (n + 2) ≤ 128 * 130 = mul-le-mul {n₁ = length (g .sets)} {m₁ = n + 2} {n₂ = 128} {m₂ = 130} (omega arith) (omega arith) in
-    let layers : length (g .layers) ≡ n = v .count in
-    ap (readFlow n) (append-assoc (written kindLayers (g .layers)) (written kindSets (entryBytes (g .sets))) (g .after))
-    ∙ flow-of-parts n (written kindLayers (g .layers) ++ (written kindSets (entryBytes (g .sets)) ++ g .after)) g (record {
-      afterLayers = written kindSets (entryBytes (g .sets)) ++ g .after;
-      layers = checked-written kindLayers (layersNo n) (g .layers) (written kindSets (entryBytes (g .sets)) ++ g .after) (omega arith) (layers-in n (g .layers) (v .count));
-      sets = checked-written kindSets (setsNo n) (entryBytes (g .sets)) (g .after) (omega arith) (sets-in n (g .sets) (v .below) (v .rise));
-    })
-
--- from bytes below 256 only these are read as the flow
-pub flow-encodes : (n : ℕ) (s : List ℕ) (g : FlowFile) → all (λ b. ltb b 256) s ≡ true → readFlow n s ≡ gives g → s ≡ flowFileBytes g ++ g .after
-flow-encodes n s g h e =
-    let j : FlowParts n s g = flow-parts n s g e in
-    let (q1, h1) = record-bytes kindLayers (layersNo n) s (record { payload = g .layers; rest = j .afterLayers }) h (j .layers) in
-    let (q2, h2) = record-bytes kindSets (setsNo n) (j .afterLayers) (record { payload = entryBytes (g .sets); rest = g .after }) h1 (j .sets) in
-    q1 ∙ ap (λ (t : List ℕ). written kindLayers (g .layers) ++ t) q2 ∙ sym (append-assoc (written kindLayers (g .layers)) (written kindSets (entryBytes (g .sets))) (g .after))
-
--- bytes below 256 are read as a flow just where they are its bytes, and it is valid
-pub flow-exact : (n : ℕ) (s : List ℕ) (g : FlowFile) → n ≤ mostNodes → all (λ b. ltb b 256) s ≡ true → (readFlow n s ≡ gives g ↔ (s ≡ flowFileBytes g ++ g .after) × ValidFlow n g)
-flow-exact n s g k h = (λ e. (flow-encodes n s g h e, flow-asked n s g e), λ x. ap (readFlow n) (x .0) ∙ flow-decodes n g k (x .1))
 
 -- ---- what follows for the nodes
 pub entries-at : (f : SetEntry → Bool) (es : List SetEntry) (d : SetEntry) (i : ℕ) → allEntries f es ≡ true → i < length es → f (getD es i d) ≡ true

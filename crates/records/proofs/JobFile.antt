@@ -1,146 +1,73 @@
--- Jobs: what a job that was read has passed, its bytes, and what follows for its nodes.
+-- Jobs: the questions of their records as facts, and what follows for their nodes.
 use Prim.Native.Nat.{ℕ, zero, suc, _+_, _*_, _%_, _≤_, _<_, zero-le}
 use mathlib.Core.Path.{_≡_, refl, sym, ap, ap₂, _∙_}
 use mathlib.Core.Bool.{Bool, true, false, cond, _&&_, _||_}
-use mathlib.Core.Logic.{_⊎_, inl, inr, _↔_}
-use mathlib.Core.List.{List, [], _∷_, _++_, append-assoc}
+use mathlib.Core.Logic.{_⊎_, inl, inr}
+use mathlib.Core.List.{List, [], _∷_}
 use native.Mathlib.Omega.{arith}
 use native.Mathlib.Nat.{not-suc-le-zero, le-of-suc-le-suc}
 use borrow.Author.Tests.{leb-true, ltb-true, eqb-true, le-leb, lt-ltb, eq-eqb}
 use lib.Dec.{T, eqb, ltb, leb, eqb→eq}
 use lib.ListN.{length, getD, List·getD-eq-default}
 use Rattle.nodes.proofs.Logic.{is-false, and-l, and-r, or-out, or-comm, lt-or-ge}
-use Rattle.answers.specs.Answer.{Answer, gives, no}
-use Rattle.records.specs.Records.{checked, written, kindOpen, kindEdges, kindInputs, kindOutputs, kindMeasurements}
+use Rattle.answers.specs.Answer.{asks, _>>_}
+use Rattle.records.specs.Records.{allYes}
+use Rattle.nodes.specs.NodeSet.{highest}
 use Rattle.nodes.specs.Lists.{has, all}
-use Rattle.records.specs.JobFile.{JobFile, modeCausal, modePlanes, rises, pairsRise, highestOf, allows, allAllowed, openNo, edgesNo, nodesNo, measurementsNo, readMeasurements, readOutputs, readInputs, readEdges, readJob, joined, jobOf}
-use Rattle.records.specs.Encoding.{jobBytes, ValidJob}
-use Rattle.answers.proofs.Answer.{give-inj, bind-out, no-out}
-use Rattle.records.proofs.Records.{and-out, checked-passed, checked-append, checked-written, record-bytes}
+use Rattle.records.specs.JobFile.{JobFile, mostNodes, modeCausal, modePlanes, modePauli, wholePairs, nodesBelow, rises, pairsRise, highestOf, allows, allAllowed, openingAllowed, openingAsks, edgesAsks, nodesAsks, measurementsAsks, joined, jobOf}
+use Rattle.records.specs.Encoding.{ValidJob}
+use Rattle.records.proofs.Records.{and-out, asks-then, asks-last}
 
 -- ---- the questions of each record, as facts
-two-bytes : (l : List ℕ) → length l ≡ 2 → l ≡ getD l 0 0 ∷ getD l 1 0 ∷ []
-two-bytes [] e = absurd (omega arith)
-two-bytes (a ∷ []) e = absurd (omega arith)
-two-bytes (a ∷ b ∷ []) e = refl
-two-bytes (a ∷ b ∷ c ∷ l) e = absurd (omega arith)
+pub allowed-out : (n mode : ℕ) → openingAllowed n mode ≡ true → (n ≤ mostNodes) × (modeCausal ≤ mode) × (mode ≤ modePauli)
+allowed-out n mode e =
+    let (g, h) = and-out (leb n mostNodes && leb modeCausal mode) (leb mode modePauli) e in
+    let (i, j) = and-out (leb n mostNodes) (leb modeCausal mode) g in
+    (leb-true n mostNodes i, leb-true modeCausal mode j, leb-true mode modePauli h)
 
-open-out : (p : List ℕ) → openNo p ≡ 0 → (p ≡ getD p 0 0 ∷ getD p 1 0 ∷ []) × (getD p 0 0 ≤ 128) × (1 ≤ getD p 1 0) × (getD p 1 0 ≤ 3)
-unfolding openNo
-open-out p e =
-    let (a, b) = no-out 2 (eqb (length p) 2) (no 4 (leb (getD p 0 0) 128 && leb 1 (getD p 1 0) && leb (getD p 1 0) 3) 0) e in
-    let (d, f) = no-out 3 (leb (getD p 0 0) 128 && leb 1 (getD p 1 0) && leb (getD p 1 0) 3) 0 b in
-    let (g, h) = and-out (leb (getD p 0 0) 128 && leb 1 (getD p 1 0)) (leb (getD p 1 0) 3) d in
-    let (i, j) = and-out (leb (getD p 0 0) 128) (leb 1 (getD p 1 0)) g in
-    (two-bytes p (eqb-true (length p) 2 a), leb-true (getD p 0 0) 128 i, leb-true 1 (getD p 1 0) j, leb-true (getD p 1 0) 3 h)
+pub allowed-in : (n mode : ℕ) → n ≤ mostNodes → modeCausal ≤ mode → mode ≤ modePauli → openingAllowed n mode ≡ true
+allowed-in n mode a b c = rw (le-leb n mostNodes a, le-leb modeCausal mode b, le-leb mode modePauli c)
 
-open-in : (n mode : ℕ) → n ≤ 128 → 1 ≤ mode → mode ≤ 3 → openNo (n ∷ mode ∷ []) ≡ 0
-unfolding openNo
-open-in n mode a b c = rw (le-leb n 128 a, le-leb 1 mode b, le-leb mode 3 c)
+pub opening-out : (p : List ℕ) → allYes (openingAsks p) ≡ true → (length p ≡ 2) × (openingAllowed (getD p 0 0) (getD p 1 0) ≡ true)
+unfolding openingAsks
+opening-out p e =
+    let (a, b) = asks-then 3 (eqb (length p) 2) (asks 4 (openingAllowed (getD p 0 0) (getD p 1 0))) e in
+    (eqb-true (length p) 2 a, asks-last 4 (openingAllowed (getD p 0 0) (getD p 1 0)) b)
 
-edges-out : (n : ℕ) (p : List ℕ) → edgesNo n p ≡ 0 → (length p % 2 ≡ 0) × (all (λ v. ltb v n) p ≡ true) × (pairsRise 0 p ≡ true)
-unfolding edgesNo
+pub opening-in : (n mode : ℕ) → openingAllowed n mode ≡ true → allYes (openingAsks (n ∷ mode ∷ [])) ≡ true
+unfolding openingAsks
+opening-in n mode a = rw a
+
+pub edges-out : (n : ℕ) (p : List ℕ) → allYes (edgesAsks n p) ≡ true → (length p % 2 ≡ 0) × (nodesBelow n p ≡ true) × (pairsRise 0 p ≡ true)
+unfolding edgesAsks
 edges-out n p e =
-    let (a, b) = no-out 2 (eqb (length p % 2) 0) (no 5 (all (λ v. ltb v n) p) (no 6 (pairsRise 0 p) 0)) e in
-    let (d, f) = no-out 4 (all (λ v. ltb v n) p) (no 6 (pairsRise 0 p) 0) b in
-    (eqb-true (length p % 2) 0 a, d, no-out 5 (pairsRise 0 p) 0 f .0)
+    let (a, b) = asks-then 3 (wholePairs p) (asks 5 (nodesBelow n p) >> asks 6 (pairsRise 0 p)) e in
+    let (d, f) = asks-then 5 (nodesBelow n p) (asks 6 (pairsRise 0 p)) b in
+    (eqb-true (length p % 2) 0 a, d, asks-last 6 (pairsRise 0 p) f)
 
-edges-in : (n : ℕ) (p : List ℕ) → length p % 2 ≡ 0 → all (λ v. ltb v n) p ≡ true → pairsRise 0 p ≡ true → edgesNo n p ≡ 0
-unfolding edgesNo
+pub edges-in : (n : ℕ) (p : List ℕ) → length p % 2 ≡ 0 → nodesBelow n p ≡ true → pairsRise 0 p ≡ true → allYes (edgesAsks n p) ≡ true
+unfolding edgesAsks
 edges-in n p a b c = rw (a, b, c)
 
-pub nodes-out : (n : ℕ) (p : List ℕ) → nodesNo n p ≡ 0 → (all (λ v. ltb v n) p ≡ true) × (rises 0 p ≡ true)
-unfolding nodesNo
+pub nodes-out : (n : ℕ) (p : List ℕ) → allYes (nodesAsks n p) ≡ true → (nodesBelow n p ≡ true) × (rises 0 p ≡ true)
+unfolding nodesAsks
 nodes-out n p e =
-    let (a, b) = no-out 4 (all (λ v. ltb v n) p) (no 6 (rises 0 p) 0) e in
-    (a, no-out 5 (rises 0 p) 0 b .0)
+    let (a, b) = asks-then 5 (nodesBelow n p) (asks 6 (rises 0 p)) e in
+    (a, asks-last 6 (rises 0 p) b)
 
-nodes-in : (n : ℕ) (p : List ℕ) → all (λ v. ltb v n) p ≡ true → rises 0 p ≡ true → nodesNo n p ≡ 0
-unfolding nodesNo
+pub nodes-in : (n : ℕ) (p : List ℕ) → nodesBelow n p ≡ true → rises 0 p ≡ true → allYes (nodesAsks n p) ≡ true
+unfolding nodesAsks
 nodes-in n p a b = rw (a, b)
 
-measurements-out : (n mode : ℕ) (output : ℕ → Bool) (p : List ℕ) → measurementsNo n mode output p ≡ 0 → (length p ≡ n) × (allAllowed mode output 0 p ≡ true)
-unfolding measurementsNo
+pub measurements-out : (n mode : ℕ) (output : ℕ → Bool) (p : List ℕ) → allYes (measurementsAsks n mode output p) ≡ true → (length p ≡ n) × (allAllowed mode output 0 p ≡ true)
+unfolding measurementsAsks
 measurements-out n mode output p e =
-    let (a, b) = no-out 2 (eqb (length p) n) (no 7 (allAllowed mode output 0 p) 0) e in
-    (eqb-true (length p) n a, no-out 6 (allAllowed mode output 0 p) 0 b .0)
+    let (a, b) = asks-then 3 (eqb (length p) n) (asks 7 (allAllowed mode output 0 p)) e in
+    (eqb-true (length p) n a, asks-last 7 (allAllowed mode output 0 p) b)
 
-measurements-in : (n mode : ℕ) (output : ℕ → Bool) (p : List ℕ) → length p ≡ n → allAllowed mode output 0 p ≡ true → measurementsNo n mode output p ≡ 0
-unfolding measurementsNo
+pub measurements-in : (n mode : ℕ) (output : ℕ → Bool) (p : List ℕ) → length p ≡ n → allAllowed mode output 0 p ≡ true → allYes (measurementsAsks n mode output p) ≡ true
+unfolding measurementsAsks
 measurements-in n mode output p a b = rw (eq-eqb (length p) n a, b)
-
--- ---- the five records of a job, each with the bytes behind it
-pub record JobParts (s : List ℕ) (f : JobFile) : Type 0 where
-  pub afterOpen : List ℕ
-  pub afterEdges : List ℕ
-  pub afterInputs : List ℕ
-  pub afterOutputs : List ℕ
-  pub opened : checked kindOpen openNo s ≡ gives (record { payload = f .n ∷ f .mode ∷ []; rest = afterOpen })
-  pub edges : checked kindEdges (edgesNo (f .n)) afterOpen ≡ gives (record { payload = f .edges; rest = afterEdges })
-  pub inputs : checked kindInputs (nodesNo (f .n)) afterEdges ≡ gives (record { payload = f .inputs; rest = afterInputs })
-  pub outputs : checked kindOutputs (nodesNo (f .n)) afterInputs ≡ gives (record { payload = f .outputs; rest = afterOutputs })
-  pub measurements : checked kindMeasurements (measurementsNo (f .n) (f .mode) (has (f .outputs))) afterOutputs ≡ gives (record { payload = f .measurements; rest = f .after })
-
-pub job-of-parts : (s : List ℕ) (f : JobFile) → JobParts s f → readJob s ≡ gives f
-unfolding readJob readEdges readInputs readOutputs readMeasurements
-job-of-parts s f j = rw (j .opened, j .edges, j .inputs, j .outputs, j .measurements)
-
-pub job-parts : (s : List ℕ) (f : JobFile) → readJob s ≡ gives f → JobParts s f
-unfolding readJob readEdges readInputs readOutputs readMeasurements
-job-parts s f e =
-    let (p, a1, e1) = bind-out (checked kindOpen openNo s) (λ p. readEdges (getD (p .payload) 0 0) (getD (p .payload) 1 0) (p .rest)) f e in
-    let n = getD (p .payload) 0 0 in
-    let m = getD (p .payload) 1 0 in
-    let (q, a2, e2) = bind-out (checked kindEdges (edgesNo n) (p .rest)) (λ q. readInputs n m (q .payload) (q .rest)) f e1 in
-    let (i, a3, e3) = bind-out (checked kindInputs (nodesNo n) (q .rest)) (λ i. readOutputs n m (q .payload) (i .payload) (i .rest)) f e2 in
-    let (o, a4, e4) = bind-out (checked kindOutputs (nodesNo n) (i .rest)) (λ o. readMeasurements n m (q .payload) (i .payload) (o .payload) (o .rest)) f e3 in
-    let (d, a5, e5) = bind-out (checked kindMeasurements (measurementsNo n m (has (o .payload))) (o .rest)) (λ d. gives (record { n = n; mode = m; edges = q .payload; inputs = i .payload; outputs = o .payload; measurements = d .payload; after = d .rest })) f e4 in
-    let (l, x, y, z) = open-out (p .payload) (checked-passed kindOpen openNo s p a1 .1) in
-    let here : JobFile = record { n = n; mode = m; edges = q .payload; inputs = i .payload; outputs = o .payload; measurements = d .payload; after = d .rest } in
-    same here f e5 (record {
-      afterOpen = p .rest;
-      afterEdges = q .rest;
-      afterInputs = i .rest;
-      afterOutputs = o .rest;
-      opened = a1 ∙ ap (λ (t : List ℕ). gives (record { payload = t; rest = p .rest })) l;
-      edges = a2;
-      inputs = a3;
-      outputs = a4;
-      measurements = a5;
-    })
-  where
-    same : (g f : JobFile) → _≡_ {A = Answer JobFile} (gives g) (gives f) → JobParts s g → JobParts s f
-    same g f e x = let h : g ≡ f = give-inj e in rw h at x
-
--- ---- what reading has asked
-pub job-asked : (s : List ℕ) (f : JobFile) → readJob s ≡ gives f → ValidJob f
-job-asked s f e =
-    let j : JobParts s f = job-parts s f e in
-    let (o1, o2, o3, o4) = open-out (f .n ∷ f .mode ∷ []) (checked-passed kindOpen openNo s (record { payload = f .n ∷ f .mode ∷ []; rest = j .afterOpen }) (j .opened) .1) in
-    let (e1, e2, e3) = edges-out (f .n) (f .edges) (checked-passed kindEdges (edgesNo (f .n)) (j .afterOpen) (record { payload = f .edges; rest = j .afterEdges }) (j .edges) .1) in
-    let (i1, i2) = nodes-out (f .n) (f .inputs) (checked-passed kindInputs (nodesNo (f .n)) (j .afterEdges) (record { payload = f .inputs; rest = j .afterInputs }) (j .inputs) .1) in
-    let (u1, u2) = nodes-out (f .n) (f .outputs) (checked-passed kindOutputs (nodesNo (f .n)) (j .afterInputs) (record { payload = f .outputs; rest = j .afterOutputs }) (j .outputs) .1) in
-    let (m1, m2) = measurements-out (f .n) (f .mode) (has (f .outputs)) (f .measurements) (checked-passed kindMeasurements (measurementsNo (f .n) (f .mode) (has (f .outputs))) (j .afterOutputs) (record { payload = f .measurements; rest = f .after }) (j .measurements) .1) in
-    record { few = o2; modeFrom = o3; modeTo = o4; pairs = e1; edgesBelow = e2; edgesRise = e3; inputsBelow = i1; inputsRise = i2; outputsBelow = u1; outputsRise = u2; count = m1; allowed = m2 }
-
--- ---- bytes behind
-abbrev pub behind : JobFile → List ℕ → JobFile
-behind f g = record { n = f .n; mode = f .mode; edges = f .edges; inputs = f .inputs; outputs = f .outputs; measurements = f .measurements; after = f .after ++ g }
-
-pub job-append : (s g : List ℕ) (f : JobFile) → readJob s ≡ gives f → readJob (s ++ g) ≡ gives (behind f g)
-job-append s g f e =
-    let j : JobParts s f = job-parts s f e in
-    job-of-parts (s ++ g) (behind f g) (record {
-      afterOpen = j .afterOpen ++ g;
-      afterEdges = j .afterEdges ++ g;
-      afterInputs = j .afterInputs ++ g;
-      afterOutputs = j .afterOutputs ++ g;
-      opened = checked-append kindOpen openNo s g (record { payload = f .n ∷ f .mode ∷ []; rest = j .afterOpen }) (j .opened);
-      edges = checked-append kindEdges (edgesNo (f .n)) (j .afterOpen) g (record { payload = f .edges; rest = j .afterEdges }) (j .edges);
-      inputs = checked-append kindInputs (nodesNo (f .n)) (j .afterEdges) g (record { payload = f .inputs; rest = j .afterInputs }) (j .inputs);
-      outputs = checked-append kindOutputs (nodesNo (f .n)) (j .afterInputs) g (record { payload = f .outputs; rest = j .afterOutputs }) (j .outputs);
-      measurements = checked-append kindMeasurements (measurementsNo (f .n) (f .mode) (has (f .outputs))) (j .afterOutputs) g (record { payload = f .measurements; rest = f .after }) (j .measurements);
-    })
 
 -- ---- how long lists of nodes and of pairs can be
 pub rises-length : (low n : ℕ) (l : List ℕ) → low ≤ n → all (λ v. ltb v n) l ≡ true → rises low l ≡ true → length l + low ≤ n
@@ -168,55 +95,6 @@ pairs-length low n (x ∷ y ∷ l) k h a b =
     let ih : length l + 2 * (256 * x + y + 1) ≤ 131073 = pairs-length (256 * x + y + 1) n l k (omega arith) q2 t in
     omega arith
 
--- ---- the bytes of a job
--- the five records, the first one first
-chain : (a b c d e g : List ℕ) → a ++ b ++ c ++ d ++ e ++ g ≡ a ++ (b ++ (c ++ (d ++ (e ++ g))))
-chain a b c d e g = append-assoc (a ++ b ++ c ++ d) e g ∙ append-assoc (a ++ b ++ c) d (e ++ g) ∙ append-assoc (a ++ b) c (d ++ (e ++ g)) ∙ append-assoc a b (c ++ (d ++ (e ++ g)))
-
-pub job-decodes : (f : JobFile) → ValidJob f → readJob (jobBytes f ++ f .after) ≡ gives f
-job-decodes f v =
-    let edges-few : length (f .edges) + 2 * 0 ≤ 131073 = pairs-length 0 (f .n) (f .edges) (omega (arith, v .few)) zero-le (v .edgesBelow) (v .edgesRise) in
-    let inputs-few : length (f .inputs) + 0 ≤ f .n = rises-length 0 (f .n) (f .inputs) zero-le (v .inputsBelow) (v .inputsRise) in
-    let outputs-few : length (f .outputs) + 0 ≤ f .n = rises-length 0 (f .n) (f .outputs) zero-le (v .outputsBelow) (v .outputsRise) in
-    let few : f .n ≤ 128 = v .few in
-    let all-few : length (f .measurements) ≡ f .n = v .count in
-    let rest5 : List ℕ = written kindMeasurements (f .measurements) ++ f .after in
-    let rest4 : List ℕ = written kindOutputs (f .outputs) ++ rest5 in
-    let rest3 : List ℕ = written kindInputs (f .inputs) ++ rest4 in
-    let rest2 : List ℕ = written kindEdges (f .edges) ++ rest3 in
-    ap readJob (chain (written kindOpen (f .n ∷ f .mode ∷ [])) (written kindEdges (f .edges)) (written kindInputs (f .inputs)) (written kindOutputs (f .outputs)) (written kindMeasurements (f .measurements)) (f .after))
-    ∙ job-of-parts (written kindOpen (f .n ∷ f .mode ∷ []) ++ rest2) f (record {
-      afterOpen = rest2;
-      afterEdges = rest3;
-      afterInputs = rest4;
-      afterOutputs = rest5;
-      opened = checked-written kindOpen openNo (f .n ∷ f .mode ∷ []) rest2 (omega arith) (open-in (f .n) (f .mode) (v .few) (v .modeFrom) (v .modeTo));
-      edges = checked-written kindEdges (edgesNo (f .n)) (f .edges) rest3 (omega arith) (edges-in (f .n) (f .edges) (v .pairs) (v .edgesBelow) (v .edgesRise));
-      inputs = checked-written kindInputs (nodesNo (f .n)) (f .inputs) rest4 (omega arith) (nodes-in (f .n) (f .inputs) (v .inputsBelow) (v .inputsRise));
-      outputs = checked-written kindOutputs (nodesNo (f .n)) (f .outputs) rest5 (omega arith) (nodes-in (f .n) (f .outputs) (v .outputsBelow) (v .outputsRise));
-      measurements = checked-written kindMeasurements (measurementsNo (f .n) (f .mode) (has (f .outputs))) (f .measurements) (f .after) (omega arith) (measurements-in (f .n) (f .mode) (has (f .outputs)) (f .measurements) (v .count) (v .allowed));
-    })
-
--- from bytes below 256 only these are read as the job
-pub job-encodes : (s : List ℕ) (f : JobFile) → all (λ b. ltb b 256) s ≡ true → readJob s ≡ gives f → s ≡ jobBytes f ++ f .after
-job-encodes s f h e =
-    let j : JobParts s f = job-parts s f e in
-    let (q1, h1) = record-bytes kindOpen openNo s (record { payload = f .n ∷ f .mode ∷ []; rest = j .afterOpen }) h (j .opened) in
-    let (q2, h2) = record-bytes kindEdges (edgesNo (f .n)) (j .afterOpen) (record { payload = f .edges; rest = j .afterEdges }) h1 (j .edges) in
-    let (q3, h3) = record-bytes kindInputs (nodesNo (f .n)) (j .afterEdges) (record { payload = f .inputs; rest = j .afterInputs }) h2 (j .inputs) in
-    let (q4, h4) = record-bytes kindOutputs (nodesNo (f .n)) (j .afterInputs) (record { payload = f .outputs; rest = j .afterOutputs }) h3 (j .outputs) in
-    let (q5, h5) = record-bytes kindMeasurements (measurementsNo (f .n) (f .mode) (has (f .outputs))) (j .afterOutputs) (record { payload = f .measurements; rest = f .after }) h4 (j .measurements) in
-    q1
-    ∙ ap (λ (t : List ℕ). written kindOpen (f .n ∷ f .mode ∷ []) ++ t) (q2
-    ∙ ap (λ (t : List ℕ). written kindEdges (f .edges) ++ t) (q3
-    ∙ ap (λ (t : List ℕ). written kindInputs (f .inputs) ++ t) (q4
-    ∙ ap (λ (t : List ℕ). written kindOutputs (f .outputs) ++ t) q5)))
-    ∙ sym (chain (written kindOpen (f .n ∷ f .mode ∷ [])) (written kindEdges (f .edges)) (written kindInputs (f .inputs)) (written kindOutputs (f .outputs)) (written kindMeasurements (f .measurements)) (f .after))
-
--- bytes below 256 are read as a job just where they are its bytes, and it is valid
-pub job-exact : (s : List ℕ) (f : JobFile) → all (λ b. ltb b 256) s ≡ true → (readJob s ≡ gives f ↔ (s ≡ jobBytes f ++ f .after) × ValidJob f)
-job-exact s f h = (λ e. (job-encodes s f h e, job-asked s f e), λ x. ap readJob (x .0) ∙ job-decodes f (x .1))
-
 -- ---- what follows for the nodes
 -- what all elements pass, each member passes
 pub all-has : (f : ℕ → Bool) (l : List ℕ) (u : ℕ) → all f l ≡ true → T (has l u) → f u ≡ true
@@ -232,6 +110,18 @@ all-has f (x ∷ l) u a t =
 
 pub has-below : (n : ℕ) (l : List ℕ) (u : ℕ) → all (λ v. ltb v n) l ≡ true → T (has l u) → u < n
 has-below n l u a t = ltb-true u n (all-has (λ v. ltb v n) l u a t)
+
+-- nodes that are below n can all be in a set
+pub has-small : (n : ℕ) (l : List ℕ) → n ≤ mostNodes → nodesBelow n l ≡ true → (u : ℕ) → has l u && leb u highest ≡ has l u
+unfolding has all
+has-small n [] h t u = refl
+has-small n (a ∷ l) h t u =
+    let (x, y) = and-out (ltb a n) (all (λ v. ltb v n) l) t in
+    here (eqb a u) refl (ltb-true a n x) (has-small n l h y u)
+  where
+    here : (b : Bool) → b ≡ eqb a u → a < n → has l u && leb u highest ≡ has l u → (b || has l u) && leb u highest ≡ b || has l u
+    here true e x ih = let p : a ≡ u = eqb-true a u (sym e) in le-leb u highest (omega arith)
+    here false e x ih = ih
 
 pub joined-sym : (l : List ℕ) (u v : ℕ) → joined l u v ≡ joined l v u
 unfolding joined

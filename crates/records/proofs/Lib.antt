@@ -1,12 +1,15 @@
+pub mod Encoding
 pub mod FlowFile
+pub mod Format
 pub mod JobFile
 pub mod Places
 pub mod ReadingEntries
+pub mod ReadingFiles
 pub mod ReadingHead
 pub mod ReadingLoops
 pub mod ReadingMeasurements
-pub mod ReadingRecords
 pub mod Records
 pub mod Splice
+pub mod Views
 pub mod Writing
 pub mod WritingLoops

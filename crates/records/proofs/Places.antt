@@ -6,7 +6,7 @@ use native.Mathlib.Omega.{arith}
 use lib.ListN.{length, drop, length-drop}
 use Rattle.records.specs.JobFile.{JobFile}
 use Rattle.records.specs.FlowFile.{FlowFile}
-use Rattle.records.specs.Views.{bytesAt, LiesBehind, openingBytes, fileAt, JobLies, flowAt, FlowLies}
+use Rattle.records.specs.Views.{bytesAt, PayloadAt, openingBytes, jobAt, JobInFile, flowAt, FlowInFile}
 use Rattle.records.specs.declared.common.Place.{Place}
 use Rattle.records.specs.declared.common.JobPlaces.{JobPlaces}
 use Rattle.records.specs.declared.common.FlowPlaces.{FlowPlaces}
@@ -15,7 +15,7 @@ use Rattle.records.proofs.ReadingHead.{between-length}
 same-place : (p q : Place) → p .start ≡ q .start → p .end ≡ q .end → p ≡ q
 same-place p q a b = ap₂ {C = Place} (λ (x y : ℕ). record { start = x; end = y }) a b
 
-module _ (s : List ℕ) (at : ℕ) (p q : Place) (lp : LiesBehind s at p) (lq : LiesBehind s at q) where
+module _ (s : List ℕ) (at : ℕ) (p q : Place) (lp : PayloadAt s at p) (lq : PayloadAt s at q) where
   -- by as many bytes
   by-bytes : bytesAt p s ≡ bytesAt q s → p ≡ q
   by-bytes e =
@@ -30,10 +30,10 @@ module _ (s : List ℕ) (at : ℕ) (p q : Place) (lp : LiesBehind s at p) (lq : 
       same-place p q (omega arith) (omega arith)
 
 -- a record that starts where a payload ends starts where the same payload ends
-from-same : (s : List ℕ) (p q r : Place) → p ≡ q → LiesBehind s (q .end) r → LiesBehind s (p .end) r
+from-same : (s : List ℕ) (p q r : Place) → p ≡ q → PayloadAt s (q .end) r → PayloadAt s (p .end) r
 from-same s p q r e l = rw e l
 
-pub job-places : (s : List ℕ) (p q : JobPlaces) → JobLies s p → JobLies s q → fileAt s p ≡ fileAt s q → p ≡ q
+pub job-places : (s : List ℕ) (p q : JobPlaces) → JobInFile s p → JobInFile s q → jobAt s p ≡ jobAt s q → p ≡ q
 job-places s p q lp lq e =
     let a = by-bytes s openingBytes (p .edges) (q .edges) (lp .edges) (lq .edges) (ap (λ (f : JobFile). f .edges) e) in
     let b = by-bytes s _ (p .inputs) (q .inputs) (lp .inputs) (from-same s (p .edges) (q .edges) (q .inputs) a (lq .inputs)) (ap (λ (f : JobFile). f .inputs) e) in
@@ -45,7 +45,7 @@ job-places s p q lp lq e =
         → _≡_ {A = JobPlaces} (record { n = n; mode = m; edges = a; inputs = b; outputs = c; measurements = d }) (record { n = n′; mode = m′; edges = a′; inputs = b′; outputs = c′; measurements = d′ })
     make n m a b c d = rw (n, m, a, b, c, d)
 
-pub flow-places : (s : List ℕ) (at : ℕ) (p q : FlowPlaces) → FlowLies s at p → FlowLies s at q → flowAt s p ≡ flowAt s q → p ≡ q
+pub flow-places : (s : List ℕ) (at : ℕ) (p q : FlowPlaces) → FlowInFile s at p → FlowInFile s at q → flowAt s p ≡ flowAt s q → p ≡ q
 flow-places s at p q lp lq e =
     let a = by-bytes s _ (p .layers) (q .layers) (lp .layers) (lq .layers) (ap (λ (f : FlowFile). f .layers) e) in
     let b = by-rest s _ (p .sets) (q .sets) (lp .sets) (from-same s (p .layers) (q .layers) (q .sets) a (lq .sets)) (ap (λ (f : FlowFile). f .after) e) in

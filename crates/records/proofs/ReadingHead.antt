@@ -1,12 +1,12 @@
 -- Bytes at a place of the file, and the record that starts there, from what the code tests.
-use mathlib.Core.Path.{_≡_, _∙_}
-use mathlib.Core.List.{List}
+use mathlib.Core.Path.{_≡_, refl, sym, _∙_}
+use mathlib.Core.List.{List, []}
 use Prim.Native.Nat.{ℕ, _+_, _*_, _-_, _<_, _≤_}
 use native.Mathlib.Nat.{add-zero}
 use native.Mathlib.Omega.{arith}
 use borrow.Author.Tests.{le-leb, lt-leb, eq-eqb, ne-eqb}
-use lib.ListN.{length, getD, drop, length-drop}
-use lib.Seq.{getD-take, getD-drop, drop-drop, length-take-le}
+use lib.ListN.{length, getD, drop, length-drop, drop-of-length-le}
+use lib.Seq.{take-all, take-nil, getD-take, getD-drop, drop-drop, length-take-le}
 use Rattle.answers.specs.Answer.{gives, refuses, refusal}
 use Rattle.records.specs.Records.{part, lengthField, kindField}
 use Rattle.records.specs.Views.{between}
@@ -16,6 +16,17 @@ between-at a b s k h = getD-take (b - a) (drop a s) k 0 h ∙ getD-drop a s k 0
 
 pub between-length : (a b : ℕ) (s : List ℕ) → a ≤ b → b ≤ length s → length (between a b s) ≡ b - a
 between-length a b s h g = length-take-le (b - a) (drop a s) (simp length-drop (omega arith))
+
+-- of a place whose end is not past its start, or whose start is not before the end of the file, there are no bytes
+pub between-none : (a b : ℕ) (s : List ℕ) → b ≤ a → [] ≡ between a b s
+between-none a b s h = let e : b - a ≡ 0 = omega arith in rw e refl
+
+pub between-past : (a b : ℕ) (s : List ℕ) → length s ≤ a → [] ≡ between a b s
+between-past a b s h = rw (drop-of-length-le s h) (sym (take-nil (b - a)))
+
+-- up to the end of the file
+pub between-end : (a b : ℕ) (s : List ℕ) → length s ≤ b → between a (length s) s ≡ between a b s
+between-end a b s h = take-all (length s - a) (drop a s) (simp length-drop (omega arith)) ∙ sym (take-all (b - a) (drop a s) (simp length-drop (omega arith)))
 
 pub length-at : (s : List ℕ) (at : ℕ) → getD s at 0 + 256 * getD s (at + 1) 0 + 65536 * getD s (at + 2) 0 + 16777216 * getD s (at + 3) 0 ≡ lengthField (drop at s)
 unfolding lengthField

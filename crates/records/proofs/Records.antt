@@ -9,9 +9,9 @@ use borrow.Author.Tests.{leb-true, ltb-true, eqb-true, le-leb, lt-ltb, eq-eqb}
 use lib.Dec.{eqb, ltb, leb}
 use lib.ListN.{length, getD, take, drop, length-append, length-drop, take-append-drop, List·getD-append}
 use lib.Seq.{length-take-le, take-append-le, drop-append-le, take-append-seam, drop-append-seam}
-use Rattle.answers.specs.Answer.{Answer, gives, refuses, _>>=_, _>>_, asks, passed}
-use Rattle.answers.proofs.Answer.{give-inj, never, asks-out}
-use Rattle.records.specs.Records.{Part, part, checked, written, lengthField, kindField}
+use Rattle.answers.specs.Answer.{Answer, gives, refuses, _>>_, asks}
+use Rattle.answers.proofs.Answer.{give-inj, never, asks-out, bind-out}
+use Rattle.records.specs.Records.{Part, part, allYes, checked, written, lengthField, kindField}
 use Rattle.nodes.specs.Lists.{all}
 
 -- ---- tests
@@ -24,6 +24,11 @@ pub all-append : (f : ℕ → Bool) (l g : List ℕ) → all f l ≡ true → al
 unfolding all
 all-append f [] g a b = b
 all-append f (x ∷ l) g a b = let (p, q) = and-out (f x) (all f l) a in rw (p, all-append f l g q b)
+
+pub all-left : (f : ℕ → Bool) (l g : List ℕ) → all f (l ++ g) ≡ true → all f l ≡ true
+unfolding all
+all-left f [] g a = refl
+all-left f (x ∷ l) g a = let (p, q) = and-out (f x) (all f (l ++ g)) a in rw (p, all-left f l g q)
 
 pub all-right : (f : ℕ → Bool) (l g : List ℕ) → all f (l ++ g) ≡ true → all f g ≡ true
 unfolding all
@@ -170,33 +175,47 @@ part-encodes kind (a ∷ b ∷ c ∷ d ∷ e ∷ f ∷ t) p h x =
     ∙ ap (λ (q : Part). written kind (q .payload) ++ q .rest) (w .same)
 
 -- ---- a record with the questions of its kind
-pub checked-passed : (kind : ℕ) (test : List ℕ → ℕ) (s : List ℕ) (p : Part) → checked kind test s ≡ gives p → (part kind s ≡ gives p) × (test (p .payload) ≡ 0)
-unfolding checked
-checked-passed kind test s p e = by (part kind s) e
-  where
-    pass : (q : ℕ) (r : Part) → test (r .payload) ≡ q → passed q r ≡ gives p → (gives r ≡ gives p) × (test (p .payload) ≡ 0)
-    pass zero r f g = let h : r ≡ p = give-inj g in (g, rw h at f)
-    pass (suc q) r f g = absurd (never g)
+yes-out : {A : Type 0} (m : Answer Bool) (k : Answer A) (a : A) → (m >> k) ≡ gives a → (allYes m ≡ true) × (k ≡ gives a)
+yes-out (gives b) k a e = (refl, e)
+yes-out (refuses r) k a e = absurd (never e)
 
-    by : (m : Answer Part) → (m >>= λ p. passed (test (p .payload)) p) ≡ gives p → (m ≡ gives p) × (test (p .payload) ≡ 0)
-    by (gives r) g = pass (test (r .payload)) r refl g
-    by (refuses r) g = absurd (never g)
+yes-in : {A : Type 0} (m : Answer Bool) (k : Answer A) → allYes m ≡ true → (m >> k) ≡ k
+yes-in (gives b) k e = refl
+yes-in (refuses r) k e = absurd (false≢true e)
 
-pub checked-given : (kind : ℕ) (test : List ℕ → ℕ) (s : List ℕ) (p : Part) → part kind s ≡ gives p → test (p .payload) ≡ 0 → checked kind test s ≡ gives p
-unfolding checked
-checked-given kind test s p e z = rw (e, z)
+-- the questions one after the other
+pub asks-then : (q : ℕ) (c : Bool) (m : Answer Bool) → allYes (asks q c >> m) ≡ true → (c ≡ true) × (allYes m ≡ true)
+asks-then q true m e = (refl, e)
+asks-then q false m e = absurd (false≢true e)
 
-pub checked-append : (kind : ℕ) (test : List ℕ → ℕ) (s g : List ℕ) (p : Part) → checked kind test s ≡ gives p → checked kind test (s ++ g) ≡ gives (longer p g)
-checked-append kind test s g p e =
-    let (a, z) = checked-passed kind test s p e in
-    checked-given kind test (s ++ g) (longer p g) (part-append kind s g p a) z
+pub asks-last : (q : ℕ) (c : Bool) → allYes (asks q c) ≡ true → c ≡ true
+asks-last q true e = refl
+asks-last q false e = absurd (false≢true e)
 
-pub checked-written : (kind : ℕ) (test : List ℕ → ℕ) (p rest : List ℕ) → length p < 4294967296 → test p ≡ 0 → checked kind test (written kind p ++ rest) ≡ gives (record { payload = p; rest = rest })
-checked-written kind test p rest h z = checked-given kind test (written kind p ++ rest) (record { payload = p; rest = rest }) (part-written kind p rest h) z
+module _ (kind : ℕ) (questions : List ℕ → Answer Bool) where
+  pub checked-passed : (s : List ℕ) (p : Part) → checked kind questions s ≡ gives p → (part kind s ≡ gives p) × (allYes (questions (p .payload)) ≡ true)
+  unfolding checked
+  checked-passed s p e =
+      let (q, a, f) = bind-out (part kind s) (λ p. questions (p .payload) >> gives p) p e in
+      let (y, g) = yes-out (questions (q .payload)) (gives q) p f in
+      let h : q ≡ p = give-inj g in
+      (a ∙ g, rw h at y)
 
--- one record of bytes below 256, and the bytes behind it
-pub record-bytes : (kind : ℕ) (test : List ℕ → ℕ) (s : List ℕ) (p : Part) → all (λ b. ltb b 256) s ≡ true → checked kind test s ≡ gives p
-    → (s ≡ written kind (p .payload) ++ p .rest) × (all (λ b. ltb b 256) (p .rest) ≡ true)
-record-bytes kind test s p h e =
-    let q : s ≡ written kind (p .payload) ++ p .rest = part-encodes kind s p h (checked-passed kind test s p e .0) in
-    (q, all-right (λ b. ltb b 256) (written kind (p .payload)) (p .rest) (sym (ap (all (λ b. ltb b 256)) q) ∙ h))
+  pub checked-given : (s : List ℕ) (p : Part) → part kind s ≡ gives p → allYes (questions (p .payload)) ≡ true → checked kind questions s ≡ gives p
+  unfolding checked
+  checked-given s p e y = rw e (yes-in (questions (p .payload)) (gives p) y)
+
+  pub checked-append : (s g : List ℕ) (p : Part) → checked kind questions s ≡ gives p → checked kind questions (s ++ g) ≡ gives (longer p g)
+  checked-append s g p e =
+      let (a, y) = checked-passed s p e in
+      checked-given (s ++ g) (longer p g) (part-append kind s g p a) y
+
+  pub checked-written : (p rest : List ℕ) → length p < 4294967296 → allYes (questions p) ≡ true → checked kind questions (written kind p ++ rest) ≡ gives (record { payload = p; rest = rest })
+  checked-written p rest h y = checked-given (written kind p ++ rest) (record { payload = p; rest = rest }) (part-written kind p rest h) y
+
+  -- one record of bytes below 256, and the bytes behind it
+  pub record-bytes : (s : List ℕ) (p : Part) → all (λ b. ltb b 256) s ≡ true → checked kind questions s ≡ gives p
+      → (s ≡ written kind (p .payload) ++ p .rest) × (all (λ b. ltb b 256) (p .rest) ≡ true)
+  record-bytes s p h e =
+      let q : s ≡ written kind (p .payload) ++ p .rest = part-encodes kind s p h (checked-passed s p e .0) in
+      (q, all-right (λ b. ltb b 256) (written kind (p .payload)) (p .rest) (sym (ap (all (λ b. ltb b 256)) q) ∙ h))

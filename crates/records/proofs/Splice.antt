@@ -59,10 +59,23 @@ set-splice (y ∷ l) (suc at) x h = ap (λ (r : List ℕ). y ∷ r) (set-splice 
     move : (at : ℕ) → suc (at + 1) ≡ suc at + 1
     move at = omega arith
 
+-- one thing behind another
+pub splice-next : (at k : ℕ) (a b l m : List ℕ) → k ≡ at + length a → k + length b ≤ length l → m ≡ splice at a l → splice k b m ≡ splice at (a ++ b) l
+splice-next at k a b l m e h p = ap₂ (λ (q : ℕ) (r : List ℕ). splice q b r) e p ∙ splice-splice at a b l (omega arith)
+
 -- one byte more
 pub splice-more : (at k : ℕ) (a : List ℕ) (x : ℕ) (l m : List ℕ) → k ≡ at + length a → k < length l → m ≡ splice at a l → splice k (x ∷ []) m ≡ splice at (a ++ (x ∷ [])) l
-splice-more at k a x l m e h p = ap₂ (λ (q : ℕ) (r : List ℕ). splice q (x ∷ []) r) e p ∙ splice-splice at a (x ∷ []) l (omega arith)
+splice-more at k a x l m e h p = splice-next at k a (x ∷ []) l m e (omega arith) p
 
 -- the first byte, and then the others
 pub splice-cons : (at : ℕ) (x : ℕ) (b l m : List ℕ) → at + 1 + length b ≤ length l → m ≡ splice at (x ∷ []) l → splice (at + 1) b m ≡ splice at (x ∷ b) l
 splice-cons at x b l m h p = ap (splice (at + 1) b) p ∙ splice-splice at (x ∷ []) b l h
+
+-- three things, one after the other
+pub three-length : (a b c : List ℕ) → length (a ++ (b ++ c)) ≡ length a + length b + length c
+three-length a b c = omega (arith, length-append a (b ++ c), length-append b c)
+
+pub three-put : (a b c l m n o : List ℕ) → length a + length b + length c ≤ length l → m ≡ splice 0 a l → n ≡ splice (length a) b m → o ≡ splice (length a + length b) c n → o ≡ splice 0 (a ++ (b ++ c)) l
+three-put a b c l m n o h p q r =
+    r ∙ splice-next 0 (length a + length b) (a ++ b) c l n (omega (arith, length-append a b)) (omega arith) (q ∙ splice-next 0 (length a) a b l m (omega arith) (omega arith) p)
+    ∙ ap (λ (x : List ℕ). splice 0 x l) (append-assoc a b c)

@@ -1,5 +1,5 @@
 -- What the finder writes: read back it is the flow that was found; its bytes, its length; and 0013 is no flow file.
-use Prim.Native.Nat.{ℕ, zero, suc, _+_, _*_, _≤_, _<_, zero-le}
+use Prim.Native.Nat.{ℕ, zero, suc, _+_, _*_, _%_, _≤_, _<_, zero-le}
 use mathlib.Core.Path.{_≡_, refl, sym, ap, ap₂, _∙_}
 use mathlib.Core.Bool.{Bool, true, false, cond, not, _&&_, _||_}
 use mathlib.Core.Logic.{_⊎_, inl, inr, _≢_}
@@ -17,16 +17,17 @@ use Rattle.nodes.proofs.Members.{members-snoc}
 use Rattle.flows.specs.Job.{Job}
 use Rattle.flows.specs.Search.{Progress}
 use Rattle.answers.specs.Answer.{gives}
-use Rattle.records.specs.Records.{part, checked, written, kindLayers, kindSets, kindNoFlow}
+use Rattle.records.specs.Records.{headBytes, part, checked, written, kindLayers, kindSets, kindNoFlow}
 use Rattle.nodes.specs.Lists.{has, listOf, all}
 use Rattle.records.specs.JobFile.{mostNodes, rises}
-use Rattle.records.specs.FlowFile.{SetEntry, allEntries, entryBelow, entriesRise, FlowFile, readFlow, setIn, entryIn, flowOf}
-use Rattle.records.specs.Encoding.{entryBytes, flowFileBytes, ValidFlow, entriesFor, foundFlow}
-use Rattle.records.specs.Writing.{setBytes, flowBytes, mostOutput}
+use Rattle.records.specs.FlowFile.{SetEntry, allEntries, entryBelow, entriesRise, entryBytes, FlowFile, readFlow, setIn, entryIn, flowOf}
+use Rattle.records.specs.Encoding.{flowFileBytes, ValidFlow, entriesFor, foundFlow}
+use Rattle.records.specs.Writing.{layerBytes, flowBytes, mostOutput}
 use Rattle.answers.proofs.Answer.{never}
 use Rattle.records.proofs.Records.{and-out, all-append, all-more, written-length, written-bytes}
+use Rattle.records.proofs.Encoding.{flow-decodes}
 use Rattle.records.proofs.JobFile.{rises-length}
-use Rattle.records.proofs.FlowFile.{flow-decodes, entries-few, entry-bytes-length}
+use Rattle.records.proofs.FlowFile.{entries-few, entry-bytes-length}
 
 -- ---- lists of values
 pub list-length : {A : Type 0} (n : ℕ) (f : ℕ → A) → length (listOf n f) ≡ n
@@ -104,11 +105,6 @@ pub members-rise : (n : ℕ) (s : ℕ → Bool) → rises 0 (members n s) ≡ tr
 members-rise n s = from-rise 0 0 n s zero-le
 
 -- ---- the entries of the nodes in a list
-sets-bytes : (n : ℕ) (set : ℕ → ℕ → Bool) (us : List ℕ) → setBytes n set us ≡ entryBytes (entriesFor n set us)
-unfolding setBytes entryBytes entriesFor
-sets-bytes n set [] = refl
-sets-bytes n set (u ∷ us) = rw (sets-bytes n set us)
-
 for-below : (n : ℕ) (set : ℕ → ℕ → Bool) (us : List ℕ) → all (λ v. ltb v n) us ≡ true → allEntries (entryBelow n) (entriesFor n set us) ≡ true
 unfolding all allEntries entriesFor
 for-below n set [] a = refl
@@ -158,18 +154,25 @@ flow-file-bytes n g h v a =
     (written-bytes kindLayers (g .layers) (omega arith) a)
     (written-bytes kindSets (entryBytes (g .sets)) (omega arith) (entry-bytes 0 n (g .sets) h (v .below) (v .rise)))
 
-pub flow-file-length : (n : ℕ) (g : FlowFile) → ValidFlow n g → length (flowFileBytes g) ≤ 12 + n + n * (n + 2)
+pub flow-file-length : (n : ℕ) (g : FlowFile) → ValidFlow n g → length (flowFileBytes g) ≤ 2 * headBytes + n + n * (n + 2)
 flow-file-length n g v =
     let few : length (g .sets) + 0 ≤ n = entries-few 0 n (g .sets) zero-le (v .below) (v .rise) in
     let long : length (entryBytes (g .sets)) ≤ length (g .sets) * (n + 2) = entry-bytes-length 0 n (g .sets) (v .below) (v .rise) in
     let most : length (g .sets) * (n + 2) ≤ n * (n + 2) = mul-le-mul {n₁ = length (g .sets)} {m₁ = n + 2} {n₂ = n} {m₂ = n + 2} (omega arith) (omega arith) in
     omega (arith, v .count, length-append (written kindLayers (g .layers)) (written kindSets (entryBytes (g .sets))), written-length kindLayers (g .layers), written-length kindSets (entryBytes (g .sets)))
 
+-- layers of one byte are written as they are
+pub layers-same : (l : List ℕ) → all (λ b. ltb b 256) l ≡ true → layerBytes l ≡ l
+unfolding all
+layers-same [] a = refl
+layers-same (x ∷ l) a =
+    let (p, q) = and-out (ltb x 256) (all (λ b. ltb b 256) l) a in
+    let h : x < 256 = ltb-true x 256 p in
+    let e : x % 256 ≡ x = omega arith in
+    rw (e, layers-same l q)
+
 -- ---- the finder's file
 module _ (j : Job) (s : Progress) where
-  pub found-file : flowBytes j (some s) ≡ flowFileBytes (foundFlow j s)
-  found-file = ap (λ (t : List ℕ). written kindLayers (listOf (j .nodes) (s .layer)) ++ written kindSets t) (sets-bytes (j .nodes) (s .set) (members (j .nodes) (λ u. not (j .output u))))
-
   pub found-valid : ValidFlow (j .nodes) (foundFlow j s)
   found-valid = record {
     count = list-length (j .nodes) (s .layer);
@@ -179,7 +182,7 @@ module _ (j : Job) (s : Progress) where
 
   -- it is read back
   pub found-reads : j .nodes ≤ mostNodes → readFlow (j .nodes) (flowBytes j (some s)) ≡ gives (foundFlow j s)
-  found-reads h = ap (readFlow (j .nodes)) (found-file ∙ sym (append-nil (flowFileBytes (foundFlow j s)))) ∙ flow-decodes (j .nodes) (foundFlow j s) h found-valid
+  found-reads h = ap (readFlow (j .nodes)) (sym (append-nil (flowFileBytes (foundFlow j s)))) ∙ flow-decodes (j .nodes) (foundFlow j s) h found-valid
 
   -- as the flow that was found
   pub found-layer : (u : ℕ) → u < j .nodes → flowOf (foundFlow j s) .layer u ≡ s .layer u
@@ -198,15 +201,14 @@ module _ (j : Job) (s : Progress) where
 
   pub found-bytes : j .nodes ≤ mostNodes → ((u : ℕ) → u < j .nodes → s .layer u < 256) → all (λ b. ltb b 256) (flowBytes j (some s)) ≡ true
   found-bytes h a =
-      ap (all (λ b. ltb b 256)) found-file
-      ∙ flow-file-bytes (j .nodes) (foundFlow j s) (omega arith) found-valid (list-all (j .nodes) (s .layer) (λ b. ltb b 256) (λ k l. lt-ltb (s .layer k) 256 (a k l)))
+      flow-file-bytes (j .nodes) (foundFlow j s) (omega arith) found-valid (list-all (j .nodes) (s .layer) (λ b. ltb b 256) (λ k l. lt-ltb (s .layer k) 256 (a k l)))
 
-  pub found-length : length (flowBytes j (some s)) ≤ 12 + j .nodes + j .nodes * (j .nodes + 2)
-  found-length = rw found-file (flow-file-length (j .nodes) (foundFlow j s) found-valid)
+  pub found-length : length (flowBytes j (some s)) ≤ 2 * headBytes + j .nodes + j .nodes * (j .nodes + 2)
+  found-length = flow-file-length (j .nodes) (foundFlow j s) found-valid
 
   pub found-most : j .nodes ≤ mostNodes → length (flowBytes j (some s)) ≤ mostOutput
   found-most h =
-      let a : j .nodes * (j .nodes + 2) ≤ 128 * 130 = mul-le-mul {n₁ = j .nodes} {m₁ = j .nodes + 2} {n₂ = 128} {m₂ = 130} (omega arith) (omega arith) in
+      let a : j .nodes * (j .nodes + 2) ≤ mostNodes * (mostNodes + 2) = mul-le-mul {n₁ = j .nodes} {m₁ = j .nodes + 2} {n₂ = mostNodes} {m₂ = mostNodes + 2} (omega arith) (omega arith) in
       omega (arith, found-length)
 
 -- ---- 0013

@@ -1,12 +1,14 @@
 -- The loops of the writer: what is left to write from here on makes the whole.
-use Prim.Native.Nat.{ℕ, suc, _+_, _*_, _≤_, _<_}
+use Prim.Native.Nat.{ℕ, suc, _+_, _*_, _-_, _≤_, _<_}
 use mathlib.Core.Path.{_≡_, refl, sym, ap, ap₂, _∙_}
 use mathlib.Core.Bool.{Bool}
-use mathlib.Core.Option.{some, none}
+use Rattle.answers.specs.Answer.{gives, refuses, refusal}
 use mathlib.Core.List.{List, [], _∷_, _++_}
 use native.Mathlib.Omega.{arith}
 use borrow.Author.Tests.{le-leb, lt-leb}
-use lib.Dec.{T}
+use lib.Dec.{T, leb}
+use mathlib.Core.Logic.{_⊎_, inl, inr}
+use Rattle.nodes.proofs.Logic.{lt-or-ge}
 use lib.ListN.{length, getD, take, drop, length-append}
 use lib.Seq.{length-take-le, take-suc}
 use Rattle.nodes.specs.Row.{anyBelow, count, lowest, members}
@@ -14,11 +16,13 @@ use Rattle.nodes.specs.NodeSet.{capacity}
 use Rattle.nodes.proofs.Count.{count-empty, count-le}
 use Rattle.nodes.proofs.Members.{members-length, lowest-some}
 use Rattle.nodes.proofs.Remove.{removed, count-lowest, members-cons}
-use Rattle.records.specs.Records.{headBytes, written, kindLayers, kindSets}
+use Rattle.records.specs.Records.{headBytes, headOf, written, kindLayers, kindSets}
+use Rattle.records.specs.FlowFile.{entryBytes}
+use Rattle.records.specs.Encoding.{entriesFor}
 use Rattle.records.specs.Writing.{setBytes}
-use Rattle.records.specs.Splice.{splice, headOf, putFirst, putCount}
+use Rattle.records.specs.Splice.{splice, putFront, putAnswer}
 use Rattle.records.proofs.Records.{written-length}
-use Rattle.records.proofs.Splice.{splice-more, splice-cons, splice-splice}
+use Rattle.records.proofs.Splice.{splice-next, splice-more, splice-cons, splice-splice}
 
 -- ---- a payload, byte by byte
 pub bytes-more : (at i : ℕ) (b l m : List ℕ) → i < length b → at + length b ≤ length l → m ≡ splice at (take i b) l → splice (at + i) (getD b i 0 ∷ []) m ≡ splice at (take (i + 1) b) l
@@ -58,7 +62,7 @@ module _ (s t : ℕ → Bool) (some : T (anyBelow capacity s)) (e : t ≡ remove
   -- ---- the entries of the nodes of a set
   pub entry-split : (set : ℕ → ℕ → Bool) (x : ℕ) → x ≡ lowest capacity s
       → setBytes capacity set (members capacity s) ≡ (x ∷ count capacity (set x) ∷ members capacity (set x)) ++ setBytes capacity set (members capacity t)
-  unfolding setBytes
+  unfolding entryBytes entriesFor
   entry-split set x q =
       ap (setBytes capacity set) (one-left ∙ ap (λ (y : ℕ). y ∷ members capacity t) (sym q))
       ∙ ap (λ (k : ℕ). x ∷ k ∷ members capacity (set x) ++ setBytes capacity set (members capacity t)) (members-length capacity (set x))
@@ -90,15 +94,15 @@ module _ (s t : ℕ → Bool) (some : T (anyBelow capacity s)) (e : t ≡ remove
       place = omega (arith, b, size)
 
 pub no-entries : (set : ℕ → ℕ → Bool) (s : ℕ → Bool) → (T (anyBelow capacity s) → ⊥) → setBytes capacity set (members capacity s) ≡ []
-unfolding setBytes
+unfolding entryBytes entriesFor
 no-entries set s f = ap (setBytes capacity set) (none-left s f)
 
 -- a table of sets has room for no more
-pub entries-most : (set : ℕ → ℕ → Bool) (s : ℕ → Bool) → length (setBytes capacity set (members capacity s)) ≤ 16640
-unfolding setBytes
+pub entries-most : (set : ℕ → ℕ → Bool) (s : ℕ → Bool) → length (setBytes capacity set (members capacity s)) ≤ capacity * (capacity + 2)
+unfolding entryBytes entriesFor
 entries-most set s = omega (arith, each (members capacity s), members-length capacity s, count-le capacity s)
   where
-    each : (us : List ℕ) → length (setBytes capacity set us) ≤ length us * 130
+    each : (us : List ℕ) → length (setBytes capacity set us) ≤ length us * (capacity + 2)
     each [] = omega arith
     each (u ∷ us) =
         omega (arith, length-append (members capacity (set u)) (setBytes capacity set us), members-length capacity (set u), count-le capacity (set u), each us)
@@ -107,29 +111,33 @@ entries-most set s = omega (arith, each (members capacity s), members-length cap
 -- head and payload
 pub record-put : (at q kind : ℕ) (p l m : List ℕ) → q ≡ at + headBytes → q + length p ≤ length l → m ≡ splice at (headOf (length p) kind) l → splice q p m ≡ splice at (written kind p) l
 unfolding written
-record-put at q kind p l m e h r = ap₂ (λ (k : ℕ) (x : List ℕ). splice k p x) e r ∙ splice-splice at (headOf (length p) kind) p l (omega arith)
+record-put at q kind p l m e h r = splice-next at q (headOf (length p) kind) p l m e h r
 
 -- the two records of a flow file
 pub records-put : (layers sets l m : List ℕ) (q : ℕ) → q ≡ headBytes + length layers → q + headBytes + length sets ≤ length l → m ≡ splice 0 (written kindLayers layers) l
     → splice q (written kindSets sets) m ≡ splice 0 (written kindLayers layers ++ written kindSets sets) l
 records-put layers sets l m q e h r =
-    ap₂ (λ (k : ℕ) (x : List ℕ). splice k (written kindSets sets) x) place r
-    ∙ splice-splice 0 (written kindLayers layers) (written kindSets sets) l (omega (arith, written-length kindLayers layers, written-length kindSets sets))
-  where
-    place : q ≡ 0 + length (written kindLayers layers)
-    place = omega (arith, written-length kindLayers layers)
+    splice-next 0 q (written kindLayers layers) (written kindSets sets) l m (omega (arith, written-length kindLayers layers)) (omega (arith, written-length kindSets sets)) r
 
 pub flow-length : (layers sets : List ℕ) → length (written kindLayers layers ++ written kindSets sets) ≡ 2 * headBytes + length layers + length sets
 flow-length layers sets =
     omega (arith, length-append (written kindLayers layers) (written kindSets sets), written-length kindLayers layers, written-length kindSets sets)
 
 -- ---- the front of a buffer
-pub put-fits : (b out m : List ℕ) (k : ℕ) → k ≡ length b → k ≤ length out → m ≡ splice 0 b out → (some k ≡ putCount b out) × (m ≡ putFirst b out)
+-- of the room for three lengths, what the first two leave
+pub room-left : (room a b c : ℕ) → a + b ≤ room → leb c (room - a - b) ≡ leb (a + b + c) room
+room-left room a b c h = by (lt-or-ge room (a + b + c))
+  where
+    by : (room < a + b + c) ⊎ (a + b + c ≤ room) → leb c (room - a - b) ≡ leb (a + b + c) room
+    by (inl g) = rw (lt-leb (a + b + c) room g) (lt-leb c (room - a - b) (omega arith))
+    by (inr g) = rw (le-leb (a + b + c) room g) (le-leb c (room - a - b) (omega arith))
+
+pub put-fits : (b out m : List ℕ) (k : ℕ) → k ≡ length b → k ≤ length out → m ≡ splice 0 b out → (gives k ≡ putAnswer b out) × (m ≡ putFront b out)
 unfolding splice
 put-fits b out m k e h r =
     let f = le-leb (length b) (length out) (omega arith) in
     let start : 0 + length b ≡ length b = omega arith in
     (rw (f, e), rw f (r ∙ ap (λ (i : ℕ). b ++ drop i out) start))
 
-pub put-not : (b out : List ℕ) → length out < length b → (none ≡ putCount b out) × (out ≡ putFirst b out)
+pub put-not : (b out : List ℕ) → length out < length b → (refuses (refusal 20) ≡ putAnswer b out) × (out ≡ putFront b out)
 put-not b out h = let f = lt-leb (length b) (length out) h in (rw f, rw f)

@@ -2,16 +2,15 @@
 use Prim.Native.Nat.{ℕ, _%_, _≤_}
 use mathlib.Core.Path.{_≡_}
 use mathlib.Core.Bool.{Bool, true, not}
-use mathlib.Core.List.{List, [], _∷_, _++_}
+use mathlib.Core.List.{List, [], _∷_}
 use lib.Dec.{ltb}
 use lib.ListN.{length}
 use Rattle.nodes.specs.Row.{members}
 use Rattle.flows.specs.Job.{Job}
 use Rattle.flows.specs.Search.{Progress}
-use Rattle.records.specs.Records.{written, kindOpen, kindEdges, kindInputs, kindOutputs, kindMeasurements, kindLayers, kindSets}
 use Rattle.nodes.specs.Lists.{has, listOf, all}
-use Rattle.records.specs.JobFile.{JobFile, mostNodes, modeCausal, modePauli, rises, pairsRise, allAllowed}
-use Rattle.records.specs.FlowFile.{SetEntry, FlowFile, allEntries, entryBelow, entriesRise}
+use Rattle.records.specs.JobFile.{JobFile, mostNodes, modeCausal, modePauli, nodesBelow, rises, pairsRise, allAllowed, job, jobValue}
+use Rattle.records.specs.FlowFile.{SetEntry, FlowFile, allEntries, entryBelow, entriesRise, flow, flowValue}
 
 -- a file of bytes, as every file of a program is; the definitions of the calls take any numbers
 abbrev pub Bytes : List ℕ → Type 0
@@ -20,12 +19,7 @@ Bytes s = all (λ b. ltb b 256) s ≡ true
 -- ---- jobs
 -- the five records in order
 abbrev pub jobBytes : JobFile → List ℕ
-jobBytes f =
-    written kindOpen (f .n ∷ f .mode ∷ [])
-    ++ written kindEdges (f .edges)
-    ++ written kindInputs (f .inputs)
-    ++ written kindOutputs (f .outputs)
-    ++ written kindMeasurements (f .measurements)
+jobBytes f = job .encode (jobValue f)
 
 -- what reading asks
 pub record ValidJob (f : JobFile) : Type 0 where
@@ -33,24 +27,19 @@ pub record ValidJob (f : JobFile) : Type 0 where
   pub modeFrom : modeCausal ≤ f .mode
   pub modeTo : f .mode ≤ modePauli
   pub pairs : length (f .edges) % 2 ≡ 0
-  pub edgesBelow : all (λ v. ltb v (f .n)) (f .edges) ≡ true
+  pub edgesBelow : nodesBelow (f .n) (f .edges) ≡ true
   pub edgesRise : pairsRise 0 (f .edges) ≡ true
-  pub inputsBelow : all (λ v. ltb v (f .n)) (f .inputs) ≡ true
+  pub inputsBelow : nodesBelow (f .n) (f .inputs) ≡ true
   pub inputsRise : rises 0 (f .inputs) ≡ true
-  pub outputsBelow : all (λ v. ltb v (f .n)) (f .outputs) ≡ true
+  pub outputsBelow : nodesBelow (f .n) (f .outputs) ≡ true
   pub outputsRise : rises 0 (f .outputs) ≡ true
   pub count : length (f .measurements) ≡ f .n
   pub allowed : allAllowed (f .mode) (has (f .outputs)) 0 (f .measurements) ≡ true
 
 -- ---- flows
--- node, count and members of each entry
-unfoldable pub entryBytes : List SetEntry → List ℕ
-entryBytes [] = []
-entryBytes (e ∷ es) = e .node ∷ length (e .set) ∷ e .set ++ entryBytes es
-
--- the two records in order
+-- the two records in order, with a layer for each node
 abbrev pub flowFileBytes : FlowFile → List ℕ
-flowFileBytes g = written kindLayers (g .layers) ++ written kindSets (entryBytes (g .sets))
+flowFileBytes g = flow (length (g .layers)) .encode (flowValue g)
 
 -- what reading asks, for n nodes
 pub record ValidFlow (n : ℕ) (g : FlowFile) : Type 0 where

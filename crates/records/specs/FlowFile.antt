@@ -2,13 +2,14 @@
 use Prim.Native.Nat.{ℕ, zero, suc, _+_}
 use mathlib.Core.Bool.{Bool, true, false, cond, not, _&&_, _||_}
 use mathlib.Core.Option.{Option, none, some}
-use mathlib.Core.List.{List, [], _∷_}
+use mathlib.Core.List.{List, [], _∷_, _++_}
 use lib.Dec.{eqb, ltb, leb}
 use lib.ListN.{length, getD, take, drop}
-use Rattle.answers.specs.Answer.{Answer, gives, asks, no, _>>=_, _>>_}
-use Rattle.records.specs.Records.{checked, kindLayers, kindSets}
-use Rattle.nodes.specs.Lists.{has, all}
-use Rattle.records.specs.JobFile.{rises, modeCausal}
+use Rattle.answers.specs.Answer.{Answer, gives, asks, _>>=_, _>>_}
+use Rattle.records.specs.Format.{Front, Format, PayloadFormat, plain, recordOf, then}
+use Rattle.records.specs.Records.{kindLayers, kindSets}
+use Rattle.nodes.specs.Lists.{has}
+use Rattle.records.specs.JobFile.{nodesBelow, rises, modeCausal}
 
 -- an entry of a sets record: node, count, members
 pub record SetEntry : Type 0 where
@@ -46,34 +47,55 @@ allEntries p (e ∷ es) = p e && allEntries p es
 
 -- the nodes and the members below n
 abbrev pub entryBelow : ℕ → SetEntry → Bool
-entryBelow n e = ltb (e .node) n && all (λ v. ltb v n) (e .set)
+entryBelow n e = ltb (e .node) n && nodesBelow n (e .set)
 
 -- nodes strictly ascending from `low` on, and the members of each entry
 unfoldable pub entriesRise : ℕ → List SetEntry → Bool
 entriesRise low [] = true
 entriesRise low (e ∷ es) = leb low (e .node) && rises 0 (e .set) && entriesRise (e .node + 1) es
 
-unfoldable pub layersNo : ℕ → List ℕ → ℕ
-layersNo n p = no 3 (eqb (length p) n) 0
+-- ---- the questions of each record
+unfoldable pub layersAsks : ℕ → List ℕ → Answer Bool
+layersAsks n p = asks 3 (eqb (length p) n)
 
-unfoldable pub setsNo : ℕ → List ℕ → ℕ
-setsNo n p = no 3 (framed (entriesOf p)) (no 5 (allEntries (entryBelow n) (listed (entriesOf p))) (no 6 (entriesRise 0 (listed (entriesOf p))) 0))
+unfoldable pub setsAsks : ℕ → List ℕ → Answer Bool
+setsAsks n p = do
+  asks 3 (framed (entriesOf p))
+  asks 5 (allEntries (entryBelow n) (listed (entriesOf p)))
+  asks 6 (entriesRise 0 (listed (entriesOf p)))
 
 pub record FlowFile : Type 0 where
   pub layers : List ℕ
   pub sets : List SetEntry
   pub after : List ℕ
 
-unfoldable pub readSets : (n : ℕ) (layers : List ℕ) → List ℕ → Answer FlowFile
-readSets n layers s = do
-  p ← checked kindSets (setsNo n) s
-  gives (record { layers = layers; sets = listed (entriesOf (p .payload)); after = p .rest })
+-- ---- a flow: the records of layers and of sets
+-- node, count and members of each entry
+unfoldable pub entryBytes : List SetEntry → List ℕ
+entryBytes [] = []
+entryBytes (e ∷ es) = e .node ∷ length (e .set) ∷ e .set ++ entryBytes es
+
+abbrev pub sets : ℕ → PayloadFormat (List SetEntry)
+sets n = record {
+  valid = λ es. allEntries (entryBelow n) es && entriesRise 0 es;
+  encode = entryBytes;
+  questions = setsAsks n;
+  value = λ p. listed (entriesOf p);
+}
+
+abbrev pub flow : ℕ → Format (List ℕ × List SetEntry)
+flow n = then (recordOf kindLayers (plain (layersAsks n))) (λ l. recordOf kindSets (sets n))
+
+abbrev pub flowFile : Front (List ℕ × List SetEntry) → FlowFile
+flowFile p = record { layers = p .value .0; sets = p .value .1; after = p .rest }
+
+abbrev pub flowValue : FlowFile → List ℕ × List SetEntry
+flowValue g = (g .layers, g .sets)
 
 unfoldable pub readFlow : ℕ → List ℕ → Answer FlowFile
-readFlow n s = do
-  p ← checked kindLayers (layersNo n) s
-  readSets n (p .payload) (p .rest)
+readFlow n s = flow n .decode s >>= λ p. gives (flowFile p)
 
+-- ---- the questions that follow
 -- is nothing left (8)?
 abbrev pub nothingLeft : List ℕ → Answer Bool
 nothingLeft rest = asks 8 (eqb (length rest) 0)

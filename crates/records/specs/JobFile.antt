@@ -4,14 +4,16 @@ use mathlib.Core.Bool.{Bool, true, false, cond, _&&_, _||_}
 use mathlib.Core.List.{List, [], _∷_}
 use lib.Dec.{eqb, ltb, leb}
 use lib.ListN.{length, getD}
+use Rattle.nodes.specs.NodeSet.{capacity}
 use Rattle.nodes.specs.Lists.{has, all}
 use Rattle.flows.specs.Job.{Job, planeXY, planeXZ, pauliZ}
-use Rattle.answers.specs.Answer.{Answer, gives, no, _>>=_}
-use Rattle.records.specs.Records.{checked, kindOpen, kindEdges, kindInputs, kindOutputs, kindMeasurements}
+use Rattle.answers.specs.Answer.{Answer, gives, asks, _>>=_, _>>_}
+use Rattle.records.specs.Format.{Front, Format, PayloadFormat, plain, recordOf, then}
+use Rattle.records.specs.Records.{kindOpen, kindEdges, kindInputs, kindOutputs, kindMeasurements}
 
--- the most nodes a job may have
+-- the most nodes a job may have: as many as a set can have
 abbrev pub mostNodes : ℕ
-mostNodes = 128
+mostNodes = capacity
 
 abbrev pub modeCausal : ℕ
 modeCausal = 1
@@ -21,6 +23,15 @@ modePlanes = 2
 
 abbrev pub modePauli : ℕ
 modePauli = 3
+
+-- ---- one question each
+-- pairs, and no byte more
+abbrev pub wholePairs : List ℕ → Bool
+wholePairs p = eqb (length p % 2) 0
+
+-- the nodes are below n
+abbrev pub nodesBelow : ℕ → List ℕ → Bool
+nodesBelow n = all (λ v. ltb v n)
 
 -- strictly ascending, from `low` on
 unfoldable pub rises : ℕ → List ℕ → Bool
@@ -46,19 +57,32 @@ unfoldable pub allAllowed : ℕ → (ℕ → Bool) → ℕ → List ℕ → Bool
 allAllowed mode output i [] = true
 allAllowed mode output i (m ∷ l) = allows mode (output i) m && allAllowed mode output (i + 1) l
 
--- the questions of each kind: does the length suit (3), are n and mode allowed (4), is each node below n (5), is the
+abbrev pub openingAllowed : (n mode : ℕ) → Bool
+openingAllowed n mode = leb n mostNodes && leb modeCausal mode && leb mode modePauli
+
+-- ---- the questions of each record: does the length suit (3), are n and mode allowed (4), is each node below n (5), is the
 -- order strict (6), is each measurement byte allowed (7)
-unfoldable pub openNo : List ℕ → ℕ
-openNo p = no 3 (eqb (length p) 2) (no 4 (leb (getD p 0 0) mostNodes && leb modeCausal (getD p 1 0) && leb (getD p 1 0) modePauli) 0)
 
-unfoldable pub edgesNo : ℕ → List ℕ → ℕ
-edgesNo n p = no 3 (eqb (length p % 2) 0) (no 5 (all (λ v. ltb v n) p) (no 6 (pairsRise 0 p) 0))
+unfoldable pub openingAsks : List ℕ → Answer Bool
+openingAsks p = do
+  asks 3 (eqb (length p) 2)
+  asks 4 (openingAllowed (getD p 0 0) (getD p 1 0))
 
-unfoldable pub nodesNo : ℕ → List ℕ → ℕ
-nodesNo n p = no 5 (all (λ v. ltb v n) p) (no 6 (rises 0 p) 0)
+unfoldable pub edgesAsks : ℕ → List ℕ → Answer Bool
+edgesAsks n p = do
+  asks 3 (wholePairs p)
+  asks 5 (nodesBelow n p)
+  asks 6 (pairsRise 0 p)
 
-unfoldable pub measurementsNo : ℕ → ℕ → (ℕ → Bool) → List ℕ → ℕ
-measurementsNo n mode output p = no 3 (eqb (length p) n) (no 7 (allAllowed mode output 0 p) 0)
+unfoldable pub nodesAsks : ℕ → List ℕ → Answer Bool
+nodesAsks n p = do
+  asks 5 (nodesBelow n p)
+  asks 6 (rises 0 p)
+
+unfoldable pub measurementsAsks : (n mode : ℕ) → (ℕ → Bool) → List ℕ → Answer Bool
+measurementsAsks n mode output p = do
+  asks 3 (eqb (length p) n)
+  asks 7 (allAllowed mode output 0 p)
 
 -- what the five records hold, and the bytes behind them
 pub record JobFile : Type 0 where
@@ -70,30 +94,54 @@ pub record JobFile : Type 0 where
   pub measurements : List ℕ
   pub after : List ℕ
 
-unfoldable pub readMeasurements : (n mode : ℕ) (edges inputs outputs : List ℕ) → List ℕ → Answer JobFile
-readMeasurements n mode edges inputs outputs s = do
-  p ← checked kindMeasurements (measurementsNo n mode (has outputs)) s
-  gives (record { n = n; mode = mode; edges = edges; inputs = inputs; outputs = outputs; measurements = p .payload; after = p .rest })
+-- ---- a job: five records in order, each once
+pub record Opening : Type 0 where
+  pub n : ℕ
+  pub mode : ℕ
 
-unfoldable pub readOutputs : (n mode : ℕ) (edges inputs : List ℕ) → List ℕ → Answer JobFile
-readOutputs n mode edges inputs s = do
-  p ← checked kindOutputs (nodesNo n) s
-  readMeasurements n mode edges inputs (p .payload) (p .rest)
+abbrev pub opening : PayloadFormat Opening
+opening = record {
+  valid = λ o. openingAllowed (o .n) (o .mode);
+  encode = λ o. o .n ∷ o .mode ∷ [];
+  questions = openingAsks;
+  value = λ p. record { n = getD p 0 0; mode = getD p 1 0 };
+}
 
-unfoldable pub readInputs : (n mode : ℕ) (edges : List ℕ) → List ℕ → Answer JobFile
-readInputs n mode edges s = do
-  p ← checked kindInputs (nodesNo n) s
-  readOutputs n mode edges (p .payload) (p .rest)
+-- each record and what stands behind it, the last one first
+abbrev pub lastRecord : Opening → (outputs : List ℕ) → Format (List ℕ)
+lastRecord o outputs = recordOf kindMeasurements (plain (measurementsAsks (o .n) (o .mode) (has outputs)))
 
-unfoldable pub readEdges : (n mode : ℕ) → List ℕ → Answer JobFile
-readEdges n mode s = do
-  p ← checked kindEdges (edgesNo n) s
-  readInputs n mode (p .payload) (p .rest)
+abbrev pub fromOutputs : Opening → Format (List ℕ × List ℕ)
+fromOutputs o = then (recordOf kindOutputs (plain (nodesAsks (o .n)))) (lastRecord o)
+
+abbrev pub fromInputs : Opening → Format (List ℕ × (List ℕ × List ℕ))
+fromInputs o = then (recordOf kindInputs (plain (nodesAsks (o .n)))) (λ inputs. fromOutputs o)
+
+abbrev pub fromEdges : Opening → Format (List ℕ × (List ℕ × (List ℕ × List ℕ)))
+fromEdges o = then (recordOf kindEdges (plain (edgesAsks (o .n)))) (λ edges. fromInputs o)
+
+abbrev pub JobValue : Type 0
+JobValue = Opening × (List ℕ × (List ℕ × (List ℕ × List ℕ)))
+
+abbrev pub job : Format JobValue
+job = then (recordOf kindOpen opening) fromEdges
+
+abbrev pub jobFile : Front JobValue → JobFile
+jobFile p = record {
+  n = p .value .0 .n;
+  mode = p .value .0 .mode;
+  edges = p .value .1 .0;
+  inputs = p .value .1 .1 .0;
+  outputs = p .value .1 .1 .1 .0;
+  measurements = p .value .1 .1 .1 .1;
+  after = p .rest;
+}
+
+abbrev pub jobValue : JobFile → JobValue
+jobValue f = (record { n = f .n; mode = f .mode }, (f .edges, (f .inputs, (f .outputs, f .measurements))))
 
 unfoldable pub readJob : List ℕ → Answer JobFile
-readJob s = do
-  p ← checked kindOpen openNo s
-  readEdges (getD (p .payload) 0 0) (getD (p .payload) 1 0) (p .rest)
+readJob s = job .decode s >>= λ p. gives (jobFile p)
 
 -- ---- what the file means: the graph is symmetric, since a pair joins both ways
 unfoldable pub joined : List ℕ → ℕ → ℕ → Bool

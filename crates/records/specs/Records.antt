@@ -1,10 +1,10 @@
 -- Records: payload length (4 bytes), kind (2 bytes), payload; little-endian. Bytes are numbers.
 use Prim.Native.Nat.{ℕ, _+_, _*_, _/_, _%_}
-use mathlib.Core.Bool.{_&&_}
-use mathlib.Core.List.{List, _∷_}
+use mathlib.Core.Bool.{Bool, true, false, _&&_}
+use mathlib.Core.List.{List, [], _∷_, _++_}
 use lib.Dec.{eqb, leb}
 use lib.ListN.{length, getD, take, drop}
-use Rattle.answers.specs.Answer.{Answer, gives, _>>=_, _>>_, asks, passed}
+use Rattle.answers.specs.Answer.{Answer, gives, refuses, _>>=_, _>>_, asks}
 
 abbrev pub kindOpen : ℕ
 kindOpen = 0x0001
@@ -59,11 +59,22 @@ part kind s = do
   asks 2 (leb (headBytes + lengthField s) (length s))
   gives (record { payload = take (lengthField s) (drop headBytes s); rest = drop (headBytes + lengthField s) s })
 
--- a record whose payload passes its own questions, given by the number of the first that is answered no
-unfoldable pub checked : ℕ → (List ℕ → ℕ) → List ℕ → Answer Part
-checked kind test s = part kind s >>= λ p. passed (test (p .payload)) p
+-- every question was answered yes
+abbrev pub allYes : Answer Bool → Bool
+allYes (gives b) = true
+allYes (refuses r) = false
+
+-- a record whose payload passes its own questions
+unfoldable pub checked : ℕ → (List ℕ → Answer Bool) → List ℕ → Answer Part
+checked kind questions s = do
+  p ← part kind s
+  questions (p .payload)
+  gives p
+
+-- the six bytes before a payload of that length
+abbrev pub headOf : (len kind : ℕ) → List ℕ
+headOf len kind = len % 256 ∷ len / 256 % 256 ∷ len / 256 / 256 % 256 ∷ len / 256 / 256 / 256 % 256 ∷ kind % 256 ∷ kind / 256 ∷ []
 
 -- a record as it is written
 unfoldable pub written : ℕ → List ℕ → List ℕ
-written kind p =
-    length p % 256 ∷ length p / 256 % 256 ∷ length p / 256 / 256 % 256 ∷ length p / 256 / 256 / 256 % 256 ∷ kind % 256 ∷ kind / 256 ∷ p
+written kind p = headOf (length p) kind ++ p

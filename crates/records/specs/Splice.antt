@@ -1,28 +1,29 @@
 -- Bytes put into a buffer at a place: the bytes before and behind them stay.
-use Prim.Native.Nat.{ℕ, _+_, _/_, _%_}
-use mathlib.Core.List.{List, [], _∷_, _++_}
+use Prim.Native.Nat.{ℕ, _+_}
+use mathlib.Core.List.{List, _++_}
 use lib.ListN.{length, take, drop}
 use lib.Dec.{leb}
-use mathlib.Core.Bool.{cond}
-use mathlib.Core.Option.{Option, none, some}
+use mathlib.Core.Bool.{Bool, cond}
+use Rattle.answers.specs.Answer.{Answer, gives, refuses, refusal, asks, _>>_}
 use Rattle.records.specs.declared.writer.Put.{Put}
 use Rattle.records.specs.declared.writer.Put.the-variants.{Bytes, TooLong}
 
 unfoldable pub splice : ℕ → List ℕ → List ℕ → List ℕ
 splice at bytes l = take at l ++ (bytes ++ drop (at + length bytes) l)
 
--- the six bytes before a payload of that length
-abbrev pub headOf : (len kind : ℕ) → List ℕ
-headOf len kind = len % 256 ∷ len / 256 % 256 ∷ len / 256 / 256 % 256 ∷ len / 256 / 256 / 256 % 256 ∷ kind % 256 ∷ kind / 256 ∷ []
+-- ---- at the front of a buffer
+-- do the bytes fit it (20)?
+abbrev pub fitsIn : (bytes out : List ℕ) → Bool
+fitsIn bytes out = leb (length bytes) (length out)
 
--- bytes at the front of a buffer, where they fit
-abbrev pub putFirst : (bytes out : List ℕ) → List ℕ
-putFirst bytes out = cond (leb (length bytes) (length out)) (bytes ++ drop (length bytes) out) out
+-- the buffer with the bytes at its front, where they fit; else as it was
+abbrev pub putFront : (bytes out : List ℕ) → List ℕ
+putFront bytes out = cond (fitsIn bytes out) (bytes ++ drop (length bytes) out) out
 
--- how many were written, or none where they do not fit
-abbrev pub putCount : (bytes out : List ℕ) → Option ℕ
-putCount bytes out = cond (leb (length bytes) (length out)) (some (length bytes)) none
+-- how many were put there
+abbrev pub putAnswer : (bytes out : List ℕ) → Answer ℕ
+putAnswer bytes out = asks 20 (fitsIn bytes out) >> gives (length bytes)
 
-abbrev pub putOf : Put → Option ℕ
-putOf (Bytes k) = some k
-putOf TooLong = none
+abbrev pub putOf : Put → Answer ℕ
+putOf (Bytes k) = gives k
+putOf TooLong = refuses (refusal 20)

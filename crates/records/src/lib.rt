@@ -1,3 +1,5 @@
 // Job and flow files: reading and writing their records.
-pub mod common; // common.rt: the records, and reading them
+pub mod common; // common.rt: the kinds, sizes and modes, and where the payloads lie
+pub mod questions; // questions.rt: what is asked of a payload
+pub mod reader; // reader.rt: reading the records in order
 pub mod writer; // writer.rt: records written into a lent buffer

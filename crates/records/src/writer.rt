@@ -1,17 +1,22 @@
 // Records written into a lent buffer, one after the other.
 ghost use mathlib.Core.Path.{_≡_};
 ghost use mathlib.Core.List.{[], _∷_};
-ghost use Prim.Native.Nat.{_+_, _<_, _≤_};
+ghost use Prim.Native.Nat.{_+_, _/_, _%_, _<_, _≤_};
+ghost use lib.Dec.{leb};
 ghost use lib.ListN.{length};
 ghost use Rattle.nodes.specs.Row.{members, count};
 ghost use Rattle.nodes.specs.NodeSet.{member, capacity};
 ghost use Rattle.nodes.specs.SetTable.{setAt};
-ghost use Rattle.records.specs.Records.{headBytes, written};
-ghost use Rattle.records.specs.Writing.{setBytes, flowRecords};
-ghost use Rattle.records.specs.Splice.{splice, headOf, putFirst, putCount, putOf};
+ghost use Rattle.records.specs.Records.{headBytes, headOf, written, kindLayers, kindSets};
+ghost use Rattle.records.specs.Writing.{layerBytes, setBytes, flowRecords};
+ghost use Rattle.records.specs.Splice.{splice, putFront, putAnswer, putOf};
+ghost use Rattle.records.specs.Views.{keptAround};
+use crate::common::ENTRY_HEAD_BYTES;
 use crate::common::HEAD_BYTES;
 use crate::common::KIND_LAYERS;
 use crate::common::KIND_SETS;
+use crate::common::Place;
+use crate::common::payload;
 use nodes::utils::NodeSet;
 use nodes::utils::set_at;
 
@@ -27,20 +32,25 @@ fn put_byte(out: &mut [u8], at: usize, x: u8)
     out[at] = x;
 }
 
-// A record's length and kind, little-endian.
+// The two lowest bytes of a number, lowest first.
+fn put_pair(out: &mut [u8], at: usize, x: usize)
+    requires { ⌜ at + 2 ≤ length (now out) ⌝ }
+    ensures { λ _. ⌜ now (out .exit) ≡ splice at (x % 256 ∷ x / 256 % 256 ∷ []) (now (out .entry)) ⌝ }
+{
+    put_byte(out, at, (x % 256) as u8);
+    put_byte(out, at + 1, (x / 256 % 256) as u8);
+}
+
+// A record's length and kind.
 fn put_head(out: &mut [u8], at: usize, len: usize, kind: u16)
     requires { ⌜ at + headBytes ≤ length (now out) ⌝ }
     ensures { λ _. ⌜ now (out .exit) ≡ splice at (headOf len kind) (now (out .entry)) ⌝ }
 {
-    put_byte(out, at, (len % 256) as u8);
-    put_byte(out, at + 1, (len / 256 % 256) as u8);
-    put_byte(out, at + 2, (len / 256 / 256 % 256) as u8);
-    put_byte(out, at + 3, (len / 256 / 256 / 256 % 256) as u8);
-    put_byte(out, at + 4, (kind % 256) as u8);
-    put_byte(out, at + 5, (kind / 256 % 256) as u8);
+    put_pair(out, at, len);
+    put_pair(out, at + 2, len / 256 / 256);
+    put_pair(out, at + 4, kind as usize);
 }
 
-// All bytes of a payload.
 fn put_bytes(out: &mut [u8], at: usize, bytes: &[u8])
     requires { ⌜ at + length (now bytes) ≤ length (now out) ⌝ }
     ensures { λ _. ⌜ now (out .exit) ≡ splice at (now (bytes .entry)) (now (out .entry)) ⌝ }
@@ -52,6 +62,37 @@ fn put_bytes(out: &mut [u8], at: usize, bytes: &[u8])
     }
 }
 
+fn put_record(out: &mut [u8], at: usize, kind: u16, payload: &[u8])
+    requires { ⌜ at + headBytes + length (now payload) ≤ length (now out) ⌝ }
+    ensures { λ _. ⌜ now (out .exit) ≡ splice at (written kind (now (payload .entry))) (now (out .entry)) ⌝ }
+{
+    put_head(out, at, payload.len(), kind);
+    put_bytes(out, at + HEAD_BYTES, payload);
+}
+
+// ---- The layers, a byte each: the lowest of a number.
+
+fn put_layers(out: &mut [u8], at: usize, layers: &[u16])
+    requires { ⌜ at + length (now layers) ≤ length (now out) ⌝ }
+    ensures { λ _. ⌜ now (out .exit) ≡ splice at (layerBytes (now (layers .entry))) (now (out .entry)) ⌝ }
+{
+    let mut i = 0;
+    while i < layers.len() {
+        put_byte(out, at + i, (layers[i] % 256) as u8);
+        i += 1;
+    }
+}
+
+fn put_layers_record(out: &mut [u8], layers: &[u16])
+    requires { ⌜ headBytes + length (now layers) ≤ length (now out) ⌝ }
+    ensures { λ _. ⌜ now (out .exit) ≡ splice 0 (written kindLayers (layerBytes (now (layers .entry)))) (now (out .entry)) ⌝ }
+{
+    put_head(out, 0, layers.len(), KIND_LAYERS);
+    put_layers(out, HEAD_BYTES, layers);
+}
+
+// ---- The sets: an entry for each of the nodes, ascending.
+
 // The members, ascending; the place behind them.
 fn put_members(out: &mut [u8], at: usize, s: NodeSet) -> usize
     requires { ⌜ at + count capacity (member s) ≤ length (now out) ⌝ }
@@ -61,7 +102,7 @@ fn put_members(out: &mut [u8], at: usize, s: NodeSet) -> usize
     let mut left = s;
     let mut p = at;
     while !left.is_empty() {
-        put_byte(out, p, left.lowest());
+        put_byte(out, p, left.lowest() as u8);
         left = left.without_lowest();
         p += 1;
     }
@@ -69,17 +110,16 @@ fn put_members(out: &mut [u8], at: usize, s: NodeSet) -> usize
 }
 
 // An entry: node, count, members; the place behind it.
-fn put_entry(out: &mut [u8], at: usize, u: u8, s: NodeSet) -> usize
-    requires { ⌜ at + 2 + count capacity (member s) ≤ length (now out) ⌝ }
+fn put_entry(out: &mut [u8], at: usize, u: usize, s: NodeSet) -> usize
+    requires { ⌜ (u < capacity) × (at + 2 + count capacity (member s) ≤ length (now out)) ⌝ }
     ensures { λ _. ⌜ now (out .exit) ≡ splice at (u ∷ count capacity (member s) ∷ members capacity (member s)) (now (out .entry)) ⌝ }
     ensures { λ r. ⌜ r ≡ at + 2 + count capacity (member s) ⌝ }
 {
-    put_byte(out, at, u);
+    put_byte(out, at, u as u8);
     put_byte(out, at + 1, s.count() as u8);
-    put_members(out, at + 2, s)
+    put_members(out, at + ENTRY_HEAD_BYTES, s)
 }
 
-// The entries of the nodes, ascending.
 fn put_entries(out: &mut [u8], at: usize, sets: &[u64], nodes: NodeSet)
     requires { ⌜ at + length (setBytes capacity (setAt (now sets)) (members capacity (member nodes))) ≤ length (now out) ⌝ }
     ensures { λ _. ⌜ now (out .exit) ≡ splice at (setBytes capacity (setAt (now (sets .entry))) (members capacity (member nodes))) (now (out .entry)) ⌝ }
@@ -100,48 +140,78 @@ fn entries_len(sets: &[u64], nodes: NodeSet) -> usize
     let mut left = nodes;
     let mut len = 0;
     while !left.is_empty() {
-        len += 2 + set_at(sets, left.lowest()).count();
+        len += ENTRY_HEAD_BYTES + set_at(sets, left.lowest()).count();
         left = left.without_lowest();
     }
     len
 }
 
-// One record at the front of the buffer.
+fn put_sets_record(out: &mut [u8], at: usize, len: usize, sets: &[u64], nodes: NodeSet)
+    requires { ⌜ len ≡ length (setBytes capacity (setAt (now sets)) (members capacity (member nodes))) ⌝ }
+    requires { ⌜ at + headBytes + len ≤ length (now out) ⌝ }
+    ensures { λ _. ⌜ now (out .exit) ≡ splice at (written kindSets (setBytes capacity (setAt (now (sets .entry))) (members capacity (member nodes)))) (now (out .entry)) ⌝ }
+{
+    put_head(out, at, len, KIND_SETS);
+    put_entries(out, at + HEAD_BYTES, sets, nodes);
+}
+
+// ---- At the front of the buffer, where there is room for all of it.
+
+// Is there room for three lengths together?
+fn room_for(room: usize, a: usize, b: usize, c: usize) -> bool
+    ensures { λ r. ⌜ r ≡ leb (a + b + c) room ⌝ }
+{
+    if a > room {
+        return false;
+    }
+    if b > room - a {
+        return false;
+    }
+    c <= room - a - b
+}
+
+// One record.
 pub fn write_record(out: &mut [u8], kind: u16, payload: &[u8]) -> Put
-    ensures { λ r. ⌜ putOf r ≡ putCount (written kind (now (payload .entry))) (now (out .entry)) ⌝ }
-    ensures { λ _. ⌜ now (out .exit) ≡ putFirst (written kind (now (payload .entry))) (now (out .entry)) ⌝ }
+    ensures { λ r. ⌜ putOf r ≡ putAnswer (written kind (now (payload .entry))) (now (out .entry)) ⌝ }
+    ensures { λ _. ⌜ now (out .exit) ≡ putFront (written kind (now (payload .entry))) (now (out .entry)) ⌝ }
 {
     let len = payload.len();
-    if out.len() < HEAD_BYTES {
+    if !room_for(out.len(), HEAD_BYTES, len, 0) {
         return Put::TooLong;
     }
-    if out.len() - HEAD_BYTES < len {
-        return Put::TooLong;
-    }
-    put_head(out, 0, len, kind);
-    put_bytes(out, HEAD_BYTES, payload);
+    put_record(out, 0, kind, payload);
     Put::Bytes(HEAD_BYTES + len)
 }
 
-// A flow file at the front of the buffer: the layers, and an entry for each of the nodes.
-pub fn write_flow(out: &mut [u8], layers: &[u8], sets: &[u64], nodes: NodeSet) -> Put
-    ensures { λ r. ⌜ putOf r ≡ putCount (flowRecords (now (layers .entry)) capacity (setAt (now (sets .entry))) (members capacity (member nodes))) (now (out .entry)) ⌝ }
-    ensures { λ _. ⌜ now (out .exit) ≡ putFirst (flowRecords (now (layers .entry)) capacity (setAt (now (sets .entry))) (members capacity (member nodes))) (now (out .entry)) ⌝ }
+// A flow file: the layers, and an entry for each of the nodes.
+pub fn write_flow(out: &mut [u8], layers: &[u16], sets: &[u64], nodes: NodeSet) -> Put
+    ensures { λ r. ⌜ putOf r ≡ putAnswer (flowRecords (layerBytes (now (layers .entry))) capacity (setAt (now (sets .entry))) (members capacity (member nodes))) (now (out .entry)) ⌝ }
+    ensures { λ _. ⌜ now (out .exit) ≡ putFront (flowRecords (layerBytes (now (layers .entry))) capacity (setAt (now (sets .entry))) (members capacity (member nodes))) (now (out .entry)) ⌝ }
 {
     let n = layers.len();
     let len = entries_len(sets, nodes);
-    if out.len() < 2 * HEAD_BYTES {
+    if !room_for(out.len(), 2 * HEAD_BYTES, n, len) {
         return Put::TooLong;
     }
-    if out.len() - 2 * HEAD_BYTES < n {
-        return Put::TooLong;
-    }
-    if out.len() - 2 * HEAD_BYTES - n < len {
-        return Put::TooLong;
-    }
-    put_head(out, 0, n, KIND_LAYERS);
-    put_bytes(out, HEAD_BYTES, layers);
-    put_head(out, HEAD_BYTES + n, len, KIND_SETS);
-    put_entries(out, 2 * HEAD_BYTES + n, sets, nodes);
+    put_layers_record(out, layers);
+    put_sets_record(out, HEAD_BYTES + n, len, sets, nodes);
     Put::Bytes(2 * HEAD_BYTES + n + len)
+}
+
+// New bytes between two parts of a file that are kept byte for byte.
+pub fn write_between(out: &mut [u8], file: &[u8], first: Place, bytes: &[u8], last: Place) -> Put
+    ensures { λ r. ⌜ putOf r ≡ putAnswer (keptAround (now (file .entry)) first (now (bytes .entry)) last) (now (out .entry)) ⌝ }
+    ensures { λ _. ⌜ now (out .exit) ≡ putFront (keptAround (now (file .entry)) first (now (bytes .entry)) last) (now (out .entry)) ⌝ }
+{
+    let front = payload(file, first);
+    let back = payload(file, last);
+    if !room_for(out.len(), front.len(), bytes.len(), back.len()) {
+        return Put::TooLong;
+    }
+    let start = front.len();
+    let end = start + bytes.len();
+    put_bytes(out, 0, front);
+    put_bytes(out, start, bytes);
+    put_bytes(out, end, back);
+    Put::Bytes(end + back.len())
 }

@@ -1,5 +1,5 @@
 -- What the solver's calls answer and what they leave in the lent buffers, for every argument.
-use Prim.Native.Nat.{ℕ, _+_, _*_, _<_}
+use Prim.Native.Nat.{ℕ, _+_, _*_, _/_, _<_}
 use mathlib.Core.Path.{_≡_}
 use mathlib.Core.Logic.{_↔_}
 use mathlib.Core.Bool.{Bool, true, false, _&&_}
@@ -8,7 +8,7 @@ use mathlib.Core.Option.{Option, none, some}
 use lib.Dec.{T, eqb, leb, ltb}
 use lib.ListN.{length}
 use Rattle.answers.specs.Answer.{Answer, gives, refuses, refusal, asks, _>>_}
-use Rattle.nodes.specs.NodeSet.{member}
+use Rattle.nodes.specs.NodeSet.{member, capacity}
 use Rattle.solver.specs.System.{Solves, solve, pivot}
 use Rattle.solver.specs.Reduced.{Reduced, readOff}
 use Rattle.solver.specs.WorkMatrix.{entryOf, systemOf, sideOf, nothingBeyond, bytesOf}
@@ -18,22 +18,22 @@ use Rattle.solver.specs.declared.gf2_linalg.Solved.{Solved}
 use Rattle.solver.specs.declared.gf2_linalg.Solved.the-variants.{Solvable, Unsolvable, WrongShape, NoSuchEquation}
 
 -- ---- the sizes
--- each row, and the out bits, take 16 bytes
+-- each row, and the out bits, have a bit for each node
 abbrev pub rowBytes : ℕ
-rowBytes = 16
+rowBytes = capacity / 8
 
 abbrev pub mostRows : ℕ
-mostRows = 128
+mostRows = capacity
 
 abbrev pub mostColumns : ℕ
 mostColumns = 8 * rowBytes
 
--- the bytes of a work buffer: 128 rows of 128 bits
+-- the bytes of a work buffer with all its rows
 abbrev pub workBytes : ℕ
 workBytes = mostRows * rowBytes
 
 -- ---- the questions
--- is the matrix of exact length, and no more than 128 either way?
+-- is the matrix of exact length, and no larger than the limits either way?
 unfoldable pub fits : List ℕ → ℕ → ℕ → ℕ → Bool
 fits matrix rows cols sides =
     leb rows mostRows && (leb (cols + sides) mostColumns && eqb (length matrix) (rows * rowBytes))
@@ -46,7 +46,7 @@ bothFit matrix out rows cols sides = fits matrix rows cols sides && eqb (length 
 abbrev pub columnExists : ℕ → Bool
 columnExists cols = ltb 0 cols
 
--- is there a row, a right side, a column, matrix and out bits of exact length, no more than 128 either way, and no
+-- is there a row, a right side, a column, matrix and out bits of exact length, no larger than the limits either way, and no
 -- matrix bit beyond the width (11)?
 unfoldable pub wellShaped : List ℕ → List ℕ → ℕ → ℕ → ℕ → Bool
 wellShaped matrix out rows cols sides =

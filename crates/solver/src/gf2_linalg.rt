@@ -14,15 +14,19 @@ ghost use Rattle.solver.specs.Steps.{xorRow, brought, clearOne, clearCol
 ghost use Rattle.solver.specs.Steps.{inVain, noSolution, readColumn, leadBytes, withBit, rowEnds};
 ghost use Rattle.solver.specs.Solver.{rowBytes, mostColumns, fits, bothFit, wellShaped};
 ghost use Rattle.solver.specs.Solver.{MatrixAfter, eliminationOf, solvedOf, eliminateCall, outcome, readOffCall, solveAsks, solveCall};
+use nodes::utils::CAPACITY;
 use nodes::utils::NodeSet;
 use nodes::utils::mask;
 
-// Each row, and the out bits, take 16 bytes, lowest bit first.
-pub const ROW_BYTES: usize = 16;
+// Each row, and the out bits, have a bit for each node, lowest bit first.
+pub const ROW_BYTES: usize = CAPACITY / 8;
 
-const MOST_ROWS: usize = 128;
+const MOST_ROWS: usize = CAPACITY;
 
 const MOST_COLUMNS: usize = 8 * ROW_BYTES;
+
+// The bytes of a work matrix with all its rows.
+pub const WORK_BYTES: usize = MOST_ROWS * ROW_BYTES;
 
 // The pivot columns, or a wrong shape.
 pub enum Elimination {
@@ -170,7 +174,7 @@ fn add_pivot(pivots: NodeSet, matrix: &[u8], row: usize, cols: usize) -> NodeSet
     if k >= cols {
         return pivots;
     }
-    pivots.with(k as u8)
+    pivots.with(k)
 }
 
 // The columns at which the rows of an eliminated matrix begin.
@@ -229,7 +233,7 @@ fn set_bit(out: &mut [u8], k: usize)
     ensures { λ _. ⌜ now (out .exit) ≡ withBit (now (out .entry)) k ⌝ }
 {
     let at = k / 8;
-    out[at] |= mask((k % 8) as u8) as u8;
+    out[at] |= mask(k % 8) as u8;
 }
 
 // A row that asks for 1 has its first coefficient column set.

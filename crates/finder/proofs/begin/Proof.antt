@@ -8,8 +8,8 @@ use borrow.Author.Needs.{needs}
 use Rattle.finder.proofs.begin.Statement.{statement}
 use Rattle.finder.proofs.begin.Tie as tie
 
-clear-requires : tie.Need-clear-requires
-clear-requires c κs = search needs
+clear-layers-requires : tie.Need-clear-layers-requires
+clear-layers-requires c κs = search needs
 
 clear-table-requires : tie.Need-clear-table-requires
 clear-table-requires c κs = search needs
@@ -30,7 +30,7 @@ returns : tie.Need-returns
 returns c = let s = c .before .before .before .before .before .before .before .before .before .before .before .before in
     let a = s .args in (
       start-cut (a .n) (s .pre .0) (a .outputs) (c .intersection .result) _ _ (length (a .layers .now)) (length (a .sets .now))
-          (c .intersection .ensures ∙ ap {B = ℕ → Bool} (λ (f : ℕ → Bool) (u : ℕ). member (a .outputs) u && f u) (c .before .below .ensures)) (c .before .before .before .before .before .before .before .before .clear .ensures) (c .before .before .before .before .clear-table .ensures),
+          (c .intersection .ensures ∙ ap {B = ℕ → Bool} (λ (f : ℕ → Bool) (u : ℕ). member (a .outputs) u && f u) (c .before .below .ensures)) (c .before .before .before .before .before .before .before .before .clear-layers .ensures) (c .before .before .before .before .clear-table .ensures),
       search needs,
     )
 
@@ -38,7 +38,7 @@ pub begin-spec : {M : Type 1} → statement M
 begin-spec =
     tie.close
     (tie.spec
-    clear-requires
+    clear-layers-requires
     clear-table-requires
     below-requires
     intersection-requires

@@ -22,9 +22,6 @@ empty-requires c κs = search needs
 loop-holds : tie.Need-loop-holds Inv-loop μ-loop
 loop-holds c = (search needs, c .empty .ensures ∙ none-yet _)
 
-cast-with-if : tie.Need-cast-with-if Inv-loop μ-loop
-cast-with-if c = search needs
-
 shared-slice-read-is-either : tie.Need-shared-slice-read-is-either Inv-loop μ-loop
 shared-slice-read-is-either c = search needs
 
@@ -59,7 +56,6 @@ measured-in-spec =
     μ-loop
     empty-requires
     loop-holds
-    cast-with-if
     shared-slice-read-is-either
     is-either-requires
     with-if-requires

@@ -15,6 +15,9 @@ use Rattle.finder.proofs.place.Tie as tie
 enum-known-t : tie.Need-enum-known-t
 enum-known-t c = search needs
 
+mul-layers : tie.Need-mul-layers
+mul-layers c = search needs
+
 slice-write-layers : tie.Need-slice-write-layers
 slice-write-layers c = search needs
 
@@ -52,6 +55,7 @@ place-spec =
     tie.close
     (tie.spec
     enum-known-t
+    mul-layers
     slice-write-layers
     put-set-requires
     union-requires

@@ -25,9 +25,6 @@ loop-holds : tie.Need-loop-holds Inv-loop μ-loop
 unfolding allBelow
 loop-holds c = (search needs, tt)
 
-cast-is-given : tie.Need-cast-is-given Inv-loop μ-loop
-cast-is-given c = search needs
-
 shared-slice-read-is-given : tie.Need-shared-slice-read-is-given Inv-loop μ-loop
 shared-slice-read-is-given c = search needs
 
@@ -67,7 +64,6 @@ planes-given-spec =
     Inv-loop
     μ-loop
     loop-holds
-    cast-is-given
     shared-slice-read-is-given
     is-given-requires
     returns

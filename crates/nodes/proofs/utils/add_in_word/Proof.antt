@@ -1,5 +1,4 @@
 use native.Mathlib.Omega.{arith}
-use borrow.Author.Needs.{needs}
 use mathlib.Core.Path.{_≡_, refl, sym, ap, _∙_}
 use mathlib.Core.List.{List}
 use Prim.Native.Nat.{ℕ, _+_, _-_, _^_, _<_}
@@ -32,7 +31,7 @@ add-add-set : tie.Need-add-add-set Inv-loop μ-loop
 add-add-set c = omega (arith, trailing-le wordBits (c .before .before .loop .left))
 
 add-set-requires : tie.Need-add-set-requires Inv-loop μ-loop
-add-set-requires c κs = search needs
+add-set-requires c κs = omega (arith, trailing-le wordBits (c .before .before .loop .left))
 
 sub-left : tie.Need-sub-left Inv-loop μ-loop
 sub-left c = search needs

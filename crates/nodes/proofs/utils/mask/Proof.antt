@@ -6,9 +6,6 @@ use borrow.Author.Needs.{needs}
 use Rattle.nodes.proofs.utils.mask.Statement.{statement}
 use Rattle.nodes.proofs.utils.mask.Tie as tie
 
-cast-result : tie.Need-cast-result
-cast-result c = search needs
-
 shl-result : tie.Need-shl-result
 shl-result c = search needs
 
@@ -16,4 +13,4 @@ returns : tie.Need-returns
 returns c = one-shl wordBits (c .args .v % wordBits) (in-word (c .args .v))
 
 pub mask-spec : {M : Type 1} → statement M
-mask-spec = tie.close (tie.spec cast-result shl-result returns)
+mask-spec = tie.close (tie.spec shl-result returns)

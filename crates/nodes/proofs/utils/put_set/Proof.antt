@@ -1,5 +1,6 @@
 use mathlib.Core.Path.{sym}
 use native.Mathlib.Omega.{arith}
+use lib.ListN.{length-set}
 use Rattle.nodes.specs.NodeSet.{wordsOf}
 use Rattle.nodes.proofs.SetTable.{put-words, put-out}
 use borrow.Author.Needs.{needs}
@@ -8,9 +9,6 @@ use Rattle.nodes.proofs.utils.put_set.Tie as tie
 
 mul-at : tie.Need-mul-at
 mul-at c = search needs
-
-add-if1 : tie.Need-add-if1
-add-if1 c = search needs
 
 mul-table : tie.Need-mul-table
 mul-table c = search needs
@@ -25,7 +23,7 @@ mul-table-2 : tie.Need-mul-table-2
 mul-table-2 c = search needs
 
 slice-write-table-2 : tie.Need-slice-write-table-2
-slice-write-table-2 c = search needs
+slice-write-table-2 c = simp length-set (omega arith)
 
 same-length : tie.Need-same-length
 same-length c = search needs
@@ -45,7 +43,6 @@ put-set-spec =
     tie.close
     (tie.spec
     mul-at
-    add-if1
     mul-table
     slice-write-table
     add-table

@@ -11,9 +11,6 @@ use Rattle.nodes.proofs.utils.set_at.Tie as tie
 mul-at : tie.Need-mul-at
 mul-at c = search needs
 
-add-if1 : tie.Need-add-if1
-add-if1 c = search needs
-
 mul-t7 : tie.Need-mul-t7
 mul-t7 c = search needs
 
@@ -35,11 +32,17 @@ returns c =
     let ws = a .table .now in
     set-words ws (a .u) (getD ws (setWords * a .u) 0) (getD ws (setWords * a .u + 1) 0) refl refl
 
-mul-t14 : tie.Need-mul-t14
-mul-t14 c = search needs
+sub-if2 : tie.Need-sub-if2
+sub-if2 c = search needs
 
-shared-slice-read-t16 : tie.Need-shared-slice-read-t16
-shared-slice-read-t16 c = search needs
+mul-t16 : tie.Need-mul-t16
+mul-t16 c = search needs
+
+mul-t17 : tie.Need-mul-t17
+mul-t17 c = search needs
+
+shared-slice-read-t19 : tie.Need-shared-slice-read-t19
+shared-slice-read-t19 c = search needs
 
 returns-2 : tie.Need-returns-2
 returns-2 c =
@@ -58,14 +61,15 @@ set-at-spec =
     tie.close
     (tie.spec
     mul-at
-    add-if1
     mul-t7
     shared-slice-read-t9
     add-t10
     mul-t11
     shared-slice-read-t13
     returns
-    mul-t14
-    shared-slice-read-t16
+    sub-if2
+    mul-t16
+    mul-t17
+    shared-slice-read-t19
     returns-2
     returns-3)

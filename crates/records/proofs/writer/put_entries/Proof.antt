@@ -8,6 +8,7 @@ use lib.ListN.{length}
 use Rattle.nodes.specs.Row.{anyBelow, count, lowest, members}
 use Rattle.nodes.specs.NodeSet.{capacity, member}
 use Rattle.nodes.proofs.Logic.{unless-in, unless-out}
+use Rattle.nodes.proofs.Members.{lowest-some}
 use Rattle.nodes.proofs.Remove.{count-lowest}
 use Rattle.nodes.specs.SetTable.{setAt}
 use Rattle.nodes.proofs.Remove.{removed}
@@ -40,7 +41,9 @@ put-entry-requires : tie.Need-put-entry-requires Inv-loop μ-loop
 put-entry-requires c κs = let l = c .before .before .before .before .before .loop in
     let g = c .before .before .before .before .before .before .before .before .args .sets .now in
     let left = unless-in (c .before .before .before .before .is-empty .result) (anyBelow capacity (member (l .left))) (c .before .before .before .before .is-empty .ensures) (c .before .before .before .if1 .taken) in
-    omega (arith, entry-length (member (l .left)) (removed (member (l .left)) (lowest capacity (member (l .left)))) left (refl) (setAt (g)) ((c .before .before .lowest) .result) ((c .before .before .lowest) .ensures), ap (count capacity) (c .set-at .ensures))
+    let low = c .before .before .lowest in
+    let few = lowest-some capacity (member (l .left)) left in
+    (omega (arith, low .ensures), omega (arith, entry-length (member (l .left)) (removed (member (l .left)) (lowest capacity (member (l .left)))) left (refl) (setAt (g)) ((c .before .before .lowest) .result) ((c .before .before .lowest) .ensures), ap (count capacity) (c .set-at .ensures)))
 
 without-lowest-requires : tie.Need-without-lowest-requires Inv-loop μ-loop
 without-lowest-requires c κs = search needs

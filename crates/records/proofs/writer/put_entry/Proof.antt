@@ -12,6 +12,9 @@ use Rattle.records.proofs.Splice.{splice-more, splice-splice}
 use Rattle.records.proofs.writer.put_entry.Statement.{statement}
 use Rattle.records.proofs.writer.put_entry.Tie as tie
 
+cast-put-byte : tie.Need-cast-put-byte
+cast-put-byte c = search needs
+
 put-byte-requires : tie.Need-put-byte-requires
 put-byte-requires c κs = search needs
 
@@ -21,8 +24,8 @@ add-put-byte c = search needs
 count-requires : tie.Need-count-requires
 count-requires c κs = search needs
 
-cast-put-byte : tie.Need-cast-put-byte
-cast-put-byte c = let a = c .before .before .before .before .before .before .before .args in omega (arith, count-le capacity (member (a .s)))
+cast-put-byte-2 : tie.Need-cast-put-byte-2
+cast-put-byte-2 c = let a = c .before .before .before .before .before .before .before .args in omega (arith, count-le capacity (member (a .s)))
 
 put-byte-requires-2 : tie.Need-put-byte-requires-2
 put-byte-requires-2 c κs = search needs
@@ -52,10 +55,11 @@ pub put-entry-spec : {M : Type 1} → statement M
 put-entry-spec =
     tie.close
     (tie.spec
+    cast-put-byte
     put-byte-requires
     add-put-byte
     count-requires
-    cast-put-byte
+    cast-put-byte-2
     put-byte-requires-2
     add-put-members
     put-members-requires

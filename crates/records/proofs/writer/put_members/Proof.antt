@@ -8,6 +8,7 @@ use Rattle.nodes.specs.Row.{anyBelow, count, lowest, members}
 use Rattle.nodes.specs.NodeSet.{capacity, member}
 use Rattle.nodes.proofs.Logic.{unless-in, unless-out}
 use Rattle.nodes.proofs.Count.{count-empty}
+use Rattle.nodes.proofs.Members.{lowest-some}
 use Rattle.nodes.proofs.Remove.{count-lowest}
 use Rattle.records.specs.Splice.{splice}
 use Rattle.records.proofs.Splice.{splice-none}
@@ -29,6 +30,11 @@ is-empty-requires c κs = search needs
 
 lowest-requires : tie.Need-lowest-requires Inv-loop μ-loop
 lowest-requires c κs = search needs
+
+cast-put-byte : tie.Need-cast-put-byte Inv-loop μ-loop
+cast-put-byte c =
+    let l = c .before .before .before .before .loop in
+    omega (arith, c .lowest .ensures, lowest-some capacity (member (l .left)) (unless-in (c .before .before .before .is-empty .result) (anyBelow capacity (member (l .left))) (c .before .before .before .is-empty .ensures) (c .before .before .if1 .taken)))
 
 put-byte-requires : tie.Need-put-byte-requires Inv-loop μ-loop
 put-byte-requires c κs = let l = c .before .before .before .before .loop in omega (arith, count-lowest capacity (member (l .left)) (unless-in (c .before .before .before .is-empty .result) (anyBelow capacity (member (l .left))) (c .before .before .before .is-empty .ensures) (c .before .before .if1 .taken)))
@@ -74,6 +80,7 @@ put-members-spec =
     loop-holds
     is-empty-requires
     lowest-requires
+    cast-put-byte
     put-byte-requires
     without-lowest-requires
     add-p

@@ -1,121 +1,97 @@
-use Prim.Native.Nat.{ℕ, _+_, _-_}
-use mathlib.Core.Path.{_≡_, refl, ap, _∙_}
+use Prim.Native.Nat.{ℕ, _+_, _*_, _%_, _≤_}
+use mathlib.Core.Path.{_≡_, sym, _∙_}
+use mathlib.Core.List.{List}
 use native.Mathlib.Omega.{arith}
-use borrow.Author.Needs.{needs}
-use lib.ListN.{length}
+use borrow.Author.Tests.{leb-true, leb-false, not-true, not-false}
+use lib.ListN.{length, length-map}
 use Rattle.nodes.specs.Row.{members}
 use Rattle.nodes.specs.NodeSet.{capacity, member}
 use Rattle.nodes.specs.SetTable.{setAt}
-use Rattle.records.specs.Records.{kindLayers, kindSets}
-use Rattle.records.specs.Writing.{setBytes, flowRecords}
-use Rattle.records.specs.Splice.{splice, headOf}
-use Rattle.records.proofs.WritingLoops.{record-put, records-put, flow-length, put-fits, put-not}
+use Rattle.records.specs.Records.{headBytes}
+use Rattle.records.specs.Writing.{layerBytes, setBytes, flowRecords}
+use Rattle.records.proofs.WritingLoops.{records-put, flow-length, put-fits, put-not}
+use borrow.Author.Needs.{needs}
 use Rattle.records.proofs.writer.write_flow.Statement.{statement}
 use Rattle.records.proofs.writer.write_flow.Tie as tie
+
+-- the entries and the whole result
+abbrev entries : tie.Start → List ℕ
+entries s = let a = s .args in setBytes capacity (setAt (a .sets .now)) (members capacity (member (a .nodes)))
+
+abbrev result : tie.Start → List ℕ
+result s = let a = s .args in flowRecords (layerBytes (a .layers .now)) capacity (setAt (a .sets .now)) (members capacity (member (a .nodes)))
+
+result-length : (s : tie.Start) → length (result s) ≡ 2 * headBytes + length (s .args .layers .now) + length (entries s)
+result-length s = omega (arith, flow-length (layerBytes (s .args .layers .now)) (entries s), length-map (s .args .layers .now) (λ x. x % 256))
+
+abbrev size : (c : tie.After-room-for) → ℕ
+size c = 2 * headBytes + length (c .before .before .before .before .before .args .layers .now) + c .before .entries-len .result
+
+roomy : (c : tie.Else1) → size (c .before) ≤ length (c .before .before .before .before .before .before .args .out .now)
+roomy c = leb-true (size (c .before)) (length (c .before .before .before .before .before .before .args .out .now)) (sym (c .before .room-for .ensures) ∙ not-false _ (c .if1 .left))
 
 entries-len-requires : tie.Need-entries-len-requires
 entries-len-requires c κs = search needs
 
-mul-if1 : tie.Need-mul-if1
-mul-if1 c = search needs
+mul-room-for : tie.Need-mul-room-for
+mul-room-for c = search needs
+
+room-for-requires : tie.Need-room-for-requires
+room-for-requires c κs = search needs
 
 returns : tie.Need-returns
-returns c = let a = c .before .before .before .before .before .args in put-not (flowRecords (a .layers .now) capacity (setAt (a .sets .now)) (members capacity (member (a .nodes)))) (a .out .now) (omega (arith, flow-length (a .layers .now) (setBytes capacity (setAt (a .sets .now)) (members capacity (member (a .nodes)))), c .before .entries-len .ensures))
+returns c =
+    let s = c .before .before .before .before .before .before in
+    let a = s .args in
+    let full = leb-false (size (c .before)) (length (a .out .now)) (sym (c .before .room-for .ensures) ∙ not-true _ (c .if1 .taken)) in
+    put-not (result s) (a .out .now) (omega (arith, full, c .before .before .entries-len .ensures, result-length s))
 
-mul-if2 : tie.Need-mul-if2
-mul-if2 c = search needs
+put-layers-record-requires : tie.Need-put-layers-record-requires
+put-layers-record-requires c κs = omega (arith, roomy (c .before))
 
-sub-if2 : tie.Need-sub-if2
-sub-if2 c = search needs
+add-put-sets-record : tie.Need-add-put-sets-record
+add-put-sets-record c = search needs
 
-returns-2 : tie.Need-returns-2
-returns-2 c = let a = c .before .before .before .before .before .before .args in put-not (flowRecords (a .layers .now) capacity (setAt (a .sets .now)) (members capacity (member (a .nodes)))) (a .out .now) (omega (arith, flow-length (a .layers .now) (setBytes capacity (setAt (a .sets .now)) (members capacity (member (a .nodes)))), c .before .before .entries-len .ensures))
+put-sets-record-requires : tie.Need-put-sets-record-requires
+put-sets-record-requires c κs = (c .before .before .before .before .before .before .before .entries-len .ensures, omega (arith, roomy (c .before .before .before .before .before)))
 
-mul-if3 : tie.Need-mul-if3
-mul-if3 c = search needs
-
-sub-if3 : tie.Need-sub-if3
-sub-if3 c = search needs
-
-sub-if3-2 : tie.Need-sub-if3-2
-sub-if3-2 c = search needs
-
-returns-3 : tie.Need-returns-3
-returns-3 c = let a = c .before .before .before .before .before .before .before .args in put-not (flowRecords (a .layers .now) capacity (setAt (a .sets .now)) (members capacity (member (a .nodes)))) (a .out .now) (omega (arith, flow-length (a .layers .now) (setBytes capacity (setAt (a .sets .now)) (members capacity (member (a .nodes)))), c .before .before .before .entries-len .ensures))
-
-put-head-requires : tie.Need-put-head-requires
-put-head-requires c κs = search needs
-
-put-bytes-requires : tie.Need-put-bytes-requires
-put-bytes-requires c κs = search needs
-
-add-put-head : tie.Need-add-put-head
-add-put-head c = search needs
-
-put-head-requires-2 : tie.Need-put-head-requires-2
-put-head-requires-2 c κs = search needs
-
-mul-put-entries : tie.Need-mul-put-entries
-mul-put-entries c = search needs
-
-add-put-entries : tie.Need-add-put-entries
-add-put-entries c = search needs
-
-put-entries-requires : tie.Need-put-entries-requires
-put-entries-requires c κs = search needs
-
-mul-t11 : tie.Need-mul-t11
-mul-t11 c = search needs
-
-add-t7 : tie.Need-add-t7
-add-t7 c = search needs
+mul-t9 : tie.Need-mul-t9
+mul-t9 c = search needs
 
 add-t8 : tie.Need-add-t8
 add-t8 c = search needs
 
+add-t16 : tie.Need-add-t16
+add-t16 c = omega (arith, roomy (c .before .before .before .before .before .before .before .before))
+
 same-length : tie.Need-same-length
 same-length c = search needs
 
-returns-4 : tie.Need-returns-4
-returns-4 c = let a = c .before .before .before .before .before .before .before .before .before .before .before .before .before .before .before .before .before .before .before .before .before .before .before .args in
-    let l = a .layers .now in
-    let s = (setBytes capacity (setAt (a .sets .now)) (members capacity (member (a .nodes)))) in
-    let size = c .before .before .before .before .before .before .before .before .before .before .before .before .before .before .before .before .before .before .before .entries-len .ensures in
-    let head = c .before .before .before .before .before .before .before .before .before .before .before .before .before .before .put-head in
-    let layers = c .before .before .before .before .before .before .before .before .before .before .put-bytes in
-    let second = c .before .before .before .before .before .before .put-head2 in
-    let sets = c .before .before .put-entries in
-    let k = 12 + length l + c .before .before .before .before .before .before .before .before .before .before .before .before .before .before .before .before .before .before .before .entries-len .result in
-    let long : length (a .out .now) ≡ length (layers .last .0) = search needs in
-    let first = layers .ensures ∙ record-put 0 6 kindLayers l (a .out .now) (head .last .0) refl (omega arith) (head .ensures) in
-    let other = second .ensures ∙ ap (λ (x : ℕ). splice (6 + length l) (headOf x kindSets) (layers .last .0)) size in
-    let both = sets .ensures ∙ record-put (6 + length l) (12 + length l) kindSets s (layers .last .0) (second .last .0) (omega arith) (omega arith) other in
-    put-fits (flowRecords (a .layers .now) capacity (setAt (a .sets .now)) (members capacity (member (a .nodes)))) (a .out .now) (sets .last .0) k (omega (arith, flow-length l s)) (omega arith)
-    (both ∙ records-put l s (a .out .now) (layers .last .0) (6 + length l) refl (omega arith) first)
+returns-2 : tie.Need-returns-2
+returns-2 c =
+    let s = c .before .before .before .before .before .before .before .before .before .before .before .before .before .before in
+    let a = s .args in
+    let first = c .before .before .before .before .before .before .put-layers-record in
+    let second = c .before .before .put-sets-record in
+    let len = c .before .before .before .before .before .before .before .before .before .before .entries-len in
+    let room = roomy (c .before .before .before .before .before .before .before .before) in
+    let n : length (layerBytes (a .layers .now)) ≡ length (a .layers .now) = length-map (a .layers .now) _ in
+    put-fits (result s) (a .out .now) (second .last .0) (2 * headBytes + length (a .layers .now) + len .result) (omega (arith, len .ensures, result-length s)) (omega (arith, room))
+    (second .ensures ∙ records-put (layerBytes (a .layers .now)) (entries s) (a .out .now) (first .last .0) (headBytes + length (a .layers .now)) (omega arith) (omega (arith, room, len .ensures)) (first .ensures))
 
 pub write-flow-spec : {M : Type 1} → statement M
 write-flow-spec =
     tie.close
     (tie.spec
     entries-len-requires
-    mul-if1
+    mul-room-for
+    room-for-requires
     returns
-    mul-if2
-    sub-if2
-    returns-2
-    mul-if3
-    sub-if3
-    sub-if3-2
-    returns-3
-    put-head-requires
-    put-bytes-requires
-    add-put-head
-    put-head-requires-2
-    mul-put-entries
-    add-put-entries
-    put-entries-requires
-    mul-t11
-    add-t7
+    put-layers-record-requires
+    add-put-sets-record
+    put-sets-record-requires
+    mul-t9
     add-t8
+    add-t16
     same-length
-    returns-4)
+    returns-2)

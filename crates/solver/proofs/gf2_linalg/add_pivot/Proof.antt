@@ -19,9 +19,6 @@ returns c =
     set-past (member (a .pivots)) (a .cols) (f .result) (c .if1 .taken)
     ∙ ap {B = ℕ → Bool} (λ p k. member (a .pivots) k || (ltb k (a .cols) && eqb p k)) (f .ensures)
 
-cast-with : tie.Need-cast-with
-cast-with c = search needs
-
 with-requires : tie.Need-with-requires
 with-requires c κs = search needs
 
@@ -34,4 +31,4 @@ returns-2 c =
 
 pub add-pivot-spec : {M : Type 1} → statement M
 add-pivot-spec =
-    tie.close (tie.spec first-column-requires returns cast-with with-requires returns-2)
+    tie.close (tie.spec first-column-requires returns with-requires returns-2)

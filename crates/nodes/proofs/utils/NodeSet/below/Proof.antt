@@ -10,17 +10,11 @@ use borrow.Author.Needs.{needs}
 use Rattle.nodes.proofs.utils.NodeSet.below.Statement.{statement}
 use Rattle.nodes.proofs.utils.NodeSet.below.Tie as tie
 
-cast-if1 : tie.Need-cast-if1
-cast-if1 c = search needs
-
-cast-mask : tie.Need-cast-mask
-cast-mask c = search needs
-
 mask-requires : tie.Need-mask-requires
 mask-requires c κs = search needs
 
-sub-t6 : tie.Need-sub-t6
-sub-t6 c = omega (arith, c .mask .ensures, pow-pos (c .before .before .args .n % wordBits))
+sub-t4 : tie.Need-sub-t4
+sub-t4 c = omega (arith, c .mask .ensures, pow-pos (c .before .before .args .n % wordBits))
 
 returns : tie.Need-returns
 returns c =
@@ -29,17 +23,11 @@ returns c =
     let digits : c .mask .result - 1 ≡ 2 ^ n - 1 = ap (λ (x : ℕ). x - 1) (c .mask .ensures ∙ ap (λ (x : ℕ). 2 ^ x) e) in
     fun-ext (λ u. member-below n (c .mask .result - 1) (0 ∷ []) (omega arith) digits (member-empty 1) u ∙ below-within u n highest (omega arith))
 
-cast-if2 : tie.Need-cast-if2
-cast-if2 c = search needs
-
-cast-mask-2 : tie.Need-cast-mask-2
-cast-mask-2 c = search needs
-
 mask-requires-2 : tie.Need-mask-requires-2
 mask-requires-2 c κs = search needs
 
-sub-t10 : tie.Need-sub-t10
-sub-t10 c = omega (arith, c .mask2 .ensures, pow-pos (c .before .before .before .args .n % wordBits))
+sub-t7 : tie.Need-sub-t7
+sub-t7 c = omega (arith, c .mask2 .ensures, pow-pos (c .before .before .before .args .n % wordBits))
 
 returns-2 : tie.Need-returns-2
 returns-2 c =
@@ -61,16 +49,4 @@ returns-3 c =
 
 pub below-spec : {M : Type 1} → statement M
 below-spec =
-    tie.close
-    (tie.spec
-    cast-if1
-    cast-mask
-    mask-requires
-    sub-t6
-    returns
-    cast-if2
-    cast-mask-2
-    mask-requires-2
-    sub-t10
-    returns-2
-    returns-3)
+    tie.close (tie.spec mask-requires sub-t4 returns mask-requires-2 sub-t7 returns-2 returns-3)

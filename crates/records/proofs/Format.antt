@@ -1,0 +1,323 @@
+-- The laws of formats: what is written reads back, nothing else is read, and bytes more may follow. Each holds of a
+-- format if it holds of its parts.
+use Prim.Native.Nat.{ℕ, _+_, _≤_, _<_}
+use native.Mathlib.Omega.{arith}
+use borrow.Author.Tests.{eq-eqb, ne-eqb, eqb-true, leb-true, le-leb}
+use mathlib.Core.Path.{_≡_, refl, sym, ap, _∙_, subst}
+use mathlib.Core.Bool.{Bool, true, false, cond, not, false≢true}
+use mathlib.Core.Logic.{_↔_}
+use mathlib.Core.Option.{Option, none, some}
+use mathlib.Core.List.{List, [], _++_, append-assoc}
+use lib.Dec.{ltb, leb, eqb}
+use lib.ListN.{length, length-append, List·getD-append}
+use Rattle.nodes.specs.Lists.{all}
+use Rattle.answers.specs.Answer.{Answer, gives, refuses, refusal, _>>=_, _>>_}
+use Rattle.answers.proofs.Answer.{give-inj, never, bind-out}
+use Rattle.records.specs.Records.{Part, allYes, part, checked, headOf, written, kindField, headBytes}
+use Rattle.records.specs.Format.{Front, front, Format, PayloadFormat, plain, recordOf, then, carries, someOf, optional, choice}
+use Rattle.records.specs.Encoding.{Bytes}
+use Rattle.records.proofs.Records.{and-out, all-left, all-right, checked-passed, checked-append, checked-written, record-bytes}
+
+-- what is read is valid
+pub record Sound {A : Type 0} (f : Format A) : Type 0 where
+  pub valid : (s : List ℕ) (a : A) (t : List ℕ) → f .decode s ≡ gives (front a t) → f .valid a ≡ true
+
+-- what reading a value from bytes and leaving t says of them
+pub record Decoded {A : Type 0} (f : Format A) (s : List ℕ) (a : A) (t : List ℕ) : Type 0 where
+  pub same : s ≡ f .encode a ++ t
+  pub follows : f .mayFollow a t ≡ true
+  pub bytes : Bytes t
+
+-- what is written reads back, and of bytes nothing else is read
+pub record Exact {A : Type 0} (f : Format A) : Type 0 where
+  pub sound : Sound f
+  pub decodes : (a : A) (t : List ℕ) → f .valid a ≡ true → f .mayFollow a t ≡ true → f .decode (f .encode a ++ t) ≡ gives (front a t)
+  pub encodes : (s : List ℕ) (a : A) (t : List ℕ) → Bytes s → f .decode s ≡ gives (front a t) → Decoded f s a t
+
+-- read the same with bytes behind it
+pub record Appends {A : Type 0} (f : Format A) : Type 0 where
+  pub appends : (s : List ℕ) (a : A) (t u : List ℕ) → f .decode s ≡ gives (front a t) → f .mayFollow a (t ++ u) ≡ true → f .decode (s ++ u) ≡ gives (front a (t ++ u))
+
+-- anything may follow a value of this format
+pub record Closed {A : Type 0} (f : Format A) : Type 0 where
+  pub closed : (a : A) (t : List ℕ) → f .mayFollow a t ≡ true
+
+-- a fact of the one value is a fact of the other
+front-inj : {A : Type 0} (C : A → List ℕ → Type 0) (a b : A) (t u : List ℕ) → gives (front a t) ≡ gives (front b u) → C a t → C b u
+front-inj {A = A} C a b t u e k = subst (λ (z : Front A). C (z .value) (z .rest)) (give-inj e) k
+
+-- ---- of every exact format
+module _ {A : Type 0} (f : Format A) (x : Exact f) where
+  -- bytes are read as a value just where they are its bytes, it is valid, and what is left may follow it
+  pub exact-iff : (s : List ℕ) (a : A) (t : List ℕ) → Bytes s
+      → (f .decode s ≡ gives (front a t) ↔ (s ≡ f .encode a ++ t) × (f .valid a ≡ true) × (f .mayFollow a t ≡ true))
+  exact-iff s a t h = (
+    (λ e. let r = x .encodes s a t h e in (r .same, x .sound .valid s a t e, r .follows)),
+    λ r. ap (λ (z : List ℕ). f .decode z) (r .0) ∙ x .decodes a t (r .1) (r .2),
+  )
+
+  -- with bytes behind it, from bytes; an optional part before others is covered too
+  pub exact-append : (s : List ℕ) (a : A) (t u : List ℕ) → Bytes s → f .decode s ≡ gives (front a t) → f .mayFollow a (t ++ u) ≡ true → f .decode (s ++ u) ≡ gives (front a (t ++ u))
+  exact-append s a t u h e w =
+      let r = x .encodes s a t h e in
+      ap (λ (z : List ℕ). f .decode z) (ap (λ (z : List ℕ). z ++ u) (r .same) ∙ append-assoc (f .encode a) t u) ∙ x .decodes a (t ++ u) (x .sound .valid s a t e) w
+
+  -- one file has one value
+  pub encode-inj : (a b : A) → f .valid a ≡ true → f .valid b ≡ true → f .mayFollow a [] ≡ true → f .mayFollow b [] ≡ true → f .encode a ≡ f .encode b → a ≡ b
+  encode-inj a b v w p q e =
+      ap (λ (z : Front A). z .value) (give-inj (sym (x .decodes a [] v p) ∙ ap (λ (z : List ℕ). f .decode (z ++ [])) e ∙ x .decodes b [] w q))
+
+-- ---- one record
+pub record PayloadExact {A : Type 0} (p : PayloadFormat A) : Type 0 where
+  pub valid : (l : List ℕ) → allYes (p .questions l) ≡ true → p .valid (p .value l) ≡ true
+  pub into : (a : A) → p .valid a ≡ true → (allYes (p .questions (p .encode a)) ≡ true) × (p .value (p .encode a) ≡ a) × (length (p .encode a) < 4294967296)
+  pub out : (l : List ℕ) → Bytes l → allYes (p .questions l) ≡ true → p .encode (p .value l) ≡ l
+
+payload-bytes : (kind : ℕ) (p t : List ℕ) → Bytes (written kind p ++ t) → Bytes p
+unfolding written
+payload-bytes kind p t h = all-right (λ b. ltb b 256) (headOf (length p) kind) p (all-left (λ b. ltb b 256) (written kind p) t h)
+
+module _ {A : Type 0} (kind : ℕ) (p : PayloadFormat A) where
+  -- the record that was read
+  record-out : (s : List ℕ) (a : A) (t : List ℕ) → recordOf kind p .decode s ≡ gives (front a t) → (r : Part) × (checked kind (p .questions) s ≡ gives r) × (gives (front (p .value (r .payload)) (r .rest)) ≡ gives (front a t))
+  record-out s a t e = bind-out (checked kind (p .questions) s) (λ r. gives (front (p .value (r .payload)) (r .rest))) (front a t) e
+
+  pub record-sound : ((l : List ℕ) → allYes (p .questions l) ≡ true → p .valid (p .value l) ≡ true) → Sound (recordOf kind p)
+  record-sound h = record {
+    valid = λ s a t e.
+        let (r, c, g) = record-out s a t e in
+        front-inj (λ a t. p .valid a ≡ true) (p .value (r .payload)) a (r .rest) t g (h (r .payload) (checked-passed kind (p .questions) s r c .1));
+  }
+
+  pub record-exact : PayloadExact p → Exact (recordOf kind p)
+  record-exact x = record {
+    sound = record-sound (x .valid);
+    decodes = λ a t v w.
+        let (z, q, l) = x .into a v in
+        rw (checked-written kind (p .questions) (p .encode a) t l z, q);
+    encodes = λ s a t h e.
+        let (r, c, g) = record-out s a t e in
+        let (q, hb) = record-bytes kind (p .questions) s r h c in
+        let b = x .out (r .payload) (payload-bytes kind (r .payload) (r .rest) (sym (ap (all (λ b. ltb b 256)) q) ∙ h)) (checked-passed kind (p .questions) s r c .1) in
+        front-inj (Decoded (recordOf kind p) s) (p .value (r .payload)) a (r .rest) t g (record { same = q ∙ ap (λ (z : List ℕ). written kind z ++ r .rest) (sym b); follows = refl; bytes = hb });
+  }
+
+  pub record-appends : Appends (recordOf kind p)
+  record-appends = record {
+    appends = λ s a t u e w.
+        let (r, c, g) = record-out s a t e in
+        let q : front (p .value (r .payload)) (r .rest) ≡ front a t = give-inj g in
+        rw (checked-append kind (p .questions) s u r c) (ap (λ (z : Front A). gives (front (z .value) (z .rest ++ u))) q);
+  }
+
+  pub record-closed : Closed (recordOf kind p)
+  record-closed = record { closed = λ a t. refl }
+
+  -- another kind stands there, or none: question 1
+  pub record-missing : (s : List ℕ) → carries kind s ≡ false → recordOf kind p .decode s ≡ refuses (refusal 1)
+  unfolding checked part
+  record-missing s e = rw e refl
+
+  pub record-carries : (s : List ℕ) (r : Front A) → recordOf kind p .decode s ≡ gives r → carries kind s ≡ true
+  record-carries s r e = by (carries kind s) refl
+    where
+      by : (b : Bool) → carries kind s ≡ b → carries kind s ≡ true
+      by true h = h
+      by false h = absurd (never (sym (record-missing s h) ∙ e))
+
+-- a payload that stands for itself
+pub plain-sound : (kind : ℕ) (questions : List ℕ → Answer Bool) → Sound (recordOf kind (plain questions))
+plain-sound kind questions = record-sound kind (plain questions) (λ l z. z)
+
+-- where its questions bound its length
+pub plain-exact : (kind : ℕ) (questions : List ℕ → Answer Bool) → ((l : List ℕ) → allYes (questions l) ≡ true → length l < 4294967296) → Exact (recordOf kind (plain questions))
+plain-exact kind questions few = record-exact kind (plain questions) (record {
+  valid = λ l z. z;
+  into = λ a z. (z, refl, few a z);
+  out = λ l h z. refl;
+})
+
+-- ---- one after the other
+module _ {A B : Type 0} (f : Format A) (g : A → Format B) where
+  then-out : (s : List ℕ) (c : A × B) (t : List ℕ) → then f g .decode s ≡ gives (front c t)
+      → (p : Front A) × (f .decode s ≡ gives p) × (q : Front B) × (g (p .value) .decode (p .rest) ≡ gives q) × (gives (front {A = A × B} (p .value, q .value) (q .rest)) ≡ gives (front c t))
+  then-out s c t e =
+      let (p, p1, e1) = bind-out (f .decode s) (λ p. g (p .value) .decode (p .rest) >>= λ q. gives (front {A = A × B} (p .value, q .value) (q .rest))) (front {A = A × B} c t) e in
+      let (q, q1, e2) = bind-out (g (p .value) .decode (p .rest)) (λ q. gives (front {A = A × B} (p .value, q .value) (q .rest))) (front {A = A × B} c t) e1 in
+      (p, p1, q, q1, e2)
+
+  pub then-sound : Sound f → ((a : A) → f .valid a ≡ true → Sound (g a)) → Sound (then f g)
+  then-sound x y = record {
+    valid = λ s c t e.
+        let (p, p1, q, q1, e2) = then-out s c t e in
+        let v = x .valid s (p .value) (p .rest) p1 in
+        front-inj (λ c t. then f g .valid c ≡ true) (p .value, q .value) c (q .rest) t e2 (rw (v, y (p .value) v .valid (p .rest) (q .value) (q .rest) q1));
+  }
+
+  pub then-exact : Exact f → ((a : A) → f .valid a ≡ true → Exact (g a)) → Exact (then f g)
+  then-exact x y = record { sound = then-sound (x .sound) (λ a v. y a v .sound); decodes = there; encodes = back }
+    where
+      there : (c : A × B) (t : List ℕ) → then f g .valid c ≡ true → then f g .mayFollow c t ≡ true → then f g .decode (then f g .encode c ++ t) ≡ gives (front c t)
+      there (a, b) t v w =
+          let (v1, v2) = and-out (f .valid a) (g a .valid b) v in
+          let (w1, w2) = and-out (f .mayFollow a (g a .encode b ++ t)) (g a .mayFollow b t) w in
+          rw (append-assoc (f .encode a) (g a .encode b) t, x .decodes a (g a .encode b ++ t) v1 w1, y a v1 .decodes b t v2 w2)
+
+      both : (s : List ℕ) (a : A) (b : B) (m u : List ℕ) → Decoded f s a m → Decoded (g a) m b u → Decoded (then f g) s (a, b) u
+      both s a b m u r1 r2 = record {
+        same = r1 .same ∙ ap (λ (z : List ℕ). f .encode a ++ z) (r2 .same) ∙ sym (append-assoc (f .encode a) (g a .encode b) u);
+        follows = rw (← r2 .same, r1 .follows, r2 .follows);
+        bytes = r2 .bytes;
+      }
+
+      back : (s : List ℕ) (c : A × B) (t : List ℕ) → Bytes s → then f g .decode s ≡ gives (front c t) → Decoded (then f g) s c t
+      back s c t h e =
+          let (p, p1, q, q1, e2) = then-out s c t e in
+          let r1 : Decoded f s (p .value) (p .rest) = x .encodes s (p .value) (p .rest) h p1 in
+          let r2 : Decoded (g (p .value)) (p .rest) (q .value) (q .rest) = y (p .value) (x .sound .valid s (p .value) (p .rest) p1) .encodes (p .rest) (q .value) (q .rest) (r1 .bytes) q1 in
+          front-inj (Decoded (then f g) s) (p .value, q .value) c (q .rest) t e2 (both s (p .value) (q .value) (p .rest) (q .rest) r1 r2)
+
+  pub then-closed : Closed f → ((a : A) → Closed (g a)) → Closed (then f g)
+  then-closed k l = record { closed = λ c t. rw (k .closed (c .0) (g (c .0) .encode (c .1) ++ t)) (l (c .0) .closed (c .1) t) }
+
+  pub then-appends : Appends f → Closed f → ((a : A) → Appends (g a)) → Appends (then f g)
+  then-appends x k y = record {
+    appends = λ s c t u e w.
+        let (p, p1, q, q1, e2) = then-out s c t e in
+        let m : front {A = A × B} (p .value, q .value) (q .rest) ≡ front c t = give-inj e2 in
+        let (w1, w2) = and-out (f .mayFollow (p .value) (g (p .value) .encode (q .value) ++ (q .rest ++ u))) (g (p .value) .mayFollow (q .value) (q .rest ++ u)) (ap (λ (z : Front (A × B)). then f g .mayFollow (z .value) (z .rest ++ u)) m ∙ w) in
+        rw (x .appends s (p .value) (p .rest) u p1 (k .closed (p .value) (p .rest ++ u)), y (p .value) .appends (p .rest) (q .value) (q .rest) u q1 w2) (ap (λ (z : Front (A × B)). gives (front (z .value) (z .rest ++ u))) m);
+  }
+
+-- ---- which kind stands first
+abbrev pub Starts : {A : Type 0} → ℕ → Format A → Type 0
+Starts {A = A} kind f = (a : A) (t : List ℕ) → carries kind (f .encode a ++ t) ≡ true
+
+abbrev pub Differs : {A : Type 0} → ℕ → Format A → Type 0
+Differs {A = A} kind f = (a : A) (t : List ℕ) → carries kind (f .encode a ++ t) ≡ false
+
+kind-written : (kind : ℕ) (p t : List ℕ) → kindField (written kind p ++ t) ≡ kind
+unfolding written
+kind-written kind p t = omega arith
+
+six-written : (kind : ℕ) (p t : List ℕ) → leb headBytes (length (written kind p ++ t)) ≡ true
+unfolding written
+six-written kind p t = le-leb headBytes (length (written kind p ++ t)) (omega arith)
+
+pub record-starts : {A : Type 0} (kind : ℕ) (p : PayloadFormat A) → Starts kind (recordOf kind p)
+record-starts kind p a t = rw (kind-written kind (p .encode a) t, six-written kind (p .encode a) t, eq-eqb kind kind refl)
+
+pub record-differs : {A : Type 0} (other kind : ℕ) (p : PayloadFormat A) → (kind ≡ other → ⊥) → Differs other (recordOf kind p)
+record-differs other kind p d a t = rw (kind-written kind (p .encode a) t, six-written kind (p .encode a) t, ne-eqb kind other d)
+
+pub then-starts : {A B : Type 0} (kind : ℕ) (f : Format A) (g : A → Format B) → Starts kind f → Starts kind (then f g)
+then-starts kind f g x c t = rw (append-assoc (f .encode (c .0)) (g (c .0) .encode (c .1)) t) (x (c .0) (g (c .0) .encode (c .1) ++ t))
+
+-- a kind that stands there stands there with more bytes behind, and no other does
+carries-append : (kind : ℕ) (s u : List ℕ) → carries kind s ≡ true → carries kind (s ++ u) ≡ true
+carries-append kind s u e =
+    let (a, b) = and-out (leb headBytes (length s)) (eqb (kindField s) kind) e in
+    let l : headBytes ≤ length s = leb-true headBytes (length s) a in
+    let n : length (s ++ u) ≡ length s + length u = length-append s u in
+    rw (List·getD-append s u 0 4 (omega arith), List·getD-append s u 0 5 (omega arith), b, le-leb headBytes (length (s ++ u)) (omega arith))
+
+carries-one : (kind other : ℕ) (s : List ℕ) → carries kind s ≡ true → (kind ≡ other → ⊥) → carries other s ≡ false
+carries-one kind other s h d =
+    let (l, m) = and-out (leb headBytes (length s)) (eqb (kindField s) kind) h in
+    rw (l, ne-eqb (kindField s) other (λ z. d (sym (eqb-true (kindField s) kind m) ∙ z)))
+
+-- ---- an optional format
+not-carried : (c : Bool) → not c ≡ true → c ≡ false
+not-carried true e = absurd (false≢true e)
+not-carried false e = refl
+
+module _ {A : Type 0} (kind : ℕ) (f : Format A) where
+  some-out : (s : List ℕ) (o : Option A) (t : List ℕ) → someOf (f .decode s) ≡ gives (front o t) → (p : Front A) × (f .decode s ≡ gives p) × (gives (front (some (p .value)) (p .rest)) ≡ gives (front o t))
+  some-out s o t e = bind-out (f .decode s) (λ p. gives (front (some (p .value)) (p .rest))) (front o t) e
+
+  pub optional-sound : Sound f → Sound (optional kind f)
+  optional-sound x = record { valid = λ s o t e. by s o t (carries kind s) e }
+    where
+      by : (s : List ℕ) (o : Option A) (t : List ℕ) (c : Bool) → cond c (someOf (f .decode s)) (gives (front none s)) ≡ gives (front o t) → optional kind f .valid o ≡ true
+      by s o t false e = front-inj (λ o t. optional kind f .valid o ≡ true) none o s t e refl
+      by s o t true e =
+          let (p, p1, e1) = some-out s o t e in
+          front-inj (λ o t. optional kind f .valid o ≡ true) (some (p .value)) o (p .rest) t e1 (x .valid s (p .value) (p .rest) p1)
+
+  pub optional-exact : Exact f → Starts kind f → Exact (optional kind f)
+  optional-exact x starts = record { sound = optional-sound (x .sound); decodes = there; encodes = λ s o t h e. back s o t h (carries kind s) refl e }
+    where
+      there : (o : Option A) (t : List ℕ) → optional kind f .valid o ≡ true → optional kind f .mayFollow o t ≡ true → optional kind f .decode (optional kind f .encode o ++ t) ≡ gives (front o t)
+      there none t v w = rw (not-carried (carries kind t) w)
+      there (some a) t v w = rw (starts a t, x .decodes a t v w)
+
+      back : (s : List ℕ) (o : Option A) (t : List ℕ) → Bytes s → (c : Bool) → carries kind s ≡ c → cond c (someOf (f .decode s)) (gives (front none s)) ≡ gives (front o t) → Decoded (optional kind f) s o t
+      back s o t h false c e = front-inj (Decoded (optional kind f) s) none o s t e (record { same = refl; follows = rw c; bytes = h })
+      back s o t h true c e =
+          let (p, p1, e1) = some-out s o t e in
+          let r : Decoded f s (p .value) (p .rest) = x .encodes s (p .value) (p .rest) h p1 in
+          front-inj (Decoded (optional kind f) s) (some (p .value)) o (p .rest) t e1 (record { same = r .same; follows = r .follows; bytes = r .bytes })
+
+  pub optional-appends : Appends f → Appends (optional kind f)
+  optional-appends x = record { appends = λ s o t u e w. by s o t u w (carries kind s) refl e }
+    where
+      by : (s : List ℕ) (o : Option A) (t u : List ℕ) → optional kind f .mayFollow o (t ++ u) ≡ true → (c : Bool) → carries kind s ≡ c → cond c (someOf (f .decode s)) (gives (front none s)) ≡ gives (front o t) → optional kind f .decode (s ++ u) ≡ gives (front o (t ++ u))
+      by s o t u w false c e =
+          let m : front none s ≡ front o t = give-inj e in
+          let n : not (carries kind (s ++ u)) ≡ true = ap (λ (z : Front (Option A)). optional kind f .mayFollow (z .value) (z .rest ++ u)) m ∙ w in
+          rw (not-carried (carries kind (s ++ u)) n) (ap (λ (z : Front (Option A)). gives (front (z .value) (z .rest ++ u))) m)
+      by s o t u w true c e =
+          let (p, p1, e1) = some-out s o t e in
+          let m : front (some (p .value)) (p .rest) ≡ front o t = give-inj e1 in
+          rw (carries-append kind s u c, x .appends s (p .value) (p .rest) u p1 (ap (λ (z : Front (Option A)). optional kind f .mayFollow (z .value) (z .rest ++ u)) m ∙ w)) (ap (λ (z : Front (Option A)). gives (front (z .value) (z .rest ++ u))) m)
+
+-- ---- two kinds in one place
+pub record Apart {A : Type 0} (second : A → Bool) (f : Format A) (kind : ℕ) (g : Format A) : Type 0 where
+  pub starts : Starts kind g
+  pub differs : Differs kind f
+  pub seconds : (a : A) → g .valid a ≡ true → second a ≡ true
+  pub firsts : (a : A) → f .valid a ≡ true → second a ≡ false
+
+module _ {A : Type 0} (second : A → Bool) (f : Format A) (kind : ℕ) (g : Format A) (k : Apart second f kind g) where
+  pub choice-sound : Sound f → Sound g → Sound (choice second f kind g)
+  choice-sound x y = record { valid = λ s a t e. by s a t (carries kind s) e }
+    where
+      by : (s : List ℕ) (a : A) (t : List ℕ) (c : Bool) → cond c (g .decode s) (f .decode s) ≡ gives (front a t) → choice second f kind g .valid a ≡ true
+      by s a t true e = let v = y .valid s a t e in rw (k .seconds a v) v
+      by s a t false e = let v = x .valid s a t e in rw (k .firsts a v) v
+
+  pub choice-exact : Exact f → Exact g → Exact (choice second f kind g)
+  choice-exact x y = record {
+    sound = choice-sound (x .sound) (y .sound);
+    decodes = λ a t v w. there a t (second a) v w;
+    encodes = λ s a t h e. back s a t h (carries kind s) e;
+  }
+    where
+      there : (a : A) (t : List ℕ) (b : Bool) → cond b (g .valid a) (f .valid a) ≡ true → cond b (g .mayFollow a t) (f .mayFollow a t) ≡ true → choice second f kind g .decode (cond b (g .encode a) (f .encode a) ++ t) ≡ gives (front a t)
+      there a t true v w = rw (k .starts a t) (y .decodes a t v w)
+      there a t false v w = rw (k .differs a t) (x .decodes a t v w)
+
+      back : (s : List ℕ) (a : A) (t : List ℕ) → Bytes s → (c : Bool) → cond c (g .decode s) (f .decode s) ≡ gives (front a t) → Decoded (choice second f kind g) s a t
+      back s a t h true e =
+          let r : Decoded g s a t = y .encodes s a t h e in
+          let b : second a ≡ true = k .seconds a (y .sound .valid s a t e) in
+          record { same = rw b (r .same); follows = rw b (r .follows); bytes = r .bytes }
+      back s a t h false e =
+          let r : Decoded f s a t = x .encodes s a t h e in
+          let b : second a ≡ false = k .firsts a (x .sound .valid s a t e) in
+          record { same = rw b (r .same); follows = rw b (r .follows); bytes = r .bytes }
+
+-- records of two kinds: what is left is left of the bytes, so the value follows from the kind
+module _ {A : Type 0} (second : A → Bool) (first kind : ℕ) (p q : PayloadFormat A) where
+  -- neither kind stands there: question 1
+  pub choice-neither : (s : List ℕ) → carries first s ≡ false → carries kind s ≡ false → choice second (recordOf first p) kind (recordOf kind q) .decode s ≡ refuses (refusal 1)
+  choice-neither s a b = rw b (record-missing first p s a)
+
+  pub choice-appends : (first ≡ kind → ⊥) → Appends (choice second (recordOf first p) kind (recordOf kind q))
+  choice-appends d = record { appends = λ s a t u e w. by s a t u (carries kind s) refl e }
+    where
+      by : (s : List ℕ) (a : A) (t u : List ℕ) (c : Bool) → carries kind s ≡ c → cond c (recordOf kind q .decode s) (recordOf first p .decode s) ≡ gives (front a t)
+          → choice second (recordOf first p) kind (recordOf kind q) .decode (s ++ u) ≡ gives (front a (t ++ u))
+      by s a t u true c e = rw (carries-append kind s u c) (record-appends kind q .appends s a t u e refl)
+      by s a t u false c e =
+          rw (carries-one first kind (s ++ u) (carries-append first s u (record-carries first p s (front a t) e)) d) (record-appends first p .appends s a t u e refl)

@@ -1,0 +1,178 @@
+-- The views of what was read: one record, from what the code found and asked; and a format, record after record.
+use Prim.Native.Nat.{ℕ, _+_, _-_, _<_, _≤_}
+use mathlib.Core.Path.{_≡_, refl, sym, ap, ap₂, _∙_}
+use mathlib.Core.Bool.{Bool, true, false, cond}
+use mathlib.Core.Option.{some}
+use mathlib.Core.List.{List, [], _++_}
+use native.Mathlib.Omega.{arith}
+use borrow.Author.Tests.{le-leb, lt-leb}
+use lib.Dec.{eqb, ltb}
+use lib.ListN.{length, take, drop, length-append, length-drop, take-append-drop}
+use lib.Seq.{take-append-seam}
+use Rattle.nodes.specs.Lists.{all}
+use Rattle.answers.specs.Answer.{Refusal, Answer, gives, refuses, _>>=_, _>>_}
+use Rattle.answers.specs.Refusals.{refusalOf}
+use Rattle.answers.specs.declared.Refusal as Code
+use Rattle.answers.proofs.Answer.{never}
+use Rattle.records.specs.Records.{Part, allYes, part, checked, headBytes, kindField}
+use Rattle.records.specs.Format.{Front, front, Format, PayloadFormat, recordOf, then, carries, choice}
+use Rattle.records.specs.Views.{bytesAt, InFile, PayloadAt, keptAround, checkedOf, partAt, recordOfRead, RecordAt, restOf, recordBehind, placeOf, payloadOf, startAt, optionalOfRead, optionalBehind, marked, choiceOfRead, choiceBehind}
+use Rattle.records.specs.declared.common.Place.{Place}
+use Rattle.records.specs.declared.questions.Checked.{Checked}
+use Rattle.records.specs.declared.questions.Checked.the-variants.{Passed, Refused as NotPassed}
+use Rattle.records.specs.declared.reader.RecordRead.{RecordRead}
+use Rattle.records.specs.declared.reader.RecordRead.the-variants.{Payload, Refused as NoRecord}
+use Rattle.records.specs.declared.reader.Branch.{Branch}
+use Rattle.records.specs.Encoding.{Bytes}
+use Rattle.records.proofs.Records.{all-right, checked-passed}
+use Rattle.records.proofs.Format.{Exact, Decoded}
+
+-- ---- the record, from what the code found and what it asked
+module _ (s t : List ℕ) (kind : ℕ) (r : RecordRead) (e : recordOfRead s r ≡ part kind t) (questions : List ℕ → Answer Bool) where
+  pub checked-stops : (q : Code.Refusal) → r ≡ NoRecord q → refuses (refusalOf q) ≡ checked kind questions t
+  unfolding checked
+  checked-stops q h = rw (← e, h) refl
+
+  module _ (p : Place) (h : r ≡ Payload p) (c : Checked) (f : checkedOf c ≡ questions (bytesAt p s)) where
+    pub checked-no : (q : Code.Refusal) → c ≡ NotPassed q → refuses (refusalOf q) ≡ checked kind questions t
+    unfolding checked
+    checked-no q g = rw (← e, h, ← f, g) refl
+
+    pub checked-yes : c ≡ Passed → gives (partAt s p) ≡ checked kind questions t
+    unfolding checked
+    checked-yes g = rw (← e, h, ← f, g) refl
+
+-- ---- reading on
+bind-ext : {A B : Type 0} (m : Answer A) (f g : A → Answer B) → ((a : A) → f a ≡ g a) → (m >>= f) ≡ (m >>= g)
+bind-ext (gives a) f g h = h a
+bind-ext (refuses r) f g h = refl
+
+bind-assoc : {A B C : Type 0} (m : Answer A) (f : A → Answer B) (g : B → Answer C) → (m >>= f >>= g) ≡ (m >>= λ a. f a >>= g)
+bind-assoc (gives a) f g = refl
+bind-assoc (refuses r) f g = refl
+
+refusal-inj : {A B : Type 0} (r q : Refusal) → _≡_ {A = Answer A} (refuses r) (refuses q) → _≡_ {A = Answer B} (refuses r) (refuses q)
+refusal-inj r q e = let h : r ≡ q = cc in ap refuses h
+
+-- a value v of the format, read from the bytes y, with y′ left
+abbrev pub Took : {A : Type 0} → Format A → (y : Answer (List ℕ)) (v : A) (y′ : Answer (List ℕ)) → Type 0
+Took f y v y′ = (y′ >>= λ t. gives (front v t)) ≡ (y >>= f .decode)
+
+-- the last part of a format
+pub last-step : {A C : Type 0} (f : Format A) (k : Front A → Answer C) (whole : Answer C) (y : Answer (List ℕ)) (v : A) (y′ : Answer (List ℕ))
+    → whole ≡ (y >>= λ t. f .decode t >>= k) → Took f y v y′ → whole ≡ (y′ >>= λ t. k (front v t))
+last-step f k whole (gives t) v y′ h e = h ∙ ap (λ m. m >>= k) (sym e) ∙ bind-assoc y′ (λ t. gives (front v t)) k
+last-step f k whole (refuses r) v (gives u) h e = absurd (never (sym e))
+last-step {A = A} f k whole (refuses r) v (refuses q) h e = h ∙ sym (refusal-inj {A = Front A} q r e)
+
+-- a part before others
+pub step : {A B C : Type 0} (f : Format A) (g : A → Format B) (k : Front (A × B) → Answer C) (whole : Answer C) (y : Answer (List ℕ)) (v : A) (y′ : Answer (List ℕ))
+    → whole ≡ (y >>= λ t. then f g .decode t >>= k) → Took f y v y′ → whole ≡ (y′ >>= λ t. g v .decode t >>= λ q. k (front (v, q .value) (q .rest)))
+step {A = A} {B = B} f g k whole y v y′ h e =
+    last-step f (λ p. g (p .value) .decode (p .rest) >>= λ q. k (front {A = A × B} (p .value, q .value) (q .rest))) whole y v y′ (h ∙ bind-ext y _ _ opened) e
+  where
+    opened : (t : List ℕ) → (then f g .decode t >>= k) ≡ (f .decode t >>= λ p. g (p .value) .decode (p .rest) >>= λ q. k (front {A = A × B} (p .value, q .value) (q .rest)))
+    opened t =
+        bind-assoc (f .decode t) (λ p. g (p .value) .decode (p .rest) >>= λ q. gives (front {A = A × B} (p .value, q .value) (q .rest))) k
+        ∙ bind-ext (f .decode t) _ _ (λ p. bind-assoc (g (p .value) .decode (p .rest)) (λ q. gives (front {A = A × B} (p .value, q .value) (q .rest))) k)
+
+-- ---- what the code's steps took
+module _ (s : List ℕ) where
+  pub next-took : {A : Type 0} (kind : ℕ) (p : PayloadFormat A) (read r : RecordRead) → recordOfRead s r ≡ recordBehind s read kind (p .questions)
+      → Took (recordOf kind p) (restOf s read) (p .value (payloadOf s r)) (restOf s r)
+  next-took kind p read r e =
+      part r ∙ ap (λ (m : Answer Part). m >>= λ q. gives (front (p .value (q .payload)) (q .rest))) e
+      ∙ bind-assoc (restOf s read) (checked kind (p .questions)) (λ q. gives (front (p .value (q .payload)) (q .rest)))
+    where
+      part : (r : RecordRead) → (restOf s r >>= λ t. gives (front (p .value (payloadOf s r)) t)) ≡ (recordOfRead s r >>= λ q. gives (front (p .value (q .payload)) (q .rest)))
+      part (Payload x) = refl
+      part (NoRecord q) = refl
+
+  -- an optional record's contract is of this form already
+  pub choice-took : {A : Type 0} (second : A → Bool) (first kind : ℕ) (p q : PayloadFormat A) (read : RecordRead) (b : Branch) → choiceOfRead s b ≡ choiceBehind s read first (p .questions) kind (q .questions)
+      → Took (choice second (recordOf first p) kind (recordOf kind q)) (restOf s read) (cond (b .taken) (q .value (payloadOf s (b .read))) (p .value (payloadOf s (b .read)))) (restOf s (b .read))
+  choice-took {A = A} second first kind p q read b e =
+      sym (bind-assoc (restOf s (b .read)) (λ t. gives (front (b .taken, payloadOf s (b .read)) t)) value)
+      ∙ ap (λ (m : Answer (Front (Bool × List ℕ))). m >>= value) e
+      ∙ bind-assoc (restOf s read) (λ t. cond (carries kind t) (checked kind (q .questions) t >>= marked true) (checked first (p .questions) t >>= marked false)) value
+      ∙ bind-ext (restOf s read) _ _ (λ t. by t (carries kind t))
+    where
+      value : Front (Bool × List ℕ) → Answer (Front A)
+      value x = gives (front (cond (x .value .0) (q .value (x .value .1)) (p .value (x .value .1))) (x .rest))
+
+      by : (t : List ℕ) (c : Bool) → (cond c (checked kind (q .questions) t >>= marked true) (checked first (p .questions) t >>= marked false) >>= value) ≡ cond c (recordOf kind q .decode t) (recordOf first p .decode t)
+      by t true = bind-assoc (checked kind (q .questions) t) (marked true) value
+      by t false = bind-assoc (checked first (p .questions) t) (marked false) value
+
+  -- a payload that was read has passed its questions; else it is empty
+  pub payload-passed : (kind : ℕ) (questions : List ℕ → Answer Bool) (read r : RecordRead) → recordOfRead s r ≡ recordBehind s read kind questions
+      → (C : List ℕ → Type 0) → C [] → ((p : List ℕ) → allYes (questions p) ≡ true → C p) → C (payloadOf s r)
+  payload-passed kind questions read (NoRecord q) e C empty full = empty
+  payload-passed kind questions (Payload x) (Payload p) e C empty full = full (bytesAt p s) (checked-passed kind questions (drop (x .end) s) _ (sym e) .1)
+  payload-passed kind questions (NoRecord q) (Payload p) e C empty full = absurd (never (sym e))
+
+  -- where a record was read, so was the one before it
+  pub was-read : (kind : ℕ) (questions : List ℕ → Answer Bool) (read r : RecordRead) → recordOfRead s r ≡ recordBehind s read kind questions → r ≡ Payload (placeOf r) → read ≡ Payload (placeOf read)
+  was-read kind questions (Payload x) r e h = refl
+  was-read kind questions (NoRecord q) r e h = absurd (never (sym e ∙ ap (recordOfRead s) h))
+
+  pub read-at : (at : ℕ) (r : RecordRead) → RecordAt s at r → r ≡ Payload (placeOf r) → PayloadAt s at (placeOf r)
+  read-at at (Payload p) h e = h
+  read-at at (NoRecord q) h e = absurd (never (ap (recordOfRead s) e))
+
+  -- ---- an optional record and one of two kinds, from what the code tests
+  module _ (read : RecordRead) (kind : ℕ) (questions : List ℕ → Answer Bool) where
+    pub optional-there : (p : Place) (r : RecordRead) → read ≡ Payload p → carries kind (drop (p .end) s) ≡ true → recordOfRead s r ≡ checked kind questions (drop (p .end) s)
+        → optionalOfRead s (record { taken = true; read = r }) ≡ optionalBehind s read kind questions
+    optional-there p r h c e = rw (h, c, ← e) (by r)
+      where
+        by : (r : RecordRead) → optionalOfRead s (record { taken = true; read = r }) ≡ (recordOfRead s r >>= (λ q. gives (front (q .payload) (q .rest))) >>= λ q. gives (front (some (q .value)) (q .rest)))
+        by (Payload x) = refl
+        by (NoRecord q) = refl
+
+    pub optional-absent : (p : Place) → read ≡ Payload p → carries kind (drop (p .end) s) ≡ false → optionalOfRead s (record { taken = false; read = startAt (p .end) }) ≡ optionalBehind s read kind questions
+    optional-absent p h c = rw (h, c) refl
+
+    pub optional-refused : (q : Code.Refusal) → read ≡ NoRecord q → optionalOfRead s (record { taken = false; read = NoRecord q }) ≡ optionalBehind s read kind questions
+    optional-refused q h = rw h refl
+
+    module _ (second : ℕ) (others : List ℕ → Answer Bool) where
+      chosen : (b : Bool) (r : RecordRead) → choiceOfRead s (record { taken = b; read = r }) ≡ (recordOfRead s r >>= marked b)
+      chosen b (Payload x) = refl
+      chosen b (NoRecord q) = refl
+
+      pub choice-second : (p : Place) (r : RecordRead) → read ≡ Payload p → carries second (drop (p .end) s) ≡ true → recordOfRead s r ≡ checked second others (drop (p .end) s)
+          → choiceOfRead s (record { taken = true; read = r }) ≡ choiceBehind s read kind questions second others
+      choice-second p r h c e = rw (h, c, ← e) (chosen true r)
+
+      pub choice-first : (p : Place) (r : RecordRead) → read ≡ Payload p → carries second (drop (p .end) s) ≡ false → recordOfRead s r ≡ checked kind questions (drop (p .end) s)
+          → choiceOfRead s (record { taken = false; read = r }) ≡ choiceBehind s read kind questions second others
+      choice-first p r h c e = rw (h, c, ← e) (chosen false r)
+
+      pub choice-refused : (q : Code.Refusal) → read ≡ NoRecord q → choiceOfRead s (record { taken = false; read = NoRecord q }) ≡ choiceBehind s read kind questions second others
+      choice-refused q h = rw h refl
+
+-- ---- the kind of the next six bytes, from what the code tests
+pub carries-short : (s : List ℕ) (at kind : ℕ) → length s < at + headBytes → false ≡ carries kind (drop at s)
+carries-short s at kind h =
+    let e : length (drop at s) < headBytes = simp length-drop (omega arith) in
+    simp (lt-leb headBytes (length (drop at s)) e)
+
+pub carries-at : (s : List ℕ) (at kind : ℕ) → at + headBytes ≤ length s → eqb (kindField (drop at s)) kind ≡ carries kind (drop at s)
+carries-at s at kind h =
+    let e : headBytes ≤ length (drop at s) = simp length-drop (omega arith) in
+    simp (le-leb headBytes (length (drop at s)) e)
+
+-- ---- parts of a file that are kept
+-- a place between two steps of reading holds the bytes of the value that was read there
+pub place-encoded : {A : Type 0} (f : Format A) → Exact f → (s : List ℕ) (p : Place) (a : A) → InFile s p → Bytes s → f .decode (drop (p .start) s) ≡ gives (front a (drop (p .end) s)) → bytesAt p s ≡ f .encode a
+place-encoded f x s p a (h, l) b e =
+    let r : Decoded f (drop (p .start) s) a (drop (p .end) s) = x .encodes (drop (p .start) s) a (drop (p .end) s) (all-right (λ b. ltb b 256) (take (p .start) s) (drop (p .start) s) (ap (all (λ b. ltb b 256)) (take-append-drop (p .start) s) ∙ b)) e in
+    let size : p .end - p .start ≡ length (f .encode a) = omega (arith, ap length (r .same), length-append (f .encode a) (drop (p .end) s), length-drop (p .start) s, length-drop (p .end) s) in
+    ap₂ (λ (k : ℕ) (l : List ℕ). take k l) size (r .same) ∙ take-append-seam (f .encode a) (drop (p .end) s)
+
+-- new bytes between two values that are kept
+pub kept-around : {A C : Type 0} (f : Format A) (h : Format C) → Exact f → Exact h → (s new : List ℕ) (p q : Place) (a : A) (c : C) → InFile s p → InFile s q → Bytes s
+    → f .decode (drop (p .start) s) ≡ gives (front a (drop (p .end) s)) → h .decode (drop (q .start) s) ≡ gives (front c (drop (q .end) s))
+    → keptAround s p new q ≡ f .encode a ++ (new ++ h .encode c)
+kept-around f h x y s new p q a c lp lq b e g = rw (place-encoded f x s p a lp b e, place-encoded h y s q c lq b g)

@@ -1,0 +1,121 @@
+use mathlib.Core.Path.{_≡_, refl, sym, ap, _∙_}
+use mathlib.Core.Bool.{true}
+use Prim.Native.Nat.{ℕ, _+_, _-_, _≤_}
+use native.Mathlib.Omega.{arith}
+use lib.ListN.{length, getD, drop}
+use borrow.Author.Tests.{not-true, not-false}
+use Rattle.records.specs.FlowFile.{entriesOf, framed, listed, entriesRise}
+use Rattle.records.proofs.ReadingEntries.{fits, framed-next, rise-node, rise-set, rise-next, rise-last}
+use borrow.Author.Needs.{needs}
+use Rattle.records.proofs.questions.entries_rising.Statement.{statement}
+use Rattle.records.proofs.questions.entries_rising.Tie as tie
+
+abbrev Inv-loop : tie.InvT-loop
+Inv-loop p low₀ i₀ low i = (i ≤ length p) × (framed (entriesOf (drop i p)) ≡ true) × (entriesRise 0 (listed (entriesOf p)) ≡ entriesRise low (listed (entriesOf (drop i p))))
+
+abbrev μ-loop : tie.MeasureT-loop
+μ-loop p low₀ i₀ low i = length p - i
+
+-- the entry that starts at i lies in the payload
+fits-here : (c : tie.In-loop Inv-loop μ-loop) → let l = c .before .loop in let p = c .before .before .before .args .sets .now in l .i + 2 + getD p (l .i + 1) 0 ≤ length p
+fits-here c = let l = c .before .loop in fits (c .before .before .before .args .sets .now) (l .i) (l .inv .1) (omega arith)
+
+loop-holds : tie.Need-loop-holds Inv-loop μ-loop
+loop-holds c = (search needs, c .before .pre, refl)
+
+shared-slice-read-number : tie.Need-shared-slice-read-number Inv-loop μ-loop
+shared-slice-read-number c = search needs
+
+number-requires : tie.Need-number-requires Inv-loop μ-loop
+number-requires c κs = search needs
+
+add-number : tie.Need-add-number Inv-loop μ-loop
+add-number c = let y = fits-here (c .before .before) in search needs
+
+shared-slice-read-number-2 : tie.Need-shared-slice-read-number-2 Inv-loop μ-loop
+shared-slice-read-number-2 c = let y = fits-here (c .before .before .before) in omega arith
+
+number-requires-2 : tie.Need-number-requires-2 Inv-loop μ-loop
+number-requires-2 c κs = search needs
+
+add-start : tie.Need-add-start Inv-loop μ-loop
+add-start c = let y = fits-here (c .before .before .before .before) in search needs
+
+add-end : tie.Need-add-end Inv-loop μ-loop
+add-end c = let y = fits-here (c .before .before .before .before) in search needs
+
+returns : tie.Need-returns Inv-loop μ-loop
+returns c =
+    let l = c .before .before .before .before .before .before .loop in
+    let p = c .before .before .before .before .before .before .before .before .args .sets .now in
+    let y = fits-here (c .before .before .before .before .before) in
+    sym (l .inv .2 ∙ rise-node p (l .i) (l .i + 2 + getD p (l .i + 1) 0) refl y (l .inv .1) (l .low) (omega arith))
+
+sub-rising : tie.Need-sub-rising Inv-loop μ-loop
+sub-rising c = let y = fits-here (c .before .before .before .before .before) in search needs
+
+part-rising-start : tie.Need-part-rising-start Inv-loop μ-loop
+part-rising-start c = let y = fits-here (c .before .before .before .before .before) in search needs
+
+part-rising-end : tie.Need-part-rising-end Inv-loop μ-loop
+part-rising-end c = let y = fits-here (c .before .before .before .before .before) in search needs
+
+rising-requires : tie.Need-rising-requires Inv-loop μ-loop
+rising-requires c κs = search needs
+
+returns-2 : tie.Need-returns-2 Inv-loop μ-loop
+returns-2 c =
+    let l = c .before .before .before .before .before .before .before .before .before .loop in
+    let p = c .before .before .before .before .before .before .before .before .before .before .before .args .sets .now in
+    let y = fits-here (c .before .before .before .before .before .before .before .before) in
+    let w = c .before .before .before .before .number2 .ensures .0 in
+    sym (l .inv .2 ∙ rise-set p (l .i) _ (ap (λ (x : ℕ). l .i + 2 + x) w) (omega arith) (l .inv .1) (l .low) (omega arith) (sym (c .before .rising .ensures) ∙ not-true _ (c .if2 .taken)))
+
+add-low : tie.Need-add-low Inv-loop μ-loop
+add-low c = search needs
+
+loop-less : tie.Need-loop-less Inv-loop μ-loop
+loop-less c = search needs
+
+loop-again : tie.Need-loop-again Inv-loop μ-loop
+loop-again c =
+    let l = c .before .before .before .before .before .before .before .before .before .loop in
+    let p = c .before .before .before .before .before .before .before .before .before .before .before .args .sets .now in
+    let y = fits-here (c .before .before .before .before .before .before .before .before) in
+    let w = c .before .before .before .before .number2 .ensures .0 in (
+      omega arith,
+      sym (framed-next p (l .i) _ (ap (λ (x : ℕ). l .i + 2 + x) w) (omega arith)) ∙ l .inv .1,
+      l .inv .2 ∙ rise-next p (l .i) _ (ap (λ (x : ℕ). l .i + 2 + x) w) (omega arith) (l .inv .1) (l .low) (omega arith) (sym (c .before .rising .ensures) ∙ not-false _ (c .if2 .left))
+          ∙ ap (λ (x : ℕ). entriesRise (x + 1) (listed (entriesOf (drop (l .i + 2 + c .before .before .before .before .number2 .result) p)))) (sym (c .before .before .before .before .before .before .number .ensures .0)),
+    )
+
+returns-3 : tie.Need-returns-3 Inv-loop μ-loop
+returns-3 c =
+    let l = c .before .loop in
+    let p = c .before .before .before .args .sets .now in
+    sym (l .inv .2 ∙ rise-last p (l .i) (l .low) (omega arith))
+
+pub entries-rising-spec : {M : Type 1} → statement M
+entries-rising-spec =
+    tie.close
+    (tie.spec
+    Inv-loop
+    μ-loop
+    loop-holds
+    shared-slice-read-number
+    number-requires
+    add-number
+    shared-slice-read-number-2
+    number-requires-2
+    add-start
+    add-end
+    returns
+    sub-rising
+    part-rising-start
+    part-rising-end
+    rising-requires
+    returns-2
+    add-low
+    loop-less
+    loop-again
+    returns-3)

@@ -1,0 +1,90 @@
+use mathlib.Core.Path.{_≡_, sym, _∙_}
+use Prim.Native.Nat.{_+_, _-_, _%_, _≤_}
+use native.Mathlib.Omega.{arith}
+use lib.ListN.{length, drop}
+use Rattle.records.specs.JobFile.{pairsRise}
+use Rattle.records.proofs.ReadingLoops.{pairs-start, pairs-end, pairs-no, pairs-low, pairs-yes}
+use borrow.Author.Needs.{needs}
+use Rattle.records.proofs.questions.pairs_rising.Statement.{statement}
+use Rattle.records.proofs.questions.pairs_rising.Tie as tie
+
+abbrev Inv-loop : tie.InvT-loop
+Inv-loop edges last₀ i₀ last i = (i ≤ length edges) × ((length edges - i) % 2 ≡ 0) × (pairsRise 0 edges ≡ pairsRise (last + 1) (drop i edges))
+
+abbrev μ-loop : tie.MeasureT-loop
+μ-loop edges last₀ i₀ last i = length edges - i
+
+loop-holds : tie.Need-loop-holds Inv-loop μ-loop
+loop-holds c = (search needs, search needs, pairs-start (c .before .args .edges .now))
+
+shared-slice-read-number : tie.Need-shared-slice-read-number Inv-loop μ-loop
+shared-slice-read-number c = search needs
+
+number-requires : tie.Need-number-requires Inv-loop μ-loop
+number-requires c κs = search needs
+
+add-number : tie.Need-add-number Inv-loop μ-loop
+add-number c = search needs
+
+shared-slice-read-number-2 : tie.Need-shared-slice-read-number-2 Inv-loop μ-loop
+shared-slice-read-number-2 c = search needs
+
+number-requires-2 : tie.Need-number-requires-2 Inv-loop μ-loop
+number-requires-2 c κs = search needs
+
+returns : tie.Need-returns Inv-loop μ-loop
+returns c =
+    let l = c .before .before .before .before .before .before .loop in
+    let a = c .before .before .before .before .before .before .before .before .args in
+    sym (l .inv .2 ∙ pairs-no (l .last + 1) (a .edges .now) (l .i) (omega arith) (omega arith))
+
+mul-key : tie.Need-mul-key Inv-loop μ-loop
+mul-key c = search needs
+
+add-key : tie.Need-add-key Inv-loop μ-loop
+add-key c = search needs
+
+returns-2 : tie.Need-returns-2 Inv-loop μ-loop
+returns-2 c =
+    let l = c .before .before .before .before .before .before .before .loop in
+    let a = c .before .before .before .before .before .before .before .before .before .args in
+    sym (l .inv .2 ∙ pairs-low (l .last + 1) (a .edges .now) (l .i) (omega arith) (omega arith) (omega arith))
+
+add-i : tie.Need-add-i Inv-loop μ-loop
+add-i c = search needs
+
+loop-less : tie.Need-loop-less Inv-loop μ-loop
+loop-less c = search needs
+
+loop-again : tie.Need-loop-again Inv-loop μ-loop
+loop-again c =
+    let l = c .before .before .before .before .before .before .before .loop in
+    let a = c .before .before .before .before .before .before .before .before .before .args in
+    (search needs, search needs, rw (c .before .before .number2 .ensures .0, c .before .before .before .before .number .ensures .0) (l .inv .2 ∙ pairs-yes (l .last + 1) (a .edges .now) (l .i) (omega arith) (omega arith) (omega arith)))
+
+returns-3 : tie.Need-returns-3 Inv-loop μ-loop
+returns-3 c =
+    let l = c .before .loop in
+    let a = c .before .before .before .args in
+    sym (l .inv .2 ∙ pairs-end (l .last + 1) (a .edges .now) (l .i) (omega arith))
+
+pub pairs-rising-spec : {M : Type 1} → statement M
+pairs-rising-spec =
+    tie.close
+    (tie.spec
+    Inv-loop
+    μ-loop
+    loop-holds
+    shared-slice-read-number
+    number-requires
+    add-number
+    shared-slice-read-number-2
+    number-requires-2
+    returns
+    mul-key
+    add-key
+    returns-2
+    add-i
+    loop-less
+    loop-again
+    returns-3)

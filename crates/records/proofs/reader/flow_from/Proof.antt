@@ -1,0 +1,23 @@
+use mathlib.Core.Path.{refl}
+use borrow.Author.Needs.{needs}
+use Rattle.records.proofs.reader.flow_from.Statement.{statement}
+use Rattle.records.proofs.reader.flow_from.Tie as tie
+
+enum-known-last : tie.Need-enum-known-last
+enum-known-last c = search needs
+
+place-of-requires : tie.Need-place-of-requires
+place-of-requires c κs = search needs
+
+enum-known-last-2 : tie.Need-enum-known-last-2
+enum-known-last-2 c = search needs
+
+returns : tie.Need-returns
+returns c = rw (c .before .before .last .given .1, c .place-of .ensures) refl
+
+returns-2 : tie.Need-returns-2
+returns-2 c = rw (c .before .last2 .given .1) refl
+
+pub flow-from-spec : {M : Type 1} → statement M
+flow-from-spec =
+    tie.close (tie.spec enum-known-last place-of-requires enum-known-last-2 returns returns-2)

@@ -1,0 +1,95 @@
+use mathlib.Core.Path.{_≡_, refl, ap, _∙_}
+use Rattle.records.specs.Records.{kindOpen}
+use Rattle.records.specs.JobFile.{Opening, opening, openingAsks}
+use Rattle.records.specs.Views.{recordBehind, payloadOf, startAt, recordOfRead}
+use Rattle.records.specs.declared.reader.RecordRead.{RecordRead}
+use Rattle.records.proofs.ReadingFiles.{opening-few, outputs-passed, job-steps, job-in-file}
+use borrow.Author.Needs.{needs}
+use Rattle.records.proofs.reader.read_job.Statement.{statement}
+use Rattle.records.proofs.reader.read_job.Tie as tie
+
+-- the first record is read from the start of the file, and n and mode are its bytes
+first : (c : tie.After-next) → let s = c .before .before .before .args .file .now in
+    recordOfRead s (c .next .result) ≡ recordBehind s (startAt 0) kindOpen openingAsks
+first c = c .next .ensures .0 ∙ ap (λ (f : RecordRead). recordBehind (c .before .before .before .args .file .now) f kindOpen openingAsks) (c .before .start .ensures)
+
+opened : (c : tie.After-byte-at2) → let s = c .before .before .before .before .before .before .before .before .args .file .now in
+    opening .value (payloadOf s (c .before .before .before .before .before .next .result)) ≡ record { n = c .before .number .result; mode = c .byte-at2 .result }
+opened c = rw (c .before .number .ensures .0, c .before .before .byte-at .ensures, c .byte-at2 .ensures, c .before .before .before .payload .ensures, c .before .before .before .before .place-of .ensures) refl
+
+start-requires : tie.Need-start-requires
+start-requires c κs = search needs
+
+next-requires : tie.Need-next-requires
+next-requires c κs = search needs
+
+place-of-requires : tie.Need-place-of-requires
+place-of-requires c κs = search needs
+
+payload-requires : tie.Need-payload-requires
+payload-requires c κs = search needs
+
+byte-at-requires : tie.Need-byte-at-requires
+byte-at-requires c κs = search needs
+
+number-requires : tie.Need-number-requires
+number-requires c κs = search needs
+
+byte-at-requires-2 : tie.Need-byte-at-requires-2
+byte-at-requires-2 c κs = search needs
+
+next-requires-2 : tie.Need-next-requires-2
+next-requires-2 c κs = search needs
+
+next-requires-3 : tie.Need-next-requires-3
+next-requires-3 c κs = search needs
+
+next-requires-4 : tie.Need-next-requires-4
+next-requires-4 c κs = search needs
+
+place-of-requires-2 : tie.Need-place-of-requires-2
+place-of-requires-2 c κs = search needs
+
+next-requires-5 : tie.Need-next-requires-5
+next-requires-5 c κs =
+    let s = c .before .before .before .before .before .before .before .before .before .before .before .before .args .file .now in
+    let n = c .before .before .before .before .before .number in
+    (rw (n .ensures .0, c .before .before .before .before .before .before .byte-at .ensures, c .before .before .before .before .before .before .before .payload .ensures, c .before .before .before .before .before .before .before .before .place-of .ensures) (opening-few s (c .before .before .before .before .before .before .before .before .before .next .result) (first (c .before .before .before .before .before .before .before .before .before))), rw (c .place-of2 .ensures) (outputs-passed s (n .result) (c .before .before .next3 .result) (c .before .next4 .result) (c .before .next4 .ensures .0)))
+
+job-from-requires : tie.Need-job-from-requires
+job-from-requires c κs = search needs
+
+returns : tie.Need-returns
+returns c =
+    let s = c .before .before .before .before .before .before .before .before .before .before .before .before .before .before .args .file .now in
+    let o = c .before .before .before .before .before .before .before .before .before .before .before .next in
+    let e = c .before .before .before .before .before .next2 in
+    let i = c .before .before .before .before .next3 in
+    let u = c .before .before .before .next4 in
+    let m = c .before .next5 in
+    let v : Opening = record { n = c .before .before .before .before .before .before .before .number .result; mode = c .before .before .before .before .before .before .byte-at2 .result } in
+    let hv = opened (c .before .before .before .before .before .before) in
+    let ho = first (c .before .before .before .before .before .before .before .before .before .before .before) in
+    let z = c .before .before .before .before .before .before .before .before .before .before .before .before .start .ensures in
+    let p = c .before .before .place-of2 .ensures in
+    let hm = rw p at (m .ensures .0) in
+    (rw (c .job-from .ensures) (job-steps s (o .result) ho v (e .result) (i .result) (u .result) (m .result) hv (e .ensures .0) (i .ensures .0) (u .ensures .0) hm), rw (c .job-from .ensures) (job-in-file s (o .result) ho v (e .result) (i .result) (u .result) (m .result) hv (e .ensures .0) (i .ensures .0) (u .ensures .0) hm (rw z at (o .ensures .1)) (e .ensures .1) (i .ensures .1) (u .ensures .1) (m .ensures .1)))
+
+pub read-job-spec : {M : Type 1} → statement M
+read-job-spec =
+    tie.close
+    (tie.spec
+    start-requires
+    next-requires
+    place-of-requires
+    payload-requires
+    byte-at-requires
+    number-requires
+    byte-at-requires-2
+    next-requires-2
+    next-requires-3
+    next-requires-4
+    place-of-requires-2
+    next-requires-5
+    job-from-requires
+    returns)

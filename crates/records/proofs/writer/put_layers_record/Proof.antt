@@ -1,0 +1,33 @@
+use Prim.Native.Nat.{ℕ}
+use mathlib.Core.Path.{_≡_, refl, sym, ap, _∙_}
+use native.Mathlib.Omega.{arith}
+use lib.ListN.{length, length-map}
+use Rattle.records.specs.Records.{headBytes, headOf, kindLayers}
+use Rattle.records.specs.Splice.{splice}
+use Rattle.records.specs.Writing.{layerBytes}
+use Rattle.records.proofs.WritingLoops.{record-put}
+use borrow.Author.Needs.{needs}
+use Rattle.records.proofs.writer.put_layers_record.Statement.{statement}
+use Rattle.records.proofs.writer.put_layers_record.Tie as tie
+
+put-head-requires : tie.Need-put-head-requires
+put-head-requires c κs = search needs
+
+put-layers-requires : tie.Need-put-layers-requires
+put-layers-requires c κs = search needs
+
+same-length : tie.Need-same-length
+same-length c = search needs
+
+returns : tie.Need-returns
+returns c =
+    let a = c .before .before .before .before .before .before .before .before .before .before .args in
+    let head = c .before .before .before .before .before .before .put-head in
+    let size : length (layerBytes (a .layers .now)) ≡ length (a .layers .now) = length-map (a .layers .now) _ in
+    c .before .before .put-layers .ensures
+    ∙ record-put 0 headBytes kindLayers (layerBytes (a .layers .now)) (a .out .now) (head .last .0) refl (omega arith)
+    (head .ensures ∙ ap (λ (k : ℕ). splice 0 (headOf k kindLayers) (a .out .now)) (sym size))
+
+pub put-layers-record-spec : {M : Type 1} → statement M
+put-layers-record-spec =
+    tie.close (tie.spec put-head-requires put-layers-requires same-length returns)

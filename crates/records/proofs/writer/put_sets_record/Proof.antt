@@ -1,0 +1,38 @@
+use Prim.Native.Nat.{ℕ, _+_}
+use mathlib.Core.Path.{refl, ap, _∙_}
+use native.Mathlib.Omega.{arith}
+use Rattle.nodes.specs.Row.{members}
+use Rattle.nodes.specs.NodeSet.{capacity, member}
+use Rattle.nodes.specs.SetTable.{setAt}
+use Rattle.records.specs.Records.{headBytes, headOf, kindSets}
+use Rattle.records.specs.Splice.{splice}
+use Rattle.records.specs.Writing.{setBytes}
+use Rattle.records.proofs.WritingLoops.{record-put}
+use borrow.Author.Needs.{needs}
+use Rattle.records.proofs.writer.put_sets_record.Statement.{statement}
+use Rattle.records.proofs.writer.put_sets_record.Tie as tie
+
+put-head-requires : tie.Need-put-head-requires
+put-head-requires c κs = search needs
+
+add-put-entries : tie.Need-add-put-entries
+add-put-entries c = search needs
+
+put-entries-requires : tie.Need-put-entries-requires
+put-entries-requires c κs = search needs
+
+same-length : tie.Need-same-length
+same-length c = search needs
+
+returns : tie.Need-returns
+returns c =
+    let s = c .before .before .before .before .before .before .before .before .before .before in
+    let a = s .args in
+    let head = c .before .before .before .before .before .before .put-head in
+    c .before .before .put-entries .ensures
+    ∙ record-put (a .at) (a .at + headBytes) kindSets (setBytes capacity (setAt (a .sets .now)) (members capacity (member (a .nodes)))) (a .out .now) (head .last .0) refl (omega arith)
+    (head .ensures ∙ ap (λ (k : ℕ). splice (a .at) (headOf k kindSets) (a .out .now)) (s .pre .0))
+
+pub put-sets-record-spec : {M : Type 1} → statement M
+put-sets-record-spec =
+    tie.close (tie.spec put-head-requires add-put-entries put-entries-requires same-length returns)

@@ -1,0 +1,297 @@
+// Reading job and flow files: questions 1 and 2 of document 01 of each record, then those of its payload.
+ghost use mathlib.Core.Path.{_≡_};
+ghost use mathlib.Core.Bool.{_&&_};
+ghost use Prim.Native.Nat.{_+_, _<_, _≤_};
+ghost use lib.Dec.{leb};
+ghost use lib.ListN.{length, drop};
+ghost use Rattle.nodes.specs.NodeSet.{member, highest};
+ghost use Rattle.nodes.specs.Lists.{has};
+ghost use Rattle.records.specs.Records.{lengthField, kindField, headBytes, part, checked};
+ghost use Rattle.records.specs.Format.{carries};
+ghost use Rattle.records.specs.JobFile.{readJob};
+ghost use Rattle.records.specs.FlowFile.{readFlow};
+ghost use Rattle.records.specs.Views.{asksOf, Granted, recordOfRead, recordBehind, startAt, placeOf, RecordAt, optionalOfRead, optionalBehind, choiceOfRead, choiceBehind, jobFrom, jobOfRead, JobReadInFile, flowFrom, flowOfRead, FlowReadInFile};
+use crate::common::FlowPlaces;
+use crate::common::FlowRead;
+use crate::common::HEAD_BYTES;
+use crate::common::JobPlaces;
+use crate::common::JobRead;
+use crate::common::KIND_EDGES;
+use crate::common::KIND_INPUTS;
+use crate::common::KIND_LAYERS;
+use crate::common::KIND_MEASUREMENTS;
+use crate::common::KIND_OPEN;
+use crate::common::KIND_OUTPUTS;
+use crate::common::KIND_SETS;
+use crate::common::Place;
+use crate::common::byte_at;
+use crate::common::number;
+use crate::common::payload;
+use crate::questions::Checked;
+use crate::questions::Questions;
+use crate::questions::ask;
+use answers::Refusal;
+use nodes::utils::NodeSet;
+
+// A record that was looked for.
+enum RecordRead {
+    Payload(Place),
+    Refused(Refusal),
+}
+
+// A record that was looked for, and whether it is the one that may be there: an optional one, or the second of two kinds.
+struct Branch {
+    taken: bool,
+    read: RecordRead,
+}
+
+// ---- The head of a record: payload length, then kind, lowest byte first.
+
+fn length_field(file: &[u8], at: usize) -> usize
+    requires { ⌜ at + headBytes ≤ length (now file) ⌝ }
+    ensures { λ r. ⌜ (r ≡ lengthField (drop at (now (file .entry)))) × (r < 4294967296) ⌝ }
+{
+    let a = number(file[at]);
+    let b = number(file[at + 1]);
+    let c = number(file[at + 2]);
+    let d = number(file[at + 3]);
+    a + 256 * b + 65536 * c + 16777216 * d
+}
+
+fn kind_field(file: &[u8], at: usize) -> usize
+    requires { ⌜ at + headBytes ≤ length (now file) ⌝ }
+    ensures { λ r. ⌜ r ≡ kindField (drop at (now (file .entry))) ⌝ }
+{
+    let a = number(file[at + 4]);
+    let b = number(file[at + 5]);
+    a + 256 * b
+}
+
+// Are six bytes left with the expected kind (1)? Is the whole payload there (2)?
+fn head(file: &[u8], at: usize, kind: u16) -> RecordRead
+    ensures { λ r. ⌜ recordOfRead (now (file .entry)) r ≡ part kind (drop at (now (file .entry))) ⌝ }
+    ensures { λ r. ⌜ RecordAt (now (file .entry)) at r ⌝ }
+{
+    let len = file.len();
+    if len < HEAD_BYTES {
+        return RecordRead::Refused(Refusal::NO_RECORD);
+    }
+    if at > len - HEAD_BYTES {
+        return RecordRead::Refused(Refusal::NO_RECORD);
+    }
+    if kind_field(file, at) != kind as usize {
+        return RecordRead::Refused(Refusal::NO_RECORD);
+    }
+    let count = length_field(file, at);
+    let start = at + HEAD_BYTES;
+    if count > len - start {
+        return RecordRead::Refused(Refusal::CUT_PAYLOAD);
+    }
+    RecordRead::Payload(Place {
+        start,
+        end: start + count,
+    })
+}
+
+// ---- One record after the other: what is refused stays refused.
+
+// The record of the expected kind at this place, where its payload passes its questions.
+fn read_record(file: &[u8], at: usize, kind: u16, questions: Questions) -> RecordRead
+    requires { ⌜ Granted (now file) questions ⌝ }
+    ensures { λ r. ⌜ recordOfRead (now (file .entry)) r ≡ checked kind (asksOf (now (file .entry)) questions) (drop at (now (file .entry))) ⌝ }
+    ensures { λ r. ⌜ RecordAt (now (file .entry)) at r ⌝ }
+{
+    match head(file, at, kind) {
+        RecordRead::Payload(place) => match ask(file, questions, payload(file, place)) {
+            Checked::Passed => RecordRead::Payload(place),
+            Checked::Refused(q) => RecordRead::Refused(q),
+        },
+        RecordRead::Refused(q) => RecordRead::Refused(q),
+    }
+}
+
+// Where reading starts: no payload yet.
+fn start(at: usize) -> RecordRead
+    ensures { λ r. ⌜ r ≡ startAt at ⌝ }
+{
+    RecordRead::Payload(Place { start: at, end: at })
+}
+
+// The record behind the one that was read.
+fn next(file: &[u8], read: RecordRead, kind: u16, questions: Questions) -> RecordRead
+    requires { ⌜ Granted (now file) questions ⌝ }
+    ensures { λ r. ⌜ recordOfRead (now (file .entry)) r ≡ recordBehind (now (file .entry)) read kind (asksOf (now (file .entry)) questions) ⌝ }
+    ensures { λ r. ⌜ RecordAt (now (file .entry)) (placeOf read .end) r ⌝ }
+{
+    match read {
+        RecordRead::Payload(place) => {
+            let at = place.end;
+            read_record(file, at, kind, questions)
+        }
+        RecordRead::Refused(q) => RecordRead::Refused(q),
+    }
+}
+
+// Do the next six bytes carry this kind?
+fn carried(file: &[u8], at: usize, kind: u16) -> bool
+    ensures { λ r. ⌜ r ≡ carries kind (drop at (now (file .entry))) ⌝ }
+{
+    let len = file.len();
+    if len < HEAD_BYTES {
+        return false;
+    }
+    if at > len - HEAD_BYTES {
+        return false;
+    }
+    kind_field(file, at) == kind as usize
+}
+
+// The record behind the one that was read, where it is there; else the place where it would be.
+fn optional(file: &[u8], read: RecordRead, kind: u16, questions: Questions) -> Branch
+    requires { ⌜ Granted (now file) questions ⌝ }
+    ensures { λ r. ⌜ optionalOfRead (now (file .entry)) r ≡ optionalBehind (now (file .entry)) read kind (asksOf (now (file .entry)) questions) ⌝ }
+{
+    match read {
+        RecordRead::Payload(place) => {
+            let at = place.end;
+            if carried(file, at, kind) {
+                return Branch {
+                    taken: true,
+                    read: read_record(file, at, kind, questions),
+                };
+            }
+            Branch {
+                taken: false,
+                read: start(at),
+            }
+        }
+        RecordRead::Refused(q) => Branch {
+            taken: false,
+            read: RecordRead::Refused(q),
+        },
+    }
+}
+
+// Of two kinds in one place the second, where the next six bytes carry it, else the first.
+fn choice(
+    file: &[u8],
+    read: RecordRead,
+    first: u16,
+    questions: Questions,
+    second: u16,
+    others: Questions,
+) -> Branch
+    requires { ⌜ Granted (now file) questions × Granted (now file) others ⌝ }
+    ensures { λ r. ⌜ choiceOfRead (now (file .entry)) r ≡ choiceBehind (now (file .entry)) read first (asksOf (now (file .entry)) questions) second (asksOf (now (file .entry)) others) ⌝ }
+{
+    match read {
+        RecordRead::Payload(place) => {
+            let at = place.end;
+            if carried(file, at, second) {
+                return Branch {
+                    taken: true,
+                    read: read_record(file, at, second, others),
+                };
+            }
+            Branch {
+                taken: false,
+                read: read_record(file, at, first, questions),
+            }
+        }
+        RecordRead::Refused(q) => Branch {
+            taken: false,
+            read: RecordRead::Refused(q),
+        },
+    }
+}
+
+// Where the payload lies; an empty place where no record was read.
+fn place_of(read: RecordRead) -> Place
+    ensures { λ r. ⌜ r ≡ placeOf read ⌝ }
+{
+    match read {
+        RecordRead::Payload(place) => place,
+        RecordRead::Refused(_) => Place { start: 0, end: 0 },
+    }
+}
+
+// ---- A job: five records in order, each once.
+
+// The places, where the last record was read.
+fn job_from(
+    n: usize,
+    mode: u8,
+    edges: RecordRead,
+    inputs: RecordRead,
+    outputs: RecordRead,
+    last: RecordRead,
+) -> JobRead
+    ensures { λ r. ⌜ r ≡ jobFrom n mode edges inputs outputs last ⌝ }
+{
+    match last {
+        RecordRead::Payload(measurements) => JobRead::Job(JobPlaces {
+            n,
+            mode,
+            edges: place_of(edges),
+            inputs: place_of(inputs),
+            outputs: place_of(outputs),
+            measurements,
+        }),
+        RecordRead::Refused(q) => JobRead::Refused(q),
+    }
+}
+
+pub fn read_job(file: &[u8]) -> JobRead
+    ensures { λ r. ⌜ jobOfRead (now (file .entry)) r ≡ readJob (now (file .entry)) ⌝ }
+    ensures { λ r. ⌜ JobReadInFile (now (file .entry)) r ⌝ }
+{
+    let opening = next(file, start(0), KIND_OPEN, Questions::Opening);
+    let first = payload(file, place_of(opening));
+    let n = number(byte_at(first, 0));
+    let mode = byte_at(first, 1);
+    let edges = next(file, opening, KIND_EDGES, Questions::Edges(n));
+    let inputs = next(file, edges, KIND_INPUTS, Questions::Nodes(n));
+    let outputs = next(file, inputs, KIND_OUTPUTS, Questions::Nodes(n));
+    let allowed = Questions::Measurements(n, mode, place_of(outputs));
+    let measurements = next(file, outputs, KIND_MEASUREMENTS, allowed);
+    job_from(n, mode, edges, inputs, outputs, measurements)
+}
+
+// ---- A flow: the records of layers and of sets.
+
+fn flow_from(layers: RecordRead, last: RecordRead) -> FlowRead
+    ensures { λ r. ⌜ r ≡ flowFrom layers last ⌝ }
+{
+    match last {
+        RecordRead::Payload(sets) => FlowRead::Flow(FlowPlaces {
+            layers: place_of(layers),
+            sets,
+        }),
+        RecordRead::Refused(q) => FlowRead::Refused(q),
+    }
+}
+
+// The flow for n nodes that starts at this place.
+pub fn read_flow(file: &[u8], at: usize, n: usize) -> FlowRead
+    ensures { λ r. ⌜ flowOfRead (now (file .entry)) r ≡ readFlow n (drop at (now (file .entry))) ⌝ }
+    ensures { λ r. ⌜ FlowReadInFile (now (file .entry)) at r ⌝ }
+{
+    let layers = next(file, start(at), KIND_LAYERS, Questions::Layers(n));
+    let sets = next(file, layers, KIND_SETS, Questions::Sets(n));
+    flow_from(layers, sets)
+}
+
+// ---- What a payload holds.
+
+// The nodes of a payload as a set; a set has no room for those past its highest.
+pub fn set_of(nodes: &[u8]) -> NodeSet
+    ensures { λ r. ⌜ member r ≡ (λ u. has (now (nodes .entry)) u && leb u highest) ⌝ }
+{
+    let mut s = NodeSet::empty();
+    let mut i = 0;
+    while i < nodes.len() {
+        s = s.with(number(nodes[i]));
+        i += 1;
+    }
+    s
+}
