@@ -23,7 +23,8 @@ use Rattle.answers.proofs.Answer.{never, bind-out}
 use Rattle.records.proofs.Records.{and-out}
 use Rattle.records.proofs.JobFile.{job-asked, job-append, measured-range, output-zero, measured-most, measured-plane}
 use Rattle.records.proofs.FlowFile.{flow-asked, set-entry, place-entry, set-at, nodes-below, members-below, nothing-left, one-member-asked, one-member-other, one-member}
-use Rattle.verdicts.proofs.Published.{one-to-three, Readable, planes-accepts, accepts-planes, paulis-accepts, accepts-paulis, causal-accepts, accepts-causal, published-conditions, conditions-published}
+use Rattle.verdicts.proofs.Rule.{Readable}
+use Rattle.verdicts.proofs.Published.{one-to-three, planes-accepts, accepts-planes, paulis-accepts, accepts-paulis, causal-accepts, accepts-causal, published-conditions, conditions-published}
 
 verdict-out : (o : Option Refusal) (b : Bool) → verdict o ≡ gives b → o ≡ none
 verdict-out none b e = refl

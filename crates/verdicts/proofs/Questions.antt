@@ -63,17 +63,6 @@ unless-out true p e f = absurd (f tt)
 unless-out false p e f = e
 
 -- ---- what the tests of the questions say
--- a node of the set is no input, or the node itself
-pub input-out : (a b c : Bool) → T (not a || not b || c) → T a → T b → T c
-input-out true true c t p q = t
-input-out true false c t p q = absurd q
-input-out false b c t p q = absurd p
-
-pub input-in : (a b c : Bool) → (T a → T b → T c) → T (not a || not b || c)
-input-in true true c f = f tt tt
-input-in true false c f = tt
-input-in false b c f = tt
-
 -- a node of the set is the node itself, later or excused
 pub late-out : (a b c d : Bool) → T (not a || b || c || d) → T a → T b ⊎ (T c ⊎ T d)
 late-out true true c d t p = inl tt

@@ -8,16 +8,17 @@ use lib.Dec.{T, eqb, ltb, eqb→eq, eqb-refl, ltb→lt, lt→ltb}
 use Rattle.nodes.specs.Bit.{_⊕_}
 use Rattle.nodes.specs.Row.{anyBelow}
 use Rattle.nodes.proofs.Logic.{is-true, is-false, from-true, from-false, dec, or-l, or-r, not-in, not-out, eqb-no}
-use Rattle.flows.specs.Job.{Job, odd, own, isXorY, isYorZ, pauliY}
-use Rattle.flows.specs.Conditions.{Ok}
-use Rattle.flows.proofs.Flows.{laterThan}
+use Rattle.flows.specs.Job.{Job, odd, own}
+use Rattle.flows.specs.Conditions.{memberExcused, oddExcused, yAsked, inputHolds, corrects}
+use Rattle.flows.specs.Search.{laterThan}
+use Rattle.flows.proofs.Conditions.{NoOtherInput, corrects-in, corrects-out, input-in, input-out, implies-in, implies-out}
 use Rattle.answers.specs.Answer.{Refusal}
 use Rattle.records.specs.JobFile.{modeCausal, modePauli}
 use Rattle.records.specs.FlowFile.{Flow}
 use Rattle.verdicts.specs.Verdict as Q
 use Rattle.verdicts.specs.Verdict.{_next_, each}
 use Rattle.verdicts.specs.Published.{Measured, OutputsAtZero, OthersAboveZero}
-use Rattle.verdicts.proofs.Questions.{ask-in, ask-out, next-in, next-l, next-r, each-in, each-out, unless-in, unless-out, input-in, input-out, late-in, late-out, both-in, both-out, beq-in, beq-out}
+use Rattle.verdicts.proofs.Questions.{ask-in, ask-out, next-in, next-l, next-r, each-in, each-out, unless-in, unless-out, late-in, late-out, both-in, both-out, beq-in, beq-out}
 
 module _ (j : Job) (f : Flow) where
   -- ---- the questions before the node by node part
@@ -72,18 +73,14 @@ module _ (j : Job) (f : Flow) where
       next-in (inputsAsk next domainsAsk) (layersAsk mode next (entriesAsk next definitionsAsk mode))
       (next-in inputsAsk domainsAsk
       (each-in (j .nodes) (λ u. each (j .nodes) (Q.inputAsk j f u)) (λ u l. each-in (j .nodes) (Q.inputAsk j f u)
-      (λ k m. ask-in (not (f .set u k) || not (j .input k) || eqb k u) 13 u 0 (input-in (f .set u k) (j .input k) (eqb k u) (λ a b. rw (p .inputs u k l m a b) (eqb-refl u))))))
+      (λ k m. ask-in (inputHolds j (f .set u) u k) 13 u 0 (input-in (f .set u k) (j .input k) (eqb k u) (λ a b. rw (p .inputs u k l m a b) (eqb-refl u))))))
       (each-in (j .nodes) (Q.domainAsk j f) (λ u l. ask-in (Bool·beq (anyBelow (j .nodes) (f .set u)) (not (j .output u))) 14 u 0
       (beq-in (anyBelow (j .nodes) (f .set u)) (j .output u) (λ a b. p .domain u l .0 a b) (p .domain u l .1)))))
       (next-in (layersAsk mode) (entriesAsk next definitionsAsk mode)
       (each-in (j .nodes) (Q.layerAsk j f mode) (λ u l. layer-in mode u l (p .outputs) (p .others)))
       (next-in entriesAsk (definitionsAsk mode)
-      (each-in (j .nodes) (Q.measuredAsk j f) (λ u l. ask-in (not (f .entry u) || not (eqb (j .measured u) 0)) 17 u 0 (entry′ u l (dec (f .entry u)))))
+      (each-in (j .nodes) (Q.measuredAsk j f) (λ u l. ask-in (not (f .entry u) || not (eqb (j .measured u) 0)) 17 u 0 (implies-in (f .entry u) (not (eqb (j .measured u) 0)) (λ t. not-in (eqb (j .measured u) 0) (λ q. p .entries u l t (eqb→eq (j .measured u) 0 q))))))
       (each-in (j .nodes) (Q.definitionAsk j f mode) (λ i l. unless-in (j .output i) (nodeQuestions mode i) (λ o. h i (l, o))))))
-    where
-      entry′ : (u : ℕ) → u < j .nodes → T (f .entry u) ⊎ (T (f .entry u) → ⊥) → T (not (f .entry u) || not (eqb (j .measured u) 0))
-      entry′ u l (inl t) = or-r (not (f .entry u)) (not (eqb (j .measured u) 0)) (not-in (eqb (j .measured u) 0) (λ q. p .entries u l t (eqb→eq (j .measured u) 0 q)))
-      entry′ u l (inr d) = or-l (not (f .entry u)) (not (eqb (j .measured u) 0)) (not-in (f .entry u) d)
 
   module _ (mode : ℕ) (e : Q.verify j f mode ≡ none) where
     all-asked : ((inputsAsk next domainsAsk) next (layersAsk mode next (entriesAsk next definitionsAsk mode))) ≡ none
@@ -110,7 +107,7 @@ module _ (j : Job) (f : Flow) where
       inputs = λ u k l m a b.
           eqb→eq k u
           (input-out (f .set u k) (j .input k) (eqb k u)
-          (ask-out (not (f .set u k) || not (j .input k) || eqb k u) 13 u 0
+          (ask-out (inputHolds j (f .set u) u k) 13 u 0
           (each-out (j .nodes) (Q.inputAsk j f u)
           (each-out (j .nodes) (λ u. each (j .nodes) (Q.inputAsk j f u)) (next-l inputsAsk domainsAsk domain-asked) u l) k m)) a b);
       domain = λ u l.
@@ -121,15 +118,11 @@ module _ (j : Job) (f : Flow) where
       others = λ m u s. other-out mode u (layer-asked u (s .0)) m (s .1);
       entries = λ u l t q.
           not-out (eqb (j .measured u) 0)
-          (entry-out (f .entry u) (not (eqb (j .measured u) 0))
+          (implies-out (f .entry u) (not (eqb (j .measured u) 0))
           (ask-out (not (f .entry u) || not (eqb (j .measured u) 0)) 17 u 0
           (each-out (j .nodes) (Q.measuredAsk j f) (next-l entriesAsk (definitionsAsk mode) definition-asked) u l)) t)
           (rw q tt);
     }
-      where
-        entry-out : (a b : Bool) → T (not a || b) → T a → T b
-        entry-out true b t p = t
-        entry-out false b t p = absurd p
 
     pub verify-nodes : (i : ℕ) → Measured j i → nodeQuestions mode i ≡ none
     verify-nodes i s =
@@ -159,41 +152,42 @@ module _ (j : Job) (f : Flow) where
     node-same k (inl e) = inl (rw e (eqb-refl i))
     node-same k (inr a) = inr a
 
-    pub node-in : Ok j pauli (laterThan (f .layer) i) (f .set i) i → Q.nodeAsk j f mode i ≡ none
+    pub node-in : T (corrects j pauli (laterThan (f .layer) i) (f .set i) i) → Q.nodeAsk j f mode i ≡ none
     unfolding Q.nodeAsk
-    node-in ok =
+    node-in c =
+        let ok = corrects-out j pauli (laterThan (f .layer) i) (f .set i) i c in
         next-in membersAsk (oddsAsk next ysAsk next Q.ownAsk j f i)
         (each-in (j .nodes) (Q.memberAsk j f mode i)
-        (λ k l. ask-in (not (f .set i k) || eqb k i || Q.later j f i k || (pauli && isXorY (j .measured k))) 18 i k
-        (late-in (f .set i k) (eqb k i) (Q.later j f i k) (pauli && isXorY (j .measured k)) (λ a. node-same k (ok .members k l a)))))
+        (λ k l. ask-in (not (f .set i k) || eqb k i || Q.later j f i k || (memberExcused j pauli k)) 18 i k
+        (late-in (f .set i k) (eqb k i) (Q.later j f i k) (memberExcused j pauli k) (λ a. node-same k (ok .members k l a)))))
         (next-in oddsAsk (ysAsk next Q.ownAsk j f i)
         (each-in (j .nodes) (Q.oddAsk j f mode i)
-        (λ k l. ask-in (not (odd j (f .set i) k) || eqb k i || Q.later j f i k || (pauli && isYorZ (j .measured k))) 18 i k
-        (late-in (odd j (f .set i) k) (eqb k i) (Q.later j f i k) (pauli && isYorZ (j .measured k)) (λ a. node-same k (ok .odds k l a)))))
+        (λ k l. ask-in (not (odd j (f .set i) k) || eqb k i || Q.later j f i k || (oddExcused j pauli k)) 18 i k
+        (late-in (odd j (f .set i) k) (eqb k i) (Q.later j f i k) (oddExcused j pauli k) (λ a. node-same k (ok .odds k l a)))))
         (next-in ysAsk (Q.ownAsk j f i)
         (each-in (j .nodes) (Q.yAsk j f mode i)
-        (λ k l. ask-in (not (pauli && eqb (j .measured k) pauliY && (f .set i k ⊕ odd j (f .set i) k)) || eqb k i || Q.later j f i k) 19 i 0
-        (both-in (pauli && eqb (j .measured k) pauliY) (f .set i k) (odd j (f .set i) k) (eqb k i) (Q.later j f i k) (λ a. node-same k (ok .ys k l a)))))
+        (λ k l. ask-in (not (yAsked j pauli k && (f .set i k ⊕ odd j (f .set i) k)) || eqb k i || Q.later j f i k) 19 i 0
+        (both-in (yAsked j pauli k) (f .set i k) (odd j (f .set i) k) (eqb k i) (Q.later j f i k) (λ a. node-same k (ok .ys k l a)))))
         (ask-in (own (j .measured i) (f .set i i) (odd j (f .set i) i)) 19 i 0 (ok .owns))))
 
-    pub node-out : ((k : ℕ) → k < j .nodes → T (f .set i k) → T (j .input k) → k ≡ i) → Q.nodeAsk j f mode i ≡ none → Ok j pauli (laterThan (f .layer) i) (f .set i) i
+    pub node-out : NoOtherInput j (f .set i) i → Q.nodeAsk j f mode i ≡ none → T (corrects j pauli (laterThan (f .layer) i) (f .set i) i)
     unfolding Q.nodeAsk
-    node-out inputs e = record {
+    node-out inputs e = corrects-in j pauli (laterThan (f .layer) i) (f .set i) i (record {
       inputs = inputs;
       members = λ k l a.
           same-node k
-          (late-out (f .set i k) (eqb k i) (Q.later j f i k) (pauli && isXorY (j .measured k))
-          (ask-out (not (f .set i k) || eqb k i || Q.later j f i k || (pauli && isXorY (j .measured k))) 18 i k
+          (late-out (f .set i k) (eqb k i) (Q.later j f i k) (memberExcused j pauli k)
+          (ask-out (not (f .set i k) || eqb k i || Q.later j f i k || (memberExcused j pauli k)) 18 i k
           (each-out (j .nodes) (Q.memberAsk j f mode i) (next-l membersAsk (oddsAsk next ysAsk next Q.ownAsk j f i) e) k l)) a);
       odds = λ k l a.
           same-node k
-          (late-out (odd j (f .set i) k) (eqb k i) (Q.later j f i k) (pauli && isYorZ (j .measured k))
-          (ask-out (not (odd j (f .set i) k) || eqb k i || Q.later j f i k || (pauli && isYorZ (j .measured k))) 18 i k
+          (late-out (odd j (f .set i) k) (eqb k i) (Q.later j f i k) (oddExcused j pauli k)
+          (ask-out (not (odd j (f .set i) k) || eqb k i || Q.later j f i k || (oddExcused j pauli k)) 18 i k
           (each-out (j .nodes) (Q.oddAsk j f mode i) (next-l oddsAsk (ysAsk next Q.ownAsk j f i) (next-r membersAsk (oddsAsk next ysAsk next Q.ownAsk j f i) e)) k l)) a);
       ys = λ k l a.
           same-node k
-          (both-out (pauli && eqb (j .measured k) pauliY) (f .set i k) (odd j (f .set i) k) (eqb k i) (Q.later j f i k)
-          (ask-out (not (pauli && eqb (j .measured k) pauliY && (f .set i k ⊕ odd j (f .set i) k)) || eqb k i || Q.later j f i k) 19 i 0
+          (both-out (yAsked j pauli k) (f .set i k) (odd j (f .set i) k) (eqb k i) (Q.later j f i k)
+          (ask-out (not (yAsked j pauli k && (f .set i k ⊕ odd j (f .set i) k)) || eqb k i || Q.later j f i k) 19 i 0
           (each-out (j .nodes) (Q.yAsk j f mode i) (next-l ysAsk (Q.ownAsk j f i) (next-r oddsAsk (ysAsk next Q.ownAsk j f i) (next-r membersAsk (oddsAsk next ysAsk next Q.ownAsk j f i) e))) k l)) a);
       owns = ask-out (own (j .measured i) (f .set i i) (odd j (f .set i) i)) 19 i 0 (next-r ysAsk (Q.ownAsk j f i) (next-r oddsAsk (ysAsk next Q.ownAsk j f i) (next-r membersAsk (oddsAsk next ysAsk next Q.ownAsk j f i) e)));
-    }
+    })
