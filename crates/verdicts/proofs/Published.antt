@@ -1,7 +1,7 @@
 -- The verifier of each mode accepts exactly the published conditions with the listed differences.
 use Prim.Native.Nat.{ℕ, zero, suc, _≤_, _<_}
 use mathlib.Core.Path.{_≡_, refl, sym, ap, _∙_}
-use mathlib.Core.Bool.{Bool, true, false, cond, not, _&&_, _||_, true≢false, false≢true}
+use mathlib.Core.Bool.{Bool, true, false, cond, not, _&&_, true≢false, false≢true}
 use mathlib.Core.Option.{Option, none}
 use mathlib.Core.Logic.{_⊎_, inl, inr, _↔_, _≢_}
 use native.Mathlib.Omega.{arith}
@@ -296,12 +296,12 @@ module _ (j : Job) (f : Flow) (r : Readable j f) where
     causal-in : (i k : ℕ) → f .layer k < f .layer i → ((v : ℕ) → v < j .nodes → T (j .edge k v) → v ≢ i → f .layer v < f .layer i) → T (j .edge k i) → Q.causalAsk j f i k ≡ none
     unfolding Q.causalAsk
     causal-in i k a b c =
-        next-in (Q.successorAsk j f i k) (neighboursAsk i k next Q.adjacentAsk j f i k) (ask-in (Q.later j f i k) 18 i k (lt-later i k a))
+        next-in (Q.successorAsk j f i k) (neighboursAsk i k next Q.adjacentAsk j f i k) (ask-in _ _ _ _ (lt-later i k a))
         (next-in (neighboursAsk i k) (Q.adjacentAsk j f i k)
         (each-in (j .nodes) (Q.neighbourAsk j f i k)
-        (λ v l. ask-in (not (j .edge k v) || eqb v i || Q.later j f i v || false) 18 i v
+        (λ v l. ask-in _ _ _ _
         (late-in (j .edge k v) (eqb v i) (Q.later j f i v) false (λ t. by v l t (dec (eqb v i))))))
-        (ask-in (j .edge k i) 18 i k c))
+        (ask-in _ _ _ _ c))
       where
         by : (v : ℕ) → v < j .nodes → T (j .edge k v) → T (eqb v i) ⊎ (T (eqb v i) → ⊥) → T (eqb v i) ⊎ (T (Q.later j f i v) ⊎ ⊥)
         by v l t (inl q) = inl q
@@ -316,13 +316,13 @@ module _ (j : Job) (f : Flow) (r : Readable j f) where
       after-successor = next-r (Q.successorAsk j f i k) (neighboursAsk i k next Q.adjacentAsk j f i k) asked
 
       successor-later : f .layer k < f .layer i
-      successor-later = later-lt i k (ask-out (Q.later j f i k) 18 i k (next-l (Q.successorAsk j f i k) (neighboursAsk i k next Q.adjacentAsk j f i k) asked))
+      successor-later = later-lt i k (ask-out _ _ _ _ (next-l (Q.successorAsk j f i k) (neighboursAsk i k next Q.adjacentAsk j f i k) asked))
 
       neighbour-later : (v : ℕ) → v < j .nodes → T (j .edge k v) → v ≢ i → f .layer v < f .layer i
       neighbour-later v l t d =
           by
           (late-out (j .edge k v) (eqb v i) (Q.later j f i v) false
-          (ask-out (not (j .edge k v) || eqb v i || Q.later j f i v || false) 18 i v (each-out (j .nodes) (Q.neighbourAsk j f i k) (next-l (neighboursAsk i k) (Q.adjacentAsk j f i k) after-successor) v l)) t)
+          (ask-out _ _ _ _ (each-out (j .nodes) (Q.neighbourAsk j f i k) (next-l (neighboursAsk i k) (Q.adjacentAsk j f i k) after-successor) v l)) t)
         where
           by : T (eqb v i) ⊎ (T (Q.later j f i v) ⊎ ⊥) → f .layer v < f .layer i
           by (inl q) = absurd (d (eqb→eq v i q))
@@ -330,7 +330,7 @@ module _ (j : Job) (f : Flow) (r : Readable j f) where
           by (inr (inr q)) = absurd q
 
       is-adjacent : T (j .edge k i)
-      is-adjacent = ask-out (j .edge k i) 18 i k (next-r (neighboursAsk i k) (Q.adjacentAsk j f i k) after-successor)
+      is-adjacent = ask-out _ _ _ _ (next-r (neighboursAsk i k) (Q.adjacentAsk j f i k) after-successor)
 
     -- Danos and Kashefi: the same for causal flow; here no node's own input is excepted, since f(i) is later than i
     pub causal-accepts : Q.verify j f modeCausal ≡ none → CausalAccepted j f

@@ -12,10 +12,12 @@ use Rattle.answers.specs.Answer.{Refusal}
 use Rattle.verdicts.specs.Verdict.{ask, _next_, eachFrom, each}
 
 pub ask-in : (c : Bool) (q a b : ℕ) → T c → ask c q a b ≡ none
+unfolding ask
 ask-in true q a b t = refl
 ask-in false q a b t = absurd t
 
 pub ask-out : (c : Bool) (q a b : ℕ) → ask c q a b ≡ none → T c
+unfolding ask
 ask-out true q a b e = tt
 ask-out false q a b e = absurd (Option·none-ne-some _ (sym e))
 

@@ -1,15 +1,14 @@
 -- What the verifier accepts: no question is answered no exactly where the conditions hold.
 use Prim.Native.Nat.{ℕ, _<_}
 use mathlib.Core.Path.{_≡_, refl}
-use mathlib.Core.Bool.{Bool, true, false, cond, not, _&&_, _||_, Bool·beq}
+use mathlib.Core.Bool.{Bool, true, false, cond, not, _||_}
 use mathlib.Core.Option.{Option, none}
 use mathlib.Core.Logic.{_⊎_, inl, inr, _↔_, _≢_}
 use lib.Dec.{T, eqb, ltb, eqb→eq, eqb-refl, ltb→lt, lt→ltb}
-use Rattle.nodes.specs.Bit.{_⊕_}
 use Rattle.nodes.specs.Row.{anyBelow}
 use Rattle.nodes.proofs.Logic.{is-true, is-false, from-true, from-false, dec, or-l, or-r, not-in, not-out, eqb-no}
-use Rattle.flows.specs.Job.{Job, odd, own}
-use Rattle.flows.specs.Conditions.{memberExcused, oddExcused, yAsked, inputHolds, corrects}
+use Rattle.flows.specs.Job.{Job, odd}
+use Rattle.flows.specs.Conditions.{memberExcused, oddExcused, yAsked, corrects}
 use Rattle.flows.specs.Search.{laterThan}
 use Rattle.flows.proofs.Conditions.{NoOtherInput, corrects-in, corrects-out, input-in, input-out, implies-in, implies-out}
 use Rattle.answers.specs.Answer.{Refusal}
@@ -52,19 +51,19 @@ module _ (j : Job) (f : Flow) where
   layer-in mode u l o p = go (j .output u) refl
     where
       go : (c : Bool) → j .output u ≡ c → cond c (Q.outputLayerAsk j f u) (Q.otherLayerAsk j f mode u) ≡ none
-      go true e = ask-in (eqb (f .layer u) 0) 15 u (f .layer u) (rw (o u l (from-true (j .output u) e)) tt)
-      go false e = ask-in (eqb mode modePauli || ltb 0 (f .layer u)) 16 u 0 (by (dec (eqb mode modePauli)))
+      go true e = ask-in _ _ _ _ (rw (o u l (from-true (j .output u) e)) tt)
+      go false e = ask-in _ _ _ _ (by (dec (eqb mode modePauli)))
         where
           by : T (eqb mode modePauli) ⊎ (T (eqb mode modePauli) → ⊥) → T (eqb mode modePauli || ltb 0 (f .layer u))
           by (inl t) = or-l (eqb mode modePauli) (ltb 0 (f .layer u)) t
           by (inr d) = or-r (eqb mode modePauli) (ltb 0 (f .layer u)) (lt→ltb 0 (f .layer u) (p (λ q. d (rw q tt)) u (l, from-false (j .output u) e)))
 
   output-out : (mode u : ℕ) → Q.layerAsk j f mode u ≡ none → T (j .output u) → f .layer u ≡ 0
-  output-out mode u q t = eqb→eq (f .layer u) 0 (ask-out (eqb (f .layer u) 0) 15 u (f .layer u) (rw (is-true (j .output u) t) at q))
+  output-out mode u q t = eqb→eq (f .layer u) 0 (ask-out _ _ _ _ (rw (is-true (j .output u) t) at q))
 
   other-out : (mode u : ℕ) → Q.layerAsk j f mode u ≡ none → mode ≢ modePauli → (T (j .output u) → ⊥) → 0 < f .layer u
   other-out mode u q m o =
-      ltb→lt 0 (f .layer u) (rw (eqb-no mode modePauli m) at (ask-out (eqb mode modePauli || ltb 0 (f .layer u)) 16 u 0 (rw (is-false (j .output u) o) at q)))
+      ltb→lt 0 (f .layer u) (rw (eqb-no mode modePauli m) at (ask-out _ _ _ _ (rw (is-false (j .output u) o) at q)))
 
   -- ---- the whole
   pub verify-in : (mode : ℕ) → Preliminary mode → ((i : ℕ) → Measured j i → nodeQuestions mode i ≡ none) → Q.verify j f mode ≡ none
@@ -73,13 +72,13 @@ module _ (j : Job) (f : Flow) where
       next-in (inputsAsk next domainsAsk) (layersAsk mode next (entriesAsk next definitionsAsk mode))
       (next-in inputsAsk domainsAsk
       (each-in (j .nodes) (λ u. each (j .nodes) (Q.inputAsk j f u)) (λ u l. each-in (j .nodes) (Q.inputAsk j f u)
-      (λ k m. ask-in (inputHolds j (f .set u) u k) 13 u 0 (input-in (f .set u k) (j .input k) (eqb k u) (λ a b. rw (p .inputs u k l m a b) (eqb-refl u))))))
-      (each-in (j .nodes) (Q.domainAsk j f) (λ u l. ask-in (Bool·beq (anyBelow (j .nodes) (f .set u)) (not (j .output u))) 14 u 0
+      (λ k m. ask-in _ _ _ _ (input-in (f .set u k) (j .input k) (eqb k u) (λ a b. rw (p .inputs u k l m a b) (eqb-refl u))))))
+      (each-in (j .nodes) (Q.domainAsk j f) (λ u l. ask-in _ _ _ _
       (beq-in (anyBelow (j .nodes) (f .set u)) (j .output u) (λ a b. p .domain u l .0 a b) (p .domain u l .1)))))
       (next-in (layersAsk mode) (entriesAsk next definitionsAsk mode)
       (each-in (j .nodes) (Q.layerAsk j f mode) (λ u l. layer-in mode u l (p .outputs) (p .others)))
       (next-in entriesAsk (definitionsAsk mode)
-      (each-in (j .nodes) (Q.measuredAsk j f) (λ u l. ask-in (not (f .entry u) || not (eqb (j .measured u) 0)) 17 u 0 (implies-in (f .entry u) (not (eqb (j .measured u) 0)) (λ t. not-in (eqb (j .measured u) 0) (λ q. p .entries u l t (eqb→eq (j .measured u) 0 q))))))
+      (each-in (j .nodes) (Q.measuredAsk j f) (λ u l. ask-in _ _ _ _ (implies-in (f .entry u) (not (eqb (j .measured u) 0)) (λ t. not-in (eqb (j .measured u) 0) (λ q. p .entries u l t (eqb→eq (j .measured u) 0 q))))))
       (each-in (j .nodes) (Q.definitionAsk j f mode) (λ i l. unless-in (j .output i) (nodeQuestions mode i) (λ o. h i (l, o))))))
 
   module _ (mode : ℕ) (e : Q.verify j f mode ≡ none) where
@@ -107,19 +106,19 @@ module _ (j : Job) (f : Flow) where
       inputs = λ u k l m a b.
           eqb→eq k u
           (input-out (f .set u k) (j .input k) (eqb k u)
-          (ask-out (inputHolds j (f .set u) u k) 13 u 0
+          (ask-out _ _ _ _
           (each-out (j .nodes) (Q.inputAsk j f u)
           (each-out (j .nodes) (λ u. each (j .nodes) (Q.inputAsk j f u)) (next-l inputsAsk domainsAsk domain-asked) u l) k m)) a b);
       domain = λ u l.
           beq-out (anyBelow (j .nodes) (f .set u)) (j .output u)
-          (ask-out (Bool·beq (anyBelow (j .nodes) (f .set u)) (not (j .output u))) 14 u 0
+          (ask-out _ _ _ _
           (each-out (j .nodes) (Q.domainAsk j f) (next-r inputsAsk domainsAsk domain-asked) u l));
       outputs = λ u l t. output-out mode u (layer-asked u l) t;
       others = λ m u s. other-out mode u (layer-asked u (s .0)) m (s .1);
       entries = λ u l t q.
           not-out (eqb (j .measured u) 0)
           (implies-out (f .entry u) (not (eqb (j .measured u) 0))
-          (ask-out (not (f .entry u) || not (eqb (j .measured u) 0)) 17 u 0
+          (ask-out _ _ _ _
           (each-out (j .nodes) (Q.measuredAsk j f) (next-l entriesAsk (definitionsAsk mode) definition-asked) u l)) t)
           (rw q tt);
     }
@@ -158,17 +157,17 @@ module _ (j : Job) (f : Flow) where
         let ok = corrects-out j pauli (laterThan (f .layer) i) (f .set i) i c in
         next-in membersAsk (oddsAsk next ysAsk next Q.ownAsk j f i)
         (each-in (j .nodes) (Q.memberAsk j f mode i)
-        (λ k l. ask-in (not (f .set i k) || eqb k i || Q.later j f i k || (memberExcused j pauli k)) 18 i k
+        (λ k l. ask-in _ _ _ _
         (late-in (f .set i k) (eqb k i) (Q.later j f i k) (memberExcused j pauli k) (λ a. node-same k (ok .members k l a)))))
         (next-in oddsAsk (ysAsk next Q.ownAsk j f i)
         (each-in (j .nodes) (Q.oddAsk j f mode i)
-        (λ k l. ask-in (not (odd j (f .set i) k) || eqb k i || Q.later j f i k || (oddExcused j pauli k)) 18 i k
+        (λ k l. ask-in _ _ _ _
         (late-in (odd j (f .set i) k) (eqb k i) (Q.later j f i k) (oddExcused j pauli k) (λ a. node-same k (ok .odds k l a)))))
         (next-in ysAsk (Q.ownAsk j f i)
         (each-in (j .nodes) (Q.yAsk j f mode i)
-        (λ k l. ask-in (not (yAsked j pauli k && (f .set i k ⊕ odd j (f .set i) k)) || eqb k i || Q.later j f i k) 19 i 0
+        (λ k l. ask-in _ _ _ _
         (both-in (yAsked j pauli k) (f .set i k) (odd j (f .set i) k) (eqb k i) (Q.later j f i k) (λ a. node-same k (ok .ys k l a)))))
-        (ask-in (own (j .measured i) (f .set i i) (odd j (f .set i) i)) 19 i 0 (ok .owns))))
+        (ask-in _ _ _ _ (ok .owns))))
 
     pub node-out : NoOtherInput j (f .set i) i → Q.nodeAsk j f mode i ≡ none → T (corrects j pauli (laterThan (f .layer) i) (f .set i) i)
     unfolding Q.nodeAsk
@@ -177,17 +176,17 @@ module _ (j : Job) (f : Flow) where
       members = λ k l a.
           same-node k
           (late-out (f .set i k) (eqb k i) (Q.later j f i k) (memberExcused j pauli k)
-          (ask-out (not (f .set i k) || eqb k i || Q.later j f i k || (memberExcused j pauli k)) 18 i k
+          (ask-out _ _ _ _
           (each-out (j .nodes) (Q.memberAsk j f mode i) (next-l membersAsk (oddsAsk next ysAsk next Q.ownAsk j f i) e) k l)) a);
       odds = λ k l a.
           same-node k
           (late-out (odd j (f .set i) k) (eqb k i) (Q.later j f i k) (oddExcused j pauli k)
-          (ask-out (not (odd j (f .set i) k) || eqb k i || Q.later j f i k || (oddExcused j pauli k)) 18 i k
+          (ask-out _ _ _ _
           (each-out (j .nodes) (Q.oddAsk j f mode i) (next-l oddsAsk (ysAsk next Q.ownAsk j f i) (next-r membersAsk (oddsAsk next ysAsk next Q.ownAsk j f i) e)) k l)) a);
       ys = λ k l a.
           same-node k
           (both-out (yAsked j pauli k) (f .set i k) (odd j (f .set i) k) (eqb k i) (Q.later j f i k)
-          (ask-out (not (yAsked j pauli k && (f .set i k ⊕ odd j (f .set i) k)) || eqb k i || Q.later j f i k) 19 i 0
+          (ask-out _ _ _ _
           (each-out (j .nodes) (Q.yAsk j f mode i) (next-l ysAsk (Q.ownAsk j f i) (next-r oddsAsk (ysAsk next Q.ownAsk j f i) (next-r membersAsk (oddsAsk next ysAsk next Q.ownAsk j f i) e))) k l)) a);
-      owns = ask-out (own (j .measured i) (f .set i i) (odd j (f .set i) i)) 19 i 0 (next-r ysAsk (Q.ownAsk j f i) (next-r oddsAsk (ysAsk next Q.ownAsk j f i) (next-r membersAsk (oddsAsk next ysAsk next Q.ownAsk j f i) e)));
+      owns = ask-out _ _ _ _ (next-r ysAsk (Q.ownAsk j f i) (next-r oddsAsk (ysAsk next Q.ownAsk j f i) (next-r membersAsk (oddsAsk next ysAsk next Q.ownAsk j f i) e)));
     })

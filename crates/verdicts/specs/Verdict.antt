@@ -12,7 +12,7 @@ use Rattle.records.specs.JobFile.{modeCausal, modePauli}
 use Rattle.records.specs.FlowFile.{Flow}
 
 -- the question is passed, or refused with number, a and b
-abbrev pub ask : Bool → (number a b : ℕ) → Option Refusal
+unfoldable pub ask : Bool → (number a b : ℕ) → Option Refusal
 ask true q a b = none
 ask false q a b = some (record { number = q; a = a; b = b })
 
