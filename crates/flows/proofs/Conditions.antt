@@ -2,15 +2,15 @@
 use Prim.Native.Nat.{ℕ, _<_}
 use mathlib.Core.Path.{_≡_, refl}
 use mathlib.Core.Bool.{Bool, true, false, not, _&&_, _||_, true≢false, false≢true}
-use mathlib.Core.Logic.{_⊎_, inl, inr}
+use mathlib.Core.Logic.{_⊎_, inl, inr, _≢_}
 use lib.Dec.{T, eqb, eqb→eq, eqb-refl}
 use Rattle.nodes.specs.Bit.{_⊕_}
-use Rattle.nodes.specs.Row.{allBelow}
+use Rattle.nodes.specs.Row.{anyBelow, allBelow}
 use Rattle.nodes.proofs.Logic.{dec, and-l, and-r, and-in, or-l, or-r, or-out, not-in, not-out}
-use Rattle.nodes.proofs.Row.{all-in, all-out, parity-ext}
+use Rattle.nodes.proofs.Row.{any-in, any-out, all-in, all-out, parity-ext}
 use Rattle.nodes.proofs.Count.{Within}
 use Rattle.flows.specs.Job.{Job, odd, own}
-use Rattle.flows.specs.Conditions.{memberExcused, oddExcused, yAsked, need, inputHolds, ownHolds, corrects}
+use Rattle.flows.specs.Conditions.{memberExcused, oddExcused, yAsked, need, inputHolds, ownHolds, corrects, causalNeed, causalHolds}
 
 -- a test that is asked only where a holds
 pub implies-in : (a b : Bool) → (T a → T b) → T (not a || b)
@@ -22,12 +22,12 @@ implies-out true b t p = t
 implies-out false b t p = absurd p
 
 -- a node of the set is no input, or the node itself
-pub input-in : (a b c : Bool) → (T a → T b → T c) → T (not a || not b || c)
+input-in : (a b c : Bool) → (T a → T b → T c) → T (not a || not b || c)
 input-in true true c f = f tt tt
 input-in true false c f = tt
 input-in false b c f = tt
 
-pub input-out : (a b c : Bool) → T (not a || not b || c) → T a → T b → T c
+input-out : (a b c : Bool) → T (not a || not b || c) → T a → T b → T c
 input-out true true c t p q = t
 input-out true false c t p q = absurd q
 input-out false b c t p q = absurd p
@@ -37,18 +37,22 @@ module _ (j : Job) (set : ℕ → Bool) (i : ℕ) where
   abbrev pub NoOtherInput : Type 0
   NoOtherInput = (k : ℕ) → k < j .nodes → T (set k) → T (j .input k) → k ≡ i
 
+  pub holds-in : (k : ℕ) → (T (set k) → T (j .input k) → k ≡ i) → T (inputHolds j set i k)
+  holds-in k f = input-in (set k) (j .input k) (eqb k i) (λ a b. rw (f a b) (eqb-refl i))
+
+  pub holds-out : (k : ℕ) → T (inputHolds j set i k) → T (set k) → T (j .input k) → k ≡ i
+  holds-out k t a b = eqb→eq k i (input-out (set k) (j .input k) (eqb k i) t a b)
+
   pub own-in : NoOtherInput → T (own (j .measured i) (set i) (odd j set i)) → T (ownHolds j set i)
   unfolding ownHolds
   own-in f t =
       and-in (allBelow (j .nodes) (inputHolds j set i)) (own (j .measured i) (set i) (odd j set i))
-      (all-in (j .nodes) (inputHolds j set i) (λ k l. input-in (set k) (j .input k) (eqb k i) (λ a b. rw (f k l a b) (eqb-refl i)))) t
+      (all-in (j .nodes) (inputHolds j set i) (λ k l. holds-in k (f k l))) t
 
   pub own-inputs : T (ownHolds j set i) → NoOtherInput
   unfolding ownHolds
-  own-inputs t k l a b =
-      eqb→eq k i
-      (input-out (set k) (j .input k) (eqb k i)
-      (all-out (j .nodes) (inputHolds j set i) (and-l (allBelow (j .nodes) (inputHolds j set i)) (own (j .measured i) (set i) (odd j set i)) t) k l) a b)
+  own-inputs t k l =
+      holds-out k (all-out (j .nodes) (inputHolds j set i) (and-l (allBelow (j .nodes) (inputHolds j set i)) (own (j .measured i) (set i) (odd j set i)) t) k l)
 
   pub own-measured : T (ownHolds j set i) → T (own (j .measured i) (set i) (odd j set i))
   unfolding ownHolds
@@ -176,3 +180,44 @@ module _ (j : Job) (set set′ : ℕ → Bool) (same : (k : ℕ) → k < j .node
   corrects-ext pauli later later′ e i l c =
       corrects-by j pauli later′ set′ i (own-ext i l (corrects-own j pauli later set i c))
       (λ k m q. rw (e k m) at (corrects-later j pauli later set i c k m (rw (need-ext pauli i k m) q)))
+
+-- ---- mode 1
+module _ (j : Job) (set : ℕ → Bool) (i : ℕ) where
+  abbrev holdsAt : ℕ → Bool
+  holdsAt s = inputHolds j set i s && (not (set s) || j .edge s i)
+
+  abbrev meets : ℕ → ℕ → Bool
+  meets k s = set s && j .edge s k
+
+  pub causal-in : NoOtherInput j set i → ((s : ℕ) → s < j .nodes → T (set s) → T (j .edge s i)) → T (causalHolds j set i)
+  unfolding causalHolds
+  causal-in f g = all-in (j .nodes) holdsAt (λ s l. and-in (inputHolds j set i s) (not (set s) || j .edge s i) (holds-in j set i s (f s l)) (implies-in (set s) (j .edge s i) (g s l)))
+
+  pub causal-inputs : T (causalHolds j set i) → NoOtherInput j set i
+  unfolding causalHolds
+  causal-inputs t s l = holds-out j set i s (and-l (inputHolds j set i s) (not (set s) || j .edge s i) (all-out (j .nodes) holdsAt t s l))
+
+  pub causal-adjacent : T (causalHolds j set i) → (s : ℕ) → s < j .nodes → T (set s) → T (j .edge s i)
+  unfolding causalHolds
+  causal-adjacent t s l = implies-out (set s) (j .edge s i) (and-r (inputHolds j set i s) (not (set s) || j .edge s i) (all-out (j .nodes) holdsAt t s l))
+
+  -- which nodes are needed: f(i), and a neighbour of it other than i
+  pub needs-member : (k : ℕ) → T (set k) → T (causalNeed j set i k)
+  unfolding causalNeed
+  needs-member k t = or-l (set k) (not (eqb k i) && anyBelow (j .nodes) (meets k)) t
+
+  pub needs-neighbour : (s k : ℕ) → s < j .nodes → T (set s) → T (j .edge s k) → k ≢ i → T (causalNeed j set i k)
+  unfolding causalNeed
+  needs-neighbour s k l t e d =
+      or-r (set k) (not (eqb k i) && anyBelow (j .nodes) (meets k))
+      (and-in (not (eqb k i)) (anyBelow (j .nodes) (meets k)) (not-in (eqb k i) (λ q. d (eqb→eq k i q))) (any-in (j .nodes) (meets k) s l (and-in (set s) (j .edge s k) t e)))
+
+  pub needs-out : (k : ℕ) → T (causalNeed j set i k) → T (set k) ⊎ ((s : ℕ) × (s < j .nodes) × T (set s) × T (j .edge s k) × (k ≢ i))
+  unfolding causalNeed
+  needs-out k t = go (or-out (set k) (not (eqb k i) && anyBelow (j .nodes) (meets k)) t)
+    where
+      go : T (set k) ⊎ T (not (eqb k i) && anyBelow (j .nodes) (meets k)) → T (set k) ⊎ ((s : ℕ) × (s < j .nodes) × T (set s) × T (j .edge s k) × (k ≢ i))
+      go (inl a) = inl a
+      go (inr a) =
+          let (s, l, b) = any-out (j .nodes) (meets k) (and-r (not (eqb k i)) (anyBelow (j .nodes) (meets k)) a) in
+          inr (s, l, and-l (set s) (j .edge s k) b, and-r (set s) (j .edge s k) b, λ e. not-out (eqb k i) (and-l (not (eqb k i)) (anyBelow (j .nodes) (meets k)) a) (rw e (eqb-refl i)))

@@ -4,7 +4,7 @@ use Prim.Native.Nat.{ℕ}
 use mathlib.Core.Bool.{Bool, not, _&&_, _||_}
 use lib.Dec.{eqb}
 use Rattle.nodes.specs.Bit.{_⊕_}
-use Rattle.nodes.specs.Row.{allBelow}
+use Rattle.nodes.specs.Row.{anyBelow, allBelow}
 use Rattle.flows.specs.Job.{Job, odd, own, isXorY, isYorZ, pauliY}
 
 -- ---- who is excused
@@ -40,3 +40,12 @@ ownHolds j set i = allBelow (j .nodes) (inputHolds j set i) && own (j .measured 
 -- ---- the set corrects i where the nodes `later` are later: it holds by itself, and each needed node is later
 unfoldable pub corrects : Job → Bool → (later set : ℕ → Bool) → ℕ → Bool
 corrects j pauli later set i = ownHolds j set i && allBelow (j .nodes) (λ k. not (need j pauli set i k) || later k)
+
+-- ---- mode 1 beside it, where the set of i is f(i) alone
+-- f(i) has to be later than i, and so have its neighbours other than i
+unfoldable pub causalNeed : Job → (set : ℕ → Bool) → ℕ → ℕ → Bool
+causalNeed j set i k = set k || not (eqb k i) && anyBelow (j .nodes) (λ s. set s && j .edge s k)
+
+-- f(i) is no input and adjacent to i
+unfoldable pub causalHolds : Job → (set : ℕ → Bool) → ℕ → Bool
+causalHolds j set i = allBelow (j .nodes) (λ s. inputHolds j set i s && (not (set s) || j .edge s i))

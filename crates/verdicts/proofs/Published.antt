@@ -1,30 +1,25 @@
 -- The verifier of each mode accepts exactly the published conditions with the listed differences.
 use Prim.Native.Nat.{ℕ, zero, suc, _≤_, _<_}
 use mathlib.Core.Path.{_≡_, refl, sym, ap, _∙_}
-use mathlib.Core.Bool.{Bool, true, false, cond, not, _&&_, true≢false, false≢true}
-use mathlib.Core.Option.{Option, none}
+use mathlib.Core.Bool.{Bool, true, false, not, _&&_, true≢false, false≢true}
+use mathlib.Core.Option.{none}
 use mathlib.Core.Logic.{_⊎_, inl, inr, _↔_, _≢_}
 use native.Mathlib.Omega.{arith}
 use lib.Dec.{T, eqb, eqb→eq, eqb-refl, ltb→lt, lt→ltb}
 use Rattle.nodes.specs.Bit.{_⊕_}
 use Rattle.nodes.specs.Row.{lowest}
 use Rattle.nodes.proofs.Logic.{dec, and-l, and-r, and-in, eqb-no, eqb-yes}
-use Rattle.nodes.proofs.Row.{any-in}
 use Rattle.nodes.proofs.Members.{lowest-unique}
 use Rattle.flows.specs.Job.{Job, odd, own, isXorY, isYorZ, planeXY, planeYZ, planeXZ, pauliX, pauliY, pauliZ}
 use Rattle.flows.specs.Conditions.{corrects}
 use Rattle.flows.specs.Search.{laterThan}
-use Rattle.flows.proofs.Conditions.{Corrects, corrects-in, corrects-out, own-inputs}
-use Rattle.answers.specs.Answer.{Refusal}
+use Rattle.flows.proofs.Conditions.{Corrects, corrects-in, corrects-out, own-inputs, causal-in, causal-inputs, causal-adjacent, needs-member, needs-neighbour, needs-out}
 use Rattle.records.specs.JobFile.{modeCausal, modePlanes, modePauli}
 use Rattle.records.specs.FlowFile.{Flow}
 use Rattle.verdicts.specs.Verdict as Q
-use Rattle.verdicts.specs.Verdict.{_next_, each}
 use Rattle.verdicts.specs.Published.{StrictOrder, Measured, CausalFlow, PlaneConditions, PauliConditions, byLayer, NoOtherInputs, LayerRule, Domain, NoInputs, PublishedFlow, AcceptedFlow, CausalAccepted, PlanesAccepted, PaulisAccepted}
-use Rattle.verdicts.proofs.Questions.{ask-in, ask-out, next-in, next-l, next-r, each-in, each-out, when-in, when-out, late-in, late-out}
-use Rattle.verdicts.specs.Rule.{FlowRule}
-use Rattle.verdicts.proofs.Verdict.{Preliminary, verify-in, verify-preliminary, verify-nodes}
-use Rattle.verdicts.proofs.Rule.{Readable, preliminary-domain, preliminary, rule-corrects, corrects-rule, verify-rule}
+use Rattle.verdicts.specs.Rule.{FlowRule, CausalRule}
+use Rattle.verdicts.proofs.Rule.{Readable, rule-corrects, corrects-rule, verify-rule, verify-causal-rule}
 
 pub by-layer : (layer : ℕ → ℕ) → StrictOrder (byLayer layer)
 by-layer layer = record { irreflexive = λ i l. not-below (layer i) l; transitive = λ i k l a b. through (layer l) (layer k) (layer i) b a }
@@ -290,79 +285,37 @@ module _ (j : Job) (f : Flow) (r : Readable j f) where
             let q : successor i ≡ k = lowest-unique (j .nodes) (f .set i) k (omega arith) (λ v m. e v ∙ eqb-no v k (omega arith)) (λ m. e k ∙ eqb-yes k) in
             (rw q l, λ v. e v ∙ ap (eqb v) (sym q))
 
-    abbrev neighboursAsk : ℕ → ℕ → Option Refusal
-    neighboursAsk i k = each (j .nodes) (Q.neighbourAsk j f i k)
-
-    causal-in : (i k : ℕ) → f .layer k < f .layer i → ((v : ℕ) → v < j .nodes → T (j .edge k v) → v ≢ i → f .layer v < f .layer i) → T (j .edge k i) → Q.causalAsk j f i k ≡ none
-    unfolding Q.causalAsk
-    causal-in i k a b c =
-        next-in (Q.successorAsk j f i k) (neighboursAsk i k next Q.adjacentAsk j f i k) (ask-in _ _ _ _ (lt-later i k a))
-        (next-in (neighboursAsk i k) (Q.adjacentAsk j f i k)
-        (each-in (j .nodes) (Q.neighbourAsk j f i k)
-        (λ v l. ask-in _ _ _ _
-        (late-in (j .edge k v) (eqb v i) (Q.later j f i v) false (λ t. by v l t (dec (eqb v i))))))
-        (ask-in _ _ _ _ c))
-      where
-        by : (v : ℕ) → v < j .nodes → T (j .edge k v) → T (eqb v i) ⊎ (T (eqb v i) → ⊥) → T (eqb v i) ⊎ (T (Q.later j f i v) ⊎ ⊥)
-        by v l t (inl q) = inl q
-        by v l t (inr d) = inr (inl (lt-later i v (b v l t (λ e. d (rw e (eqb-refl i))))))
-
-    module _ (i k : ℕ) (e : Q.causalAsk j f i k ≡ none) where
-      asked : (Q.successorAsk j f i k next neighboursAsk i k next Q.adjacentAsk j f i k) ≡ none
-      unfolding Q.causalAsk
-      asked = e
-
-      after-successor : (neighboursAsk i k next Q.adjacentAsk j f i k) ≡ none
-      after-successor = next-r (Q.successorAsk j f i k) (neighboursAsk i k next Q.adjacentAsk j f i k) asked
-
-      successor-later : f .layer k < f .layer i
-      successor-later = later-lt i k (ask-out _ _ _ _ (next-l (Q.successorAsk j f i k) (neighboursAsk i k next Q.adjacentAsk j f i k) asked))
-
-      neighbour-later : (v : ℕ) → v < j .nodes → T (j .edge k v) → v ≢ i → f .layer v < f .layer i
-      neighbour-later v l t d =
-          by
-          (late-out (j .edge k v) (eqb v i) (Q.later j f i v) false
-          (ask-out _ _ _ _ (each-out (j .nodes) (Q.neighbourAsk j f i k) (next-l (neighboursAsk i k) (Q.adjacentAsk j f i k) after-successor) v l)) t)
-        where
-          by : T (eqb v i) ⊎ (T (Q.later j f i v) ⊎ ⊥) → f .layer v < f .layer i
-          by (inl q) = absurd (d (eqb→eq v i q))
-          by (inr (inl q)) = later-lt i v q
-          by (inr (inr q)) = absurd q
-
-      is-adjacent : T (j .edge k i)
-      is-adjacent = ask-out _ _ _ _ (next-r (neighboursAsk i k) (Q.adjacentAsk j f i k) after-successor)
-
     -- Danos and Kashefi: the same for causal flow; here no node's own input is excepted, since f(i) is later than i
     pub causal-accepts : Q.verify j f modeCausal ≡ none → CausalAccepted j f
     causal-accepts e = record {
-      domain = preliminary-domain j f r modeCausal asked-first;
-      outputs = asked-first .outputs;
-      others = asked-first .others (λ q. one-three q);
+      domain = rule .domain;
+      outputs = rule .layers .outputs;
+      others = λ i s. omega (arith, f-later i s);
       flow = (
         successor,
         record {
           order = by-layer (f .layer);
-          node = λ i s. the-member i (has-entry i s) .0;
-          noInput = λ i s t. self (f .layer) i (successor i) (asked-first .inputs i (successor i) (s .0) (the-member i (has-entry i s) .0) (in-set i s) t) (successor-later i (successor i) (causal i s));
-          adjacent = λ i s. is-adjacent i (successor i) (causal i s);
-          successor = λ i s. successor-later i (successor i) (causal i s);
-          neighbours = λ i k s l t d. neighbour-later i (successor i) (causal i s) k l t d;
+          node = λ i s. member i s .0;
+          noInput = λ i s t. self (f .layer) i (successor i) (causal-inputs j (f .set i) i (rule .own i s) (successor i) (member i s .0) (in-set i s) t) (f-later i s);
+          adjacent = λ i s. causal-adjacent j (f .set i) i (rule .own i s) (successor i) (member i s .0) (in-set i s);
+          successor = f-later;
+          neighbours = λ i k s l t d. rule .later i k s l (needs-neighbour j (f .set i) i (successor i) k (member i s .0) (in-set i s) t d);
         },
-        λ i k s l. the-member i (has-entry i s) .1 k,
+        λ i k s l. member i s .1 k,
       );
     }
       where
-        one-three : modeCausal ≡ modePauli → ⊥
-        one-three q = omega arith
+        rule : CausalRule j f
+        rule = verify-causal-rule j f r single .0 e
 
-        asked-first : Preliminary j f modeCausal
-        asked-first = verify-preliminary j f modeCausal e
-
-        has-entry : (i : ℕ) → Measured j i → T (f .entry i)
-        has-entry i s = preliminary-domain j f r modeCausal asked-first i (s .0) .1 (s .1)
+        member : (i : ℕ) → Measured j i → (successor i < j .nodes) × ((v : ℕ) → f .set i v ≡ eqb v (successor i))
+        member i s = the-member i (rule .domain i (s .0) .1 (s .1))
 
         in-set : (i : ℕ) → Measured j i → T (f .set i (successor i))
-        in-set i s = rw (the-member i (has-entry i s) .1 (successor i)) (eqb-refl (successor i))
+        in-set i s = rw (member i s .1 (successor i)) (eqb-refl (successor i))
+
+        f-later : (i : ℕ) → Measured j i → f .layer (successor i) < f .layer i
+        f-later i s = rule .later i (successor i) s (member i s .0) (needs-member j (f .set i) i (successor i) (in-set i s))
 
         self : (layer : ℕ → ℕ) (i k : ℕ) → k ≡ i → layer k < layer i → ⊥
         self layer i k q l = not-below (layer i) (rw q at l)
@@ -370,32 +323,23 @@ module _ (j : Job) (f : Flow) (r : Readable j f) where
             not-below : (a : ℕ) → a < a → ⊥
             not-below a l = omega arith
 
-        causal : (i : ℕ) → Measured j i → Q.causalAsk j f i (successor i) ≡ none
-        causal i s =
-            when-out (f .set i (successor i)) (Q.causalAsk j f i (successor i))
-            (each-out (j .nodes) (λ k. cond (f .set i k) (Q.causalAsk j f i k) none) (verify-nodes j f modeCausal e i s) (successor i) (the-member i (has-entry i s) .0)) (in-set i s)
-
     pub accepts-causal : CausalAccepted j f → Q.verify j f modeCausal ≡ none
-    accepts-causal a =
-        verify-in j f modeCausal
-        (preliminary j f r modeCausal (a .domain) (a .outputs) (λ q. a .others)
-        (λ i k s l t q. absurd (c .noInput i s (rw (← is-f i k s l t) q)))
-        (λ i s. any-in (j .nodes) (f .set i) (g i) (c .node i s) (rw (w i (g i) s (c .node i s)) (eqb-refl (g i)))))
-        (λ i s. each-in (j .nodes) (λ k. cond (f .set i k) (Q.causalAsk j f i k) none)
-        (λ k l. when-in (f .set i k) (Q.causalAsk j f i k)
-        (λ t. rw (is-f i k s l t) (causal-in i (g i) (c .successor i s) (λ v m q d. c .neighbours i v s m q d) (c .adjacent i s)))))
+    accepts-causal a = verify-causal-rule j f r single .1 (record {
+      domain = a .domain;
+      layers = record { outputs = a .outputs; others = λ q. a .others };
+      own = λ i s. causal-in j (f .set i) i (λ k l t q. absurd (c .noInput i s (rw (← is-f i k s l t) q))) (λ k l t. rw (is-f i k s l t) (c .adjacent i s));
+      later = λ i k s l t. needed i k s l (needs-out j (f .set i) i k t);
+    })
       where
-        g : ℕ → ℕ
-        g = a .flow .0
-
         c : CausalFlow j (byLayer (f .layer)) (a .flow .0)
         c = a .flow .1
 
-        w : (i k : ℕ) → Measured j i → k < j .nodes → f .set i k ≡ eqb k (a .flow .0 i)
-        w = a .flow .2
-
         is-f : (i k : ℕ) → Measured j i → k < j .nodes → T (f .set i k) → k ≡ a .flow .0 i
-        is-f i k s l t = eqb→eq k (a .flow .0 i) (rw (w i k s l) at t)
+        is-f i k s l t = eqb→eq k (a .flow .0 i) (rw (a .flow .2 i k s l) at t)
+
+        needed : (i k : ℕ) → Measured j i → k < j .nodes → T (f .set i k) ⊎ ((v : ℕ) × (v < j .nodes) × T (f .set i v) × T (j .edge v k) × (k ≢ i)) → f .layer k < f .layer i
+        needed i k s l (inl t) = rw (is-f i k s l t) (c .successor i s)
+        needed i k s l (inr (v, m, t, q, d)) = c .neighbours i k s l (rw (is-f i v s m t) at q) d
 
 -- ---- the published flows themselves
 module _ (mode : ℕ) (j : Job) (f : Flow) where

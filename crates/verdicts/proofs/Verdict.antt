@@ -8,16 +8,16 @@ use lib.Dec.{T, eqb, ltb, eqb→eq, eqb-refl, ltb→lt, lt→ltb}
 use Rattle.nodes.specs.Row.{anyBelow}
 use Rattle.nodes.proofs.Logic.{is-true, is-false, from-true, from-false, dec, or-l, or-r, not-in, not-out, eqb-no}
 use Rattle.flows.specs.Job.{Job, odd}
-use Rattle.flows.specs.Conditions.{memberExcused, oddExcused, yAsked, corrects}
+use Rattle.flows.specs.Conditions.{memberExcused, oddExcused, yAsked, corrects, causalNeed}
 use Rattle.flows.specs.Search.{laterThan}
-use Rattle.flows.proofs.Conditions.{NoOtherInput, corrects-in, corrects-out, input-in, input-out, implies-in, implies-out}
+use Rattle.flows.proofs.Conditions.{NoOtherInput, corrects-in, corrects-out, holds-in, holds-out, implies-in, implies-out, needs-member, needs-neighbour, needs-out}
 use Rattle.answers.specs.Answer.{Refusal}
 use Rattle.records.specs.JobFile.{modeCausal, modePauli}
 use Rattle.records.specs.FlowFile.{Flow}
 use Rattle.verdicts.specs.Verdict as Q
 use Rattle.verdicts.specs.Verdict.{_next_, each}
 use Rattle.verdicts.specs.Published.{Measured, OutputsAtZero, OthersAboveZero}
-use Rattle.verdicts.proofs.Questions.{ask-in, ask-out, next-in, next-l, next-r, each-in, each-out, unless-in, unless-out, late-in, late-out, both-in, both-out, beq-in, beq-out}
+use Rattle.verdicts.proofs.Questions.{ask-in, ask-out, next-in, next-l, next-r, each-in, each-out, unless-in, unless-out, when-in, when-out, late-in, late-out, both-in, both-out, beq-in, beq-out}
 
 module _ (j : Job) (f : Flow) where
   -- ---- the questions before the node by node part
@@ -72,7 +72,7 @@ module _ (j : Job) (f : Flow) where
       next-in (inputsAsk next domainsAsk) (layersAsk mode next (entriesAsk next definitionsAsk mode))
       (next-in inputsAsk domainsAsk
       (each-in (j .nodes) (λ u. each (j .nodes) (Q.inputAsk j f u)) (λ u l. each-in (j .nodes) (Q.inputAsk j f u)
-      (λ k m. ask-in _ _ _ _ (input-in (f .set u k) (j .input k) (eqb k u) (λ a b. rw (p .inputs u k l m a b) (eqb-refl u))))))
+      (λ k m. ask-in _ _ _ _ (holds-in j (f .set u) u k (p .inputs u k l m)))))
       (each-in (j .nodes) (Q.domainAsk j f) (λ u l. ask-in _ _ _ _
       (beq-in (anyBelow (j .nodes) (f .set u)) (j .output u) (λ a b. p .domain u l .0 a b) (p .domain u l .1)))))
       (next-in (layersAsk mode) (entriesAsk next definitionsAsk mode)
@@ -103,12 +103,11 @@ module _ (j : Job) (f : Flow) where
 
     pub verify-preliminary : Preliminary mode
     verify-preliminary = record {
-      inputs = λ u k l m a b.
-          eqb→eq k u
-          (input-out (f .set u k) (j .input k) (eqb k u)
+      inputs = λ u k l m.
+          holds-out j (f .set u) u k
           (ask-out _ _ _ _
           (each-out (j .nodes) (Q.inputAsk j f u)
-          (each-out (j .nodes) (λ u. each (j .nodes) (Q.inputAsk j f u)) (next-l inputsAsk domainsAsk domain-asked) u l) k m)) a b);
+          (each-out (j .nodes) (λ u. each (j .nodes) (Q.inputAsk j f u)) (next-l inputsAsk domainsAsk domain-asked) u l) k m));
       domain = λ u l.
           beq-out (anyBelow (j .nodes) (f .set u)) (j .output u)
           (ask-out _ _ _ _
@@ -190,3 +189,51 @@ module _ (j : Job) (f : Flow) where
           (each-out (j .nodes) (Q.yAsk j f mode i) (next-l ysAsk (Q.ownAsk j f i) (next-r oddsAsk (ysAsk next Q.ownAsk j f i) (next-r membersAsk (oddsAsk next ysAsk next Q.ownAsk j f i) e))) k l)) a);
       owns = ask-out _ _ _ _ (next-r ysAsk (Q.ownAsk j f i) (next-r oddsAsk (ysAsk next Q.ownAsk j f i) (next-r membersAsk (oddsAsk next ysAsk next Q.ownAsk j f i) e)));
     })
+
+  -- ---- node i in mode 1, whatever the members of its set
+  module _ (i : ℕ) where
+    abbrev neighboursAsk : ℕ → Option Refusal
+    neighboursAsk k = each (j .nodes) (Q.neighbourAsk j f i k)
+
+    abbrev AllAdjacent : Type 0
+    AllAdjacent = (s : ℕ) → s < j .nodes → T (f .set i s) → T (j .edge s i)
+
+    abbrev NeededLater : Type 0
+    NeededLater = (k : ℕ) → k < j .nodes → T (causalNeed j (f .set i) i k) → T (laterThan (f .layer) i k)
+
+    pub causal-node-in : AllAdjacent → NeededLater → Q.causalNodeAsk j f i ≡ none
+    unfolding Q.causalAsk
+    causal-node-in a h = each-in (j .nodes) (λ k. cond (f .set i k) (Q.causalAsk j f i k) none) (λ s l. when-in (f .set i s) (Q.causalAsk j f i s) (λ t.
+        next-in (Q.successorAsk j f i s) (neighboursAsk s next Q.adjacentAsk j f i s) (ask-in _ _ _ _ (h s l (needs-member j (f .set i) i s t)))
+        (next-in (neighboursAsk s) (Q.adjacentAsk j f i s)
+        (each-in (j .nodes) (Q.neighbourAsk j f i s) (λ v m. ask-in _ _ _ _ (late-in (j .edge s v) (eqb v i) (Q.later j f i v) false (λ q. by s l t v m q (dec (eqb v i))))))
+        (ask-in _ _ _ _ (a s l t)))))
+      where
+        by : (s : ℕ) → s < j .nodes → T (f .set i s) → (v : ℕ) → v < j .nodes → T (j .edge s v) → T (eqb v i) ⊎ (T (eqb v i) → ⊥) → T (eqb v i) ⊎ (T (Q.later j f i v) ⊎ ⊥)
+        by s l t v m q (inl e) = inl e
+        by s l t v m q (inr d) = inr (inl (h v m (needs-neighbour j (f .set i) i s v l t q (λ e. d (rw e (eqb-refl i))))))
+
+    module _ (e : Q.causalNodeAsk j f i ≡ none) where
+      asked : (s : ℕ) → s < j .nodes → T (f .set i s) → (Q.successorAsk j f i s next neighboursAsk s next Q.adjacentAsk j f i s) ≡ none
+      unfolding Q.causalAsk
+      asked s l t = when-out (f .set i s) (Q.causalAsk j f i s) (each-out (j .nodes) (λ k. cond (f .set i k) (Q.causalAsk j f i k) none) e s l) t
+
+      after-successor : (s : ℕ) → s < j .nodes → T (f .set i s) → (neighboursAsk s next Q.adjacentAsk j f i s) ≡ none
+      after-successor s l t = next-r (Q.successorAsk j f i s) (neighboursAsk s next Q.adjacentAsk j f i s) (asked s l t)
+
+      pub causal-node-adjacent : AllAdjacent
+      causal-node-adjacent s l t = ask-out _ _ _ _ (next-r (neighboursAsk s) (Q.adjacentAsk j f i s) (after-successor s l t))
+
+      pub causal-node-later : NeededLater
+      causal-node-later k l t = go (needs-out j (f .set i) i k t)
+        where
+          go : T (f .set i k) ⊎ ((s : ℕ) × (s < j .nodes) × T (f .set i s) × T (j .edge s k) × (k ≢ i)) → T (laterThan (f .layer) i k)
+          go (inl t) = ask-out _ _ _ _ (next-l (Q.successorAsk j f i k) (neighboursAsk k next Q.adjacentAsk j f i k) (asked k l t))
+          go (inr (s, m, t, q, d)) =
+              from (late-out (j .edge s k) (eqb k i) (Q.later j f i k) false
+              (ask-out _ _ _ _ (each-out (j .nodes) (Q.neighbourAsk j f i s) (next-l (neighboursAsk s) (Q.adjacentAsk j f i s) (after-successor s m t)) k l)) q)
+            where
+              from : T (eqb k i) ⊎ (T (Q.later j f i k) ⊎ ⊥) → T (laterThan (f .layer) i k)
+              from (inl q) = absurd (d (eqb→eq k i q))
+              from (inr (inl q)) = q
+              from (inr (inr q)) = absurd q
