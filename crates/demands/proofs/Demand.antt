@@ -19,13 +19,13 @@ use Rattle.flows.proofs.Conditions.{corrects-ext}
 use Rattle.flows.proofs.Flows.{FoundAt, found-flow, found-corrects, found-smallest}
 use Rattle.answers.specs.Answer.{Answer, gives, refuses, refusal, asks, _>>_}
 use Rattle.records.specs.Records.{written, kindNoFlow}
-use Rattle.records.specs.JobFile.{JobFile, mostNodes, readJob, jobOf, measuredOf, modeCausal, modePlanes, modePauli}
+use Rattle.records.specs.JobFile.{JobFile, mostNodes, readJob, jobOf, modeCausal, modePlanes, modePauli}
 use Rattle.records.specs.FlowFile.{FlowFile, readFlow, flowOf, nothingLeft}
 use Rattle.records.specs.Encoding.{ValidJob, foundFlow}
 use Rattle.verdicts.specs.Verdict.{verify, checkDomain, checkInitial, checkDefinition}
 use Rattle.nodes.specs.Lists.{zeros}
 use Rattle.solver.specs.Solver.{workBytes}
-use Rattle.demands.specs.Calls.{Outcome, put, findOutcome, findAsks, findCall, foundBytes, search}
+use Rattle.demands.specs.Calls.{modeOf, Outcome, put, findOutcome, findAsks, findCall, foundBytes, search}
 use Rattle.records.specs.Writing.{flowBytes, mostOutput}
 use Rattle.verdicts.specs.Published.{Measured, LayerRule}
 use Rattle.verdicts.specs.Rule.{FlowRule}
@@ -37,43 +37,43 @@ use Rattle.records.proofs.Records.{written-length}
 use Rattle.records.proofs.Writing.{found-most, found-reads, found-valid, found-layer, found-entry, found-set, no-flow-unread}
 use Rattle.verdicts.proofs.Verdict.{domain-asked, initial-asked, definition-asked}
 use Rattle.verdicts.proofs.Rule.{Readable, rule-corrects, corrects-rule, verify-rule}
-use Rattle.demands.proofs.Judging.{Judged, judged-in, judged-out, readable}
+use Rattle.demands.proofs.Judging.{Judged, judged-in, judged-out, searched-works, works-planes, causal-works, readable}
 
 -- ---- a job in mode 2 or 3
-module _ (file : List ℕ) (f : JobFile) (reads : readJob file ≡ gives f) (ends : f .after ≡ []) (searched : (f .mode ≡ modePlanes) ⊎ (f .mode ≡ modePauli)) where
+module _ (file : List ℕ) (f : JobFile) (reads : readJob file ≡ gives f) (ends : f .after ≡ []) (searched : (modeOf f ≡ modePlanes) ⊎ (modeOf f ≡ modePauli)) where
   abbrev j : Job
   j = jobOf f
 
   abbrev pauli : Bool
-  pauli = eqb (f .mode) modePauli
+  pauli = eqb (modeOf f) modePauli
 
   valid : ValidJob f
   valid = job-asked file f reads
 
-  not-causal : f .mode ≢ modeCausal
+  not-causal : modeOf f ≢ modeCausal
   not-causal e = go searched e
     where
-      go : (f .mode ≡ modePlanes) ⊎ (f .mode ≡ modePauli) → f .mode ≡ modeCausal → ⊥
-      go (inl p) e = apart (f .mode) p e
+      go : (modeOf f ≡ modePlanes) ⊎ (modeOf f ≡ modePauli) → modeOf f ≡ modeCausal → ⊥
+      go (inl p) e = apart (modeOf f) p e
         where
           apart : (m : ℕ) → m ≡ 2 → m ≡ 1 → ⊥
           apart m p q = omega arith
-      go (inr p) e = apart (f .mode) p e
+      go (inr p) e = apart (modeOf f) p e
         where
           apart : (m : ℕ) → m ≡ 3 → m ≡ 1 → ⊥
           apart m p q = omega arith
 
-  by-mode : search (f .mode) j ≡ findAt j pauli
+  by-mode : search (modeOf f) j ≡ findAt j pauli
   by-mode = go searched
     where
-      go : (f .mode ≡ modePlanes) ⊎ (f .mode ≡ modePauli) → search (f .mode) j ≡ findAt j pauli
+      go : (modeOf f ≡ modePlanes) ⊎ (modeOf f ≡ modePauli) → search (modeOf f) j ≡ findAt j pauli
       go (inl e) = rw e
       go (inr e) = rw e
 
-  is-planes : pauli ≡ false → f .mode ≡ modePlanes
+  is-planes : pauli ≡ false → modeOf f ≡ modePlanes
   is-planes p = go searched
     where
-      go : (f .mode ≡ modePlanes) ⊎ (f .mode ≡ modePauli) → f .mode ≡ modePlanes
+      go : (modeOf f ≡ modePlanes) ⊎ (modeOf f ≡ modePauli) → modeOf f ≡ modePlanes
       go (inl e) = e
       go (inr e) = absurd (from-false pauli p (subst (λ (m : ℕ). T (eqb m modePauli)) (sym e) tt))
 
@@ -88,7 +88,7 @@ module _ (file : List ℕ) (f : JobFile) (reads : readJob file ≡ gives f) (end
     where
       go : T (j .output u) ⊎ (T (j .output u) → ⊥) → j .measured u ≤ 3
       go (inl t) = rw (output-zero f valid u l (is-true (j .output u) t)) (omega arith)
-      go (inr o) = measured-plane f valid (is-planes p) u l (is-false (j .output u) o) .1
+      go (inr o) = measured-plane f valid (works-planes f (is-planes p)) u l (is-false (j .output u) o) .1
 
   -- ---- (a) the found flow is accepted
   module _ (s : Progress) (e : findAt j pauli ≡ some s) where
@@ -107,45 +107,45 @@ module _ (file : List ℕ) (f : JobFile) (reads : readJob file ≡ gives f) (end
         pauli (laterThan (s .layer) u) (laterThan (flowOf g .layer) u) (λ k l. sym (ap₂ ltb (found-layer j s k l) (found-layer j s u (m .0)))) u (m .0)
         (found-corrects j pauli measured s flow-found u (m .0) (m .1))
 
-    layer-rule : LayerRule (f .mode) j (flowOf g .layer)
+    layer-rule : LayerRule (modeOf f) j (flowOf g .layer)
     layer-rule = record {
       outputs = λ u l o. found-layer j s u l ∙ flow-found .output-layer u o;
       others = λ e u m. subst (λ (x : ℕ). 0 < x) (sym (found-layer j s u (m .0))) (positive e (flow-found .least u (m .0) (m .1)));
     }
       where
-        positive : {x : ℕ} → f .mode ≡ modePlanes → firstRound pauli ≤ x → 0 < x
+        positive : {x : ℕ} → modeOf f ≡ modePlanes → firstRound pauli ≤ x → 0 < x
         positive e h = rw e at h
 
-    found-rule : FlowRule (f .mode) j (flowOf g)
+    found-rule : FlowRule (modeOf f) j (flowOf g)
     found-rule =
-        corrects-rule j (flowOf g) reading (f .mode) searched
+        corrects-rule j (flowOf g) reading (modeOf f) searched
         (λ u l. ((λ t. not-out (j .output u) (rw (found-entry j s u l) at t)), λ o. rw (found-entry j s u l) (not-in (j .output u) o))) layer-rule node-right
 
-    found-verified : verify j (flowOf g) (f .mode) ≡ none
-    found-verified = verify-rule j (flowOf g) reading (f .mode) searched .1 found-rule
+    found-verified : verify j (flowOf g) (modeOf f) ≡ none
+    found-verified = verify-rule j (flowOf g) reading (modeOf f) searched .1 found-rule
 
     -- the block that FATAL_MSG guards in the Rust is needless: none of its three checks can fail
-    pub fatal-needless : (checkDomain j (flowOf g) ≡ none) × (checkInitial j (flowOf g) (f .mode) ≡ none) × (checkDefinition j (flowOf g) (f .mode) ≡ none)
-    fatal-needless = (domain-asked j (flowOf g) (f .mode) found-verified, initial-asked j (flowOf g) (f .mode) found-verified, definition-asked j (flowOf g) (f .mode) found-verified)
+    pub fatal-needless : (checkDomain j (flowOf g) ≡ none) × (checkInitial j (flowOf g) (modeOf f) ≡ none) × (checkDefinition j (flowOf g) (modeOf f) ≡ none)
+    fatal-needless = (domain-asked j (flowOf g) (modeOf f) found-verified, initial-asked j (flowOf g) (modeOf f) found-verified, definition-asked j (flowOf g) (modeOf f) found-verified)
 
     pub found-judged : Judged f (flowBytes j (some s)) g
-    found-judged = record { reads = found-reads j s (valid .few); nothing = refl; single = (true, one-member-other (f .mode) (g .sets) not-causal); accepted = found-verified }
+    found-judged = record { reads = found-reads j s (valid .few); nothing = refl; single = (true, one-member-other (f .mode) (g .sets) (λ e. not-causal (causal-works f e))); accepted = found-verified }
 
   -- ---- (b) every accepted flow gives each node at least the layer of the found one
   module _ (p : T (premise f)) (other : List ℕ) (h : FlowFile) (q : Judged f other h) where
     reads-other : Readable j (flowOf h)
     reads-other = readable f valid h (flow-asked (f .n) other h (q .reads))
 
-    rule : FlowRule (f .mode) j (flowOf h)
-    rule = verify-rule j (flowOf h) reads-other (f .mode) searched .0 (q .accepted)
+    rule : FlowRule (modeOf f) j (flowOf h)
+    rule = verify-rule j (flowOf h) reads-other (modeOf f) searched .0 (q .accepted)
 
     pub smallest-found : (s : Progress) × (findAt j pauli ≡ some s) × ((u : ℕ) → u < j .nodes → s .layer u ≤ flowOf h .layer u)
     smallest-found =
         found-smallest j pauli measured low (λ u. edge-loop f valid u) p (flowOf h .layer) (flowOf h .set) (rule .layers .outputs)
-        (λ e u l o. rule .layers .others (is-planes e) u (l, o)) (λ u l o. rule-corrects j (flowOf h) reads-other (f .mode) searched rule u (l, o))
+        (λ e u l o. rule .layers .others (is-planes e) u (l, o)) (λ u l o. rule-corrects j (flowOf h) reads-other (modeOf f) searched rule u (l, o))
 
   -- ---- the three parts, of the bytes that the finder writes
-  bytes-of : (o : Option Progress) → search (f .mode) j ≡ o → foundBytes f ≡ flowBytes j o
+  bytes-of : (o : Option Progress) → search (modeOf f) j ≡ o → foundBytes f ≡ flowBytes j o
   bytes-of o e = ap (flowBytes j) e
 
   wrote-flow : (s : Progress) → findAt j pauli ≡ some s → foundBytes f ≡ flowBytes j (some s)
@@ -216,7 +216,7 @@ asked-find file work f e =
 
 -- no result is longer than `mostOutput`
 pub found-fits : (f : JobFile) → f .n ≤ mostNodes → length (foundBytes f) ≤ mostOutput
-found-fits f h = go (search (measuredOf f .mode) (jobOf f))
+found-fits f h = go (search (modeOf f) (jobOf f))
   where
     go : (o : Option Progress) → length (flowBytes (jobOf f) o) ≤ mostOutput
     go none = subst (λ (k : ℕ). k ≤ mostOutput) (sym (written-length kindNoFlow [])) (omega arith)
@@ -242,4 +242,4 @@ demand3 file work out k e = go (findAsks file work) refl e
     go (refuses r) p e = absurd (never e)
     go (gives f) p e =
         let (reads, ends, mode, size) = asked-find file work f p in
-        (f, reads, subst (DemandHolds file f) (sym (put-fits (zeros (length work)) (foundBytes f) out k e)) (demand-holds file f reads ends mode))
+        (f, reads, subst (DemandHolds file f) (sym (put-fits (zeros (length work)) (foundBytes f) out k e)) (demand-holds file f reads ends (searched-works f mode)))

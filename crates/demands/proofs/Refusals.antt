@@ -1,4 +1,5 @@
--- Every refusal before the writer's question has a number from 1 to 19 and a byte a; its b is a byte too, where the file holds bytes.
+-- Every refusal of `findAsks` and `verifyAsks`, specs/Calls, has a number from 1 to 19 and a byte a; its b is a byte too, where the
+-- file holds bytes.
 use Prim.Native.Nat.{ℕ, zero, suc, _+_, _%_, _≤_, _<_}
 use mathlib.Core.Path.{_≡_, refl, sym, ap, _∙_}
 use mathlib.Core.Bool.{Bool, true, false, cond, not, _&&_, _||_}
@@ -20,7 +21,7 @@ use Rattle.flows.specs.Job.{Job}
 use Rattle.solver.specs.Solver.{workBytes}
 use Rattle.verdicts.specs.Verdict as Q
 use Rattle.verdicts.specs.Verdict.{ask, _next_, eachFrom, each}
-use Rattle.demands.specs.Calls.{findAsks, verdict, verifyAsks}
+use Rattle.demands.specs.Calls.{modeOf, findAsks, verdict, verifyAsks}
 
 pub record Numbered (bytes : Type 0) (r : Refusal) : Type 0 where
   pub number : 1 ≤ r .number
@@ -221,4 +222,4 @@ verify-numbered file =
     (λ f e. bind-numbered (Bytes file) (readFlow (f .n) (f .after)) _ (flow-numbered (Bytes file) (f .n) (f .after))
     (λ g h. asks-then (Bytes file) 8 (eqb (length (g .after)) 0) _ (omega arith) (omega arith)
     (asks-then (Bytes file) 9 (not (eqb (f .mode) modeCausal) || allEntries (λ e. eqb (length (e .set)) 1) (g .sets)) _ (omega arith) (omega arith)
-    (verdict-numbered (Bytes file) (Q.verify (jobOf f) (flowOf g) (f .mode)) (verify-asked (Bytes file) (jobOf f) (flowOf g) (job-asked file f e .few) (λ b. layer-small file f g e h b) (f .mode))))))
+    (verdict-numbered (Bytes file) (Q.verify (jobOf f) (flowOf g) (modeOf f)) (verify-asked (Bytes file) (jobOf f) (flowOf g) (job-asked file f e .few) (λ b. layer-small file f g e h b) (modeOf f))))))

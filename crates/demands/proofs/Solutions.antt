@@ -25,13 +25,14 @@ use Rattle.records.specs.JobFile.{JobFile, readJob, jobOf, modePlanes, modePaul
 use Rattle.records.specs.FlowFile.{FlowFile, flowOf, readFlow}
 use Rattle.records.specs.Encoding.{foundFlow}
 use Rattle.nodes.specs.Lists.{zeros}
-use Rattle.demands.specs.Calls.{findCall, findAsks, findOutcome, foundBytes}
+use Rattle.demands.specs.Calls.{modeOf, findCall, findAsks, findOutcome, foundBytes}
 use Rattle.verdicts.specs.Published.{Measured}
 use Rattle.demands.specs.Demand.{FlowBytes, layerIn}
 use Rattle.demands.specs.Solutions.{others, TheSolution, Demand2}
 use Rattle.answers.proofs.Answer.{give-inj, never}
 use Rattle.records.proofs.FlowFile.{members-below, nodes-below}
 use Rattle.records.proofs.Writing.{found-valid, found-layer, found-entry, found-set, no-flow-unread}
+use Rattle.demands.proofs.Judging.{searched-works}
 use Rattle.demands.proofs.Demand.{asked-find, put-fits, reads-back, wrote-none, found-cases}
 
 -- a branch that gives nothing has no solution
@@ -42,12 +43,12 @@ none-solves j c u b e x s = go (solve (systemAt j c) (j .nodes) (sideAt j u b)) 
     go none t e = t
     go (some y) t e = Option·none-ne-some _ (sym e)
 
-module _ (f : JobFile) (s : Progress) (found : FoundAt (jobOf f) (eqb (f .mode) modePauli) s) where
+module _ (f : JobFile) (s : Progress) (found : FoundAt (jobOf f) (eqb (modeOf f) modePauli) s) where
   abbrev j : Job
   j = jobOf f
 
   abbrev pauli : Bool
-  pauli = eqb (f .mode) modePauli
+  pauli = eqb (modeOf f) modePauli
 
   abbrev g : FlowFile
   g = foundFlow j s
@@ -110,16 +111,16 @@ demand2 file work out k e f r g b u t = go (findAsks file work) refl e b
     go (gives h) p e b =
         let (reads, ends, mode, size) = asked-find file work h p in
         let same : f ≡ h = give-inj (sym r ∙ reads) in
-        by h reads ends mode same (subst (λ (w : List ℕ). readFlow (f .n) w ≡ gives g) (put-fits (zeros (length work)) (foundBytes h) out k e) (b .0))
+        by h reads ends (searched-works h mode) same (subst (λ (w : List ℕ). readFlow (f .n) w ≡ gives g) (put-fits (zeros (length work)) (foundBytes h) out k e) (b .0))
       where
-        by : (h : JobFile) → readJob file ≡ gives h → h .after ≡ [] → (h .mode ≡ modePlanes) ⊎ (h .mode ≡ modePauli) → f ≡ h → readFlow (f .n) (foundBytes h) ≡ gives g → TheSolution f g u
+        by : (h : JobFile) → readJob file ≡ gives h → h .after ≡ [] → (modeOf h ≡ modePlanes) ⊎ (modeOf h ≡ modePauli) → f ≡ h → readFlow (f .n) (foundBytes h) ≡ gives g → TheSolution f g u
         by h reads ends mode same q = subst (λ (f : JobFile). TheSolution f g u) (sym same) (from (subst (λ (f : JobFile). readFlow (f .n) (foundBytes h) ≡ gives g) same q) (found-cases file h reads ends mode))
           where
-            from : readFlow (h .n) (foundBytes h) ≡ gives g → (findAt (jobOf h) (eqb (h .mode) modePauli) ≡ none) ⊎ ((s : Progress) × (findAt (jobOf h) (eqb (h .mode) modePauli) ≡ some s)) → TheSolution h g u
+            from : readFlow (h .n) (foundBytes h) ≡ gives g → (findAt (jobOf h) (eqb (modeOf h) modePauli) ≡ none) ⊎ ((s : Progress) × (findAt (jobOf h) (eqb (modeOf h) modePauli) ≡ some s)) → TheSolution h g u
             from q (inl n) = absurd (no-flow-unread (h .n) g (subst (λ (w : List ℕ). readFlow (h .n) w ≡ gives g) (wrote-none file h reads ends mode n) q))
             from q (inr (s, n)) =
                 let is : foundFlow (jobOf h) s ≡ g = give-inj (sym (reads-back file h reads ends mode s n .0) ∙ q) in
-                subst (λ (g : FlowFile). TheSolution h g u) is (the-solution h s (found-flow (jobOf h) (eqb (h .mode) modePauli) s n) u (measured s is))
+                subst (λ (g : FlowFile). TheSolution h g u) is (the-solution h s (found-flow (jobOf h) (eqb (modeOf h) modePauli) s n) u (measured s is))
               where
                 measured : (s : Progress) → foundFlow (jobOf h) s ≡ g → Measured (jobOf h) u
                 measured s is =

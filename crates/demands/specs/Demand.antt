@@ -9,12 +9,12 @@ use lib.ListN.{getD, take}
 use Rattle.flows.specs.Premise.{premiseAt}
 use Rattle.answers.specs.Answer.{gives}
 use Rattle.records.specs.Records.{written, kindNoFlow}
-use Rattle.records.specs.JobFile.{JobFile, readJob, jobOf, measuredOf, modePauli}
+use Rattle.records.specs.JobFile.{JobFile, readJob, jobOf, modePauli}
 use Rattle.records.specs.FlowFile.{FlowFile, readFlow}
-use Rattle.demands.specs.Calls.{findCall, verifyAsks}
+use Rattle.demands.specs.Calls.{modeOf, findCall, verifyAsks}
 
 abbrev pub premise : JobFile → Bool
-premise f = premiseAt (jobOf f) (eqb (measuredOf f .mode) modePauli)
+premise f = premiseAt (jobOf f) (eqb (modeOf f) modePauli)
 
 -- a flow is accepted for a job: no question of the verifier, the writer's aside, is answered no
 abbrev pub Accepted : (job flow : List ℕ) → Type 0

@@ -11,14 +11,14 @@ use Rattle.flows.specs.Search.{laterThan}
 use Rattle.flows.specs.Tries.{contextAt}
 use Rattle.answers.specs.Answer.{gives}
 use Rattle.nodes.specs.Lists.{has}
-use Rattle.records.specs.JobFile.{JobFile, readJob, jobOf, measuredOf, modePauli}
+use Rattle.records.specs.JobFile.{JobFile, readJob, jobOf, modePauli}
 use Rattle.records.specs.FlowFile.{FlowFile, flowOf}
-use Rattle.demands.specs.Calls.{findCall}
+use Rattle.demands.specs.Calls.{modeOf, findCall}
 use Rattle.demands.specs.Demand.{FlowBytes, layerIn}
 
 -- what u met in its round, its layer: the nodes of smaller layers were solved
 abbrev pub contextIn : JobFile → FlowFile → ℕ → Context
-contextIn f g u = contextAt (jobOf f) (eqb (measuredOf f .mode) modePauli) (laterThan (layerIn g) u) u
+contextIn f g u = contextAt (jobOf f) (eqb (modeOf f) modePauli) (laterThan (layerIn g) u) u
 
 abbrev pub systemIn : JobFile → FlowFile → ℕ → System
 systemIn f g u = systemAt (jobOf f) (contextIn f g u)

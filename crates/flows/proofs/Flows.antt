@@ -14,7 +14,7 @@ use Rattle.nodes.specs.Options.{isSome}
 use Rattle.flows.specs.Job.{Job}
 use Rattle.flows.specs.Branch.{Context, branches, tryNode}
 use Rattle.flows.specs.Conditions.{corrects}
-use Rattle.flows.specs.Search.{Progress, start, solvedNow, rounds, firstRound, begun, searchFrom, found, laterThan}
+use Rattle.flows.specs.Search.{Progress, start, solvedNow, rounds, firstRound, begun, searchFrom, ifSolved, laterThan}
 use Rattle.flows.specs.Tries.{contextAt, noColumnAt, tryAt}
 use Rattle.flows.specs.Planes as Planes
 use Rattle.flows.specs.Paulis as Paulis
@@ -23,7 +23,7 @@ use Rattle.flows.specs.Premise.{premiseAt}
 use Rattle.flows.proofs.Tries.{planes-context, FirstOf, try-first, try-sound, try-monotone, try-ext}
 use Rattle.flows.proofs.Search.{never, Ended, rounds-end, rounds-pass, fresh-open}
 use Rattle.flows.proofs.Premise.{premise-complete}
-use Rattle.flows.proofs.Rank.{Layering, FoundBy, found-by, least-layering, none-layering}
+use Rattle.flows.proofs.Rank.{Layering, FoundBy, most-layer, found-by, least-layering, none-layering}
 
 abbrev pub endedAt : Job → Bool → Progress
 endedAt j pauli = searchFrom pauli (tryAt j pauli) (j .nodes) (j .output)
@@ -52,9 +52,9 @@ planes-rounds j = rounds-pass (Planes.stops j) (Planes.try j) (tryAt j false) (j
     same s f u d =
         rw (columns s u d, is-false (Planes.noColumn j (s .solved)) (λ a. f (or-r (allBelow (j .nodes) (s .solved)) (Planes.noColumn j (s .solved)) a)), planes-context j (s .solved) u d)
 
-pub find-ended : (j : Job) (pauli : Bool) → findAt j pauli ≡ found (j .nodes) (endedAt j pauli)
+pub find-ended : (j : Job) (pauli : Bool) → findAt j pauli ≡ ifSolved (j .nodes) (endedAt j pauli)
 find-ended j true = refl
-find-ended j false = ap (found (j .nodes)) (planes-rounds j (j .nodes) 1 (start (j .output)))
+find-ended j false = ap (ifSolved (j .nodes)) (planes-rounds j (j .nodes) 1 (start (j .output)))
 
 -- the bound on rounds is never what ends a search
 pub planes-end : (j : Job) → Ended (Planes.stops j) (Planes.try j) (j .nodes) (rounds (Planes.stops j) (Planes.try j) (j .nodes) (j .nodes) 1 (start (j .output)))
@@ -62,6 +62,15 @@ planes-end j = rounds-end (Planes.stops j) (Planes.try j) (j .nodes) (j .nodes) 
 
 pub paulis-end : (j : Job) → Ended never (Paulis.try j) (j .nodes) (endedAt j true)
 paulis-end j = rounds-end never (Paulis.try j) (j .nodes) (j .nodes) 1 (begun true (Paulis.try j) (j .output)) (count-le (j .nodes) (λ u. not (begun true (Paulis.try j) (j .output) .solved u)))
+
+-- no layer exceeds the number of measured nodes, however far the search comes
+pub paulis-most-layer : (j : Job) (u : ℕ) → Paulis.progress j .layer u ≤ count (j .nodes) (λ u. not (j .output u))
+paulis-most-layer j u = most-layer true (tryAt j true) (j .nodes) (j .output) u
+
+pub planes-most-layer : (j : Job) (u : ℕ) → Planes.progress j .layer u ≤ count (j .nodes) (λ u. not (j .output u))
+planes-most-layer j u =
+    subst (λ (s : Progress). s .layer u ≤ count (j .nodes) (λ u. not (j .output u))) (sym (planes-rounds j (j .nodes) 1 (start (j .output))))
+    (most-layer false (tryAt j false) (j .nodes) (j .output) u)
 
 -- ---- what is found
 abbrev pub FoundAt : Job → Bool → Progress → Type 0

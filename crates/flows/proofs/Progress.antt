@@ -1,4 +1,4 @@
--- A search depends on the nodes below n only: progress that agrees there goes on to agree.
+-- The searches of specs/Search depend on the nodes below n only: progress that agrees there goes on to agree.
 use Prim.Native.Nat.{ℕ, zero, suc, _+_, _<_}
 use mathlib.Core.Path.{_≡_, refl, sym, ap, ap₂, _∙_}
 use mathlib.Core.Bool.{Bool, true, false, cond, not, _||_}

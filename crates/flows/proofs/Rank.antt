@@ -13,8 +13,8 @@ use Rattle.nodes.proofs.Logic.{is-true, dec, not-in, not-out, and-none}
 use Rattle.nodes.proofs.Row.{all-in, all-out, ltb-no}
 use Rattle.nodes.proofs.Count.{Within, count-le, grows}
 use Rattle.nodes.specs.Options.{isSome}
-use Rattle.flows.specs.Search.{Progress, noNode, start, solvedNow, firstRound, begun, searchFrom, found, laterThan}
-use Rattle.flows.proofs.Search.{never, Ended, rounds-end, rounds-enough, Searched, step, searched-start, searched, SmallestTill, step-smallest, rounds-smallest}
+use Rattle.flows.specs.Search.{Progress, noNode, start, solvedNow, rounds, firstRound, begun, searchFrom, ifSolved, laterThan}
+use Rattle.flows.proofs.Search.{never, Ended, rounds-end, rounds-enough, layers-below, Searched, step, searched-start, searched, SmallestTill, step-smallest, rounds-smallest}
 
 -- a set within another has no more members
 count-within : (n : ℕ) (s t : ℕ → Bool) → Within n s t → count n s ≤ count n t
@@ -62,18 +62,33 @@ module _ (fromZero : Bool) (try : (ℕ → Bool) → ℕ → Option (ℕ → Boo
   unsolved-most : count n (λ u. not (begun fromZero try output .solved u)) ≤ count n (λ u. not (output u))
   unsolved-most = count-within n (λ u. not (begun fromZero try output .solved u)) (λ u. not (output u)) (λ u l a. not-in (output u) (λ o. not-out (begun fromZero try output .solved u) a (begun-searched .outputs u o)))
 
-  -- so there are no more rounds than those, and round 0
+  -- so that there are no more rounds than those, and round 0
+  ended-rounds : rounds never try n (count n (λ u. not (output u))) 1 (begun fromZero try output) ≡ ended
+  ended-rounds = rounds-enough never try n (count n (λ u. not (output u))) n 1 (begun fromZero try output) unsolved-most (count-le n (λ u. not (begun fromZero try output .solved u)))
+
   ended-searched : Searched n output try (firstRound fromZero) (1 + count n (λ u. not (output u))) ended
   ended-searched =
-      subst (Searched n output try (firstRound fromZero) (1 + count n (λ u. not (output u))))
-      (rounds-enough never try n (count n (λ u. not (output u))) n 1 (begun fromZero try output) unsolved-most (count-le n (λ u. not (begun fromZero try output .solved u))))
+      subst (Searched n output try (firstRound fromZero) (1 + count n (λ u. not (output u)))) ended-rounds
       (searched n output try (firstRound fromZero) never (count n (λ u. not (output u))) 1 (one-first fromZero) (begun fromZero try output) begun-searched)
     where
       one-first : (c : Bool) → firstRound c ≤ 1
       one-first true = zero-le
       one-first false = le-refl 1
 
-  found-out : (s t : Progress) → found n s ≡ some t → T (allBelow n (s .solved)) × (s ≡ t)
+  -- no layer exceeds the number of the nodes that are no outputs, found or not
+  pub most-layer : (u : ℕ) → ended .layer u ≤ count n (λ u. not (output u))
+  most-layer u =
+      omega (arith, subst (λ (s : Progress). s .layer u < 1 + count n (λ u. not (output u))) ended-rounds (layers-below never try n (count n (λ u. not (output u))) 1 (begun fromZero try output) (begun-layer fromZero) u))
+    where
+      zero-either : (c : Bool) → cond c 0 0 < 1
+      zero-either true = omega arith
+      zero-either false = omega arith
+
+      begun-layer : (c : Bool) (v : ℕ) → begun c try output .layer v < 1
+      begun-layer true v = zero-either (solvedNow (try noNode) (start output) v)
+      begun-layer false v = omega arith
+
+  found-out : (s t : Progress) → ifSolved n s ≡ some t → T (allBelow n (s .solved)) × (s ≡ t)
   found-out s t e = go (allBelow n (s .solved)) e
     where
       go : (c : Bool) → cond c (some s) none ≡ some t → T c × (s ≡ t)
@@ -82,7 +97,7 @@ module _ (fromZero : Bool) (try : (ℕ → Bool) → ℕ → Option (ℕ → Boo
 
   -- ---- what is found, where a try depends on the later nodes below n only
   module _ (local : (later later′ : ℕ → Bool) → ((v : ℕ) → v < n → later v ≡ later′ v) → (u : ℕ) → try later u ≡ try later′ u) where
-    pub found-by : (s : Progress) → found n ended ≡ some s → FoundBy s
+    pub found-by : (s : Progress) → ifSolved n ended ≡ some s → FoundBy s
     found-by s e = go (found-out ended s e)
       where
         make : T (allBelow n (ended .solved)) → FoundBy ended
@@ -90,7 +105,7 @@ module _ (fromZero : Bool) (try : (ℕ → Bool) → ℕ → Option (ℕ → Boo
           output-layer = ended-searched .output-layer;
           output-set = ended-searched .output-set;
           least = λ u l o. ended-searched .above u l o (solved u l);
-          most = λ u l. below (ended .layer u) (count n (λ u. not (output u))) (ended-searched .below u l (solved u l));
+          most = λ u l. most-layer u;
           by-try = λ u l o.
               let t = ended-searched .tried u l o (solved u l) in
               local (laterThan (ended .layer) u) (t .later) (λ v m. sym (t .smaller v m ∙ rw (is-true (ended .solved v) (solved v m)))) u ∙ t .gave;
@@ -98,9 +113,6 @@ module _ (fromZero : Bool) (try : (ℕ → Bool) → ℕ → Option (ℕ → Boo
           where
             solved : (u : ℕ) → u < n → T (ended .solved u)
             solved u l = all-out n (ended .solved) a u l
-
-            below : (a n : ℕ) → a < 1 + n → a ≤ n
-            below a n h = omega arith
 
         go : T (allBelow n (ended .solved)) × (ended ≡ s) → FoundBy s
         go (a, p) = subst FoundBy p (make a)
@@ -134,7 +146,7 @@ module _ (fromZero : Bool) (try : (ℕ → Bool) → ℕ → Option (ℕ → Boo
               by u l q (inl t) = t
               by u l q (inr f) = absurd (none-of (layer u) (h u l f) q)
 
-      pub least-layering : (s : Progress) × (found n ended ≡ some s) × ((u : ℕ) → u < n → s .layer u ≤ layer u)
+      pub least-layering : (s : Progress) × (ifSolved n ended ≡ some s) × ((u : ℕ) → u < n → s .layer u ≤ layer u)
       least-layering =
           let f = rounds-smallest n output try monotone layer (right .solvable) n 1 (begun fromZero try output) begun-smallest (count-le n (λ u. not (begun fromZero try output .solved u))) in (
             ended,
@@ -144,12 +156,12 @@ module _ (fromZero : Bool) (try : (ℕ → Bool) → ℕ → Option (ℕ → Boo
 
     -- nothing is found exactly where there is no layering
     pub none-layering : ((later later′ : ℕ → Bool) → ((v : ℕ) → v < n → later v ≡ later′ v) → (u : ℕ) → try later u ≡ try later′ u)
-        → (found n ended ≡ none ↔ ((layer : ℕ → ℕ) → Layering layer → ⊥))
+        → (ifSolved n ended ≡ none ↔ ((layer : ℕ → ℕ) → Layering layer → ⊥))
     none-layering local = (
       (λ e layer right. let (s, f, l) = least-layering layer right in Option·none-ne-some _ (sym e ∙ f)),
-      λ h. go h (found n ended) refl,
+      λ h. go h (ifSolved n ended) refl,
     )
       where
-        go : ((layer : ℕ → ℕ) → Layering layer → ⊥) → (o : Option Progress) → found n ended ≡ o → o ≡ none
+        go : ((layer : ℕ → ℕ) → Layering layer → ⊥) → (o : Option Progress) → ifSolved n ended ≡ o → o ≡ none
         go h none e = refl
         go h (some s) e = absurd (h (s .layer) (found-layering s (found-by local s e)))

@@ -109,6 +109,22 @@ module _ (stops : Progress → Bool) (try : (ℕ → Bool) → ℕ → Option (�
       go (inl t) ih = let l = fewer r s t in rw (ih (r + 1) (after r s) (omega arith) (omega arith))
       go (inr f) ih = rounds-idle (suc k) r s (is-false _ f) ∙ sym (rounds-idle (suc m) r s (is-false _ f))
 
+  -- k rounds from r on give no node a layer from r + k on, solved or not
+  pub layers-below : (k r : ℕ) (s : Progress) → ((u : ℕ) → s .layer u < r) → (u : ℕ) → rounds stops try n k r s .layer u < r + k
+  unfolding rounds
+  layers-below zero r s h u = omega (arith, h u)
+  layers-below (suc k) r s h u = go (rounds-step k r s) (layers-below k)
+    where
+      kept : (c : Bool) (a : ℕ) → a < r → cond c r a < r + 1
+      kept true a l = omega arith
+      kept false a l = omega arith
+
+      go : (Ended s × (rounds stops try n (suc k) r s ≡ s))
+          ⊎ (T (anyBelow n (solvedNow (try (s .solved)) s)) × (rounds stops try n (suc k) r s ≡ rounds stops try n k (r + 1) (after r s)))
+          → ((r : ℕ) (s : Progress) → ((u : ℕ) → s .layer u < r) → (u : ℕ) → rounds stops try n k r s .layer u < r + k) → rounds stops try n (suc k) r s .layer u < r + suc k
+      go (inl (e, p)) ih = rw p (omega (arith, h u))
+      go (inr (t, p)) ih = rw p (omega (arith, ih (r + 1) (after r s) (λ v. kept (solvedNow (try (s .solved)) s v) (s .layer v) (h v)) u))
+
 -- only the tries of unsolved nodes count
 pub now-ext : (f g : ℕ → Option (ℕ → Bool)) (s : Progress) → ((u : ℕ) → (T (s .solved u) → ⊥) → f u ≡ g u) → solvedNow f s ≡ solvedNow g s
 now-ext f g s h = fun-ext (λ u. go u (dec (s .solved u)))

@@ -183,15 +183,15 @@ module _ (j : Job) (pauli : Bool) (later : ℕ → Bool) (u : ℕ) where
 
   -- a right set fits the branch of its pair
   pub corrects-fits : (b : ℕ) (set : ℕ → Bool) → Corrects j pauli later set u → set u ≡ inSet b → odd j set u ≡ inOdd b → Fits j here u b set
-  corrects-fits b set ok s o = record { taken = taken′; ups = λ v l t. ups′ v l t (dec (eqb v u)); lows = lows′; self = s }
+  corrects-fits b set holds s o = record { taken = taken′; ups = λ v l t. ups′ v l t (dec (eqb v u)); lows = lows′; self = s }
     where
       taken′ : (k : ℕ) → k < j .nodes → T (set k) → (k ≡ u) ⊎ T (here .column k)
-      taken′ k l t = go (dec (eqb k u)) (ok .members k l t)
+      taken′ k l t = go (dec (eqb k u)) (holds .members k l t)
         where
           column′ : (T (eqb k u) → ⊥) → T (entering k) → T (here .column k)
           column′ d a =
               and-in (entering k && not (j .input k)) (not (eqb k u))
-              (and-in (entering k) (not (j .input k)) a (not-in (j .input k) (λ i. d (rw (ok .inputs k l t i) (eqb-refl u)))))
+              (and-in (entering k) (not (j .input k)) a (not-in (j .input k) (λ i. d (rw (holds .inputs k l t i) (eqb-refl u)))))
               (not-in (eqb k u) d)
 
           go : T (eqb k u) ⊎ (T (eqb k u) → ⊥) → (k ≡ u) ⊎ (T (later k) ⊎ T (memberExcused j pauli k)) → (k ≡ u) ⊎ T (here .column k)
@@ -202,7 +202,7 @@ module _ (j : Job) (pauli : Bool) (later : ℕ → Bool) (u : ℕ) where
 
       ups′ : (v : ℕ) → v < j .nodes → T (here .upper v) → T (eqb v u) ⊎ (T (eqb v u) → ⊥) → odd j set v ≡ eqb v u && inOdd b
       ups′ v l t (inl e) = rw (is-u v e, eqb-yes u) o
-      ups′ v l t (inr d) = rw (is-false (eqb v u) d) (is-false (odd j set v) (λ a. by (ok .odds v l a)))
+      ups′ v l t (inr d) = rw (is-false (eqb v u) d) (is-false (odd j set v) (λ a. by (holds .odds v l a)))
         where
           asked : T (not (later v) && not (oddExcused j pauli v))
           asked = rw (is-false (eqb v u) d, or-none (not (later v) && not (oddExcused j pauli v))) at t
@@ -213,7 +213,7 @@ module _ (j : Job) (pauli : Bool) (later : ℕ → Bool) (u : ℕ) where
           by (inr (inr m)) = not-out (oddExcused j pauli v) (and-r (not (later v)) (not (oddExcused j pauli v)) asked) m
 
       lows′ : (v : ℕ) → v < j .nodes → T (here .lower v) → odd j set v ≡ set v
-      lows′ v l t = by (ok .ys v l (and-r (not (later v)) (yAsked j pauli v) asked))
+      lows′ v l t = by (holds .ys v l (and-r (not (later v)) (yAsked j pauli v) asked))
         where
           asked : T (not (later v) && yAsked j pauli v)
           asked = and-l (not (later v) && yAsked j pauli v) (not (eqb v u)) t
@@ -246,11 +246,11 @@ module _ (j : Job) (pauli : Bool) (later : ℕ → Bool) (u : ℕ) where
     -- where a column is left, a node with a right set is solved
     pub try-complete : T (anyBelow (j .nodes) (here .column)) → (set : ℕ → Bool) → T (corrects j pauli later set u) → T (isSome (tryAt j pauli later u))
     try-complete q set c =
-        let ok = corrects-out j pauli later set u c in
-        let (l, s, o) = own-branch (j .measured u) (set u) (odd j set u) m (ok .owns) in
+        let holds = corrects-out j pauli later set u c in
+        let (l, s, o) = own-branch (j .measured u) (set u) (odd j set u) m (holds .owns) in
         rw (is-true (anyBelow (j .nodes) (here .column)) q)
         (first-some j here u (branches (j .measured u)) (branchOf (set u) (odd j set u)) l
-        (fits-some j here u (branchOf (set u) (odd j set u)) h no-lower-u set (corrects-fits (branchOf (set u) (odd j set u)) set ok s o)))
+        (fits-some j here u (branchOf (set u) (odd j set u)) h no-lower-u set (corrects-fits (branchOf (set u) (odd j set u)) set holds s o)))
 
     -- a node that is solved has a column and a right set
     pub try-right : T (isSome (tryAt j pauli later u)) → (set : ℕ → Bool) × T (anyBelow (j .nodes) (here .column)) × T (corrects j pauli later set u)
@@ -273,9 +273,9 @@ module _ (j : Job) (pauli : Bool) (later : ℕ → Bool) (u : ℕ) where
           where
             by : (k : ℕ) → k < j .nodes → T (j .edge k u) → T (set k) → T (here .column k)
             by k l a b =
-                let ok = corrects-out j pauli later set u c in
-                let (r, s, o) = own-branch (j .measured u) (set u) (odd j set u) m (ok .owns) in
-                from (corrects-fits (branchOf (set u) (odd j set u)) set ok s o .taken k l b)
+                let holds = corrects-out j pauli later set u c in
+                let (r, s, o) = own-branch (j .measured u) (set u) (odd j set u) m (holds .owns) in
+                from (corrects-fits (branchOf (set u) (odd j set u)) set holds s o .taken k l b)
               where
                 from : (k ≡ u) ⊎ T (here .column k) → T (here .column k)
                 from (inl p) = absurd (rw (p, e) at a)

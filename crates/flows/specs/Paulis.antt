@@ -4,7 +4,7 @@ use mathlib.Core.Bool.{Bool, true}
 use mathlib.Core.Option.{Option}
 use Rattle.flows.specs.Job.{Job}
 use Rattle.flows.specs.Branch.{Context}
-use Rattle.flows.specs.Search.{Progress, searchFrom, found}
+use Rattle.flows.specs.Search.{Progress, searchFrom, ifSolved}
 use Rattle.flows.specs.Tries.{contextAt, noColumnAt, tryAt}
 
 -- `later` are the nodes that have left the rows and, inputs aside, joined the columns: none in round 0, then the outputs
@@ -23,4 +23,4 @@ abbrev pub progress : Job → Progress
 progress j = searchFrom true (try j) (j .nodes) (j .output)
 
 abbrev pub find : Job → Option Progress
-find j = found (j .nodes) (progress j)
+find j = ifSolved (j .nodes) (progress j)

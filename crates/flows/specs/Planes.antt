@@ -6,7 +6,7 @@ use mathlib.Core.Option.{Option}
 use Rattle.nodes.specs.Row.{anyBelow, allBelow}
 use Rattle.flows.specs.Job.{Job}
 use Rattle.flows.specs.Branch.{Context, tryNode}
-use Rattle.flows.specs.Search.{Progress, start, rounds, found, noNode}
+use Rattle.flows.specs.Search.{Progress, start, rounds, ifSolved, noNode}
 
 -- Columns: the outputs and solved nodes that are no inputs. Rows: the unsolved nodes.
 abbrev pub context : Job → (later : ℕ → Bool) → Context
@@ -28,4 +28,4 @@ abbrev pub progress : Job → Progress
 progress j = rounds (stops j) (try j) (j .nodes) (j .nodes) 1 (start (j .output))
 
 abbrev pub find : Job → Option Progress
-find j = found (j .nodes) (progress j)
+find j = ifSolved (j .nodes) (progress j)

@@ -61,5 +61,5 @@ abbrev pub searchFrom : (fromZero : Bool) → ((ℕ → Bool) → ℕ → Option
 searchFrom fromZero try n output = rounds (λ s. false) try n n 1 (begun fromZero try output)
 
 -- a node still unsolved at the end means no flow
-abbrev pub found : ℕ → Progress → Option Progress
-found n s = cond (allBelow n (s .solved)) (some s) none
+abbrev pub ifSolved : ℕ → Progress → Option Progress
+ifSolved n s = cond (allBelow n (s .solved)) (some s) none

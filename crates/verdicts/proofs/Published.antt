@@ -125,8 +125,8 @@ module _ (j : Job) (f : Flow) (r : Readable j f) where
     plane : (i : ℕ) → Measured j i → (j .measured i ≡ planeXY) ⊎ ((j .measured i ≡ planeYZ) ⊎ (j .measured i ≡ planeXZ))
     plane i s = one-to-three (j .measured i) (r .measured i s .0) (planes i s)
 
-    planes-ok : PlaneConditions j (byLayer (f .layer)) (f .set) → NoOtherInputs j (f .set) → (i : ℕ) → Measured j i → Right false i
-    planes-ok p n i s = corrects-in j false (laterThan (f .layer) i) (f .set i) i (record {
+    planes-corrects : PlaneConditions j (byLayer (f .layer)) (f .set) → NoOtherInputs j (f .set) → (i : ℕ) → Measured j i → Right false i
+    planes-corrects p n i s = corrects-in j false (laterThan (f .layer) i) (f .set i) i (record {
       inputs = λ k l t q. n i k s l t q;
       members = λ k l t. decide i k (λ d. inl (lt-later i k (p .members i k s l t d)));
       odds = λ k l t. decide i k (λ d. inl (lt-later i k (p .odds i k s l t d)));
@@ -139,18 +139,18 @@ module _ (j : Job) (f : Flow) (r : Readable j f) where
         own′ (inr (inl e)) = rw (own-yz (f .set i i) (odd j (f .set i) i) (j .measured i) e) (pair-swap (f .set i i) (odd j (f .set i) i) (p .yz i s e .0) (p .yz i s e .1))
         own′ (inr (inr e)) = rw (own-xz (f .set i i) (odd j (f .set i) i) (j .measured i) e) (and-in (f .set i i) (odd j (f .set i) i) (p .xz i s e .0) (p .xz i s e .1))
 
-    ok-planes : ((i : ℕ) → Measured j i → Right false i) → PlaneConditions j (byLayer (f .layer)) (f .set)
-    ok-planes right = record {
+    corrects-planes : ((i : ℕ) → Measured j i → Right false i) → PlaneConditions j (byLayer (f .layer)) (f .set)
+    corrects-planes right = record {
       order = by-layer (f .layer);
-      members = λ i k s l t d. late i k (ok i s .members k l t) d;
-      odds = λ i k s l t d. late i k (ok i s .odds k l t) d;
-      xy = λ i s e. pairs-out (f .set i i) (odd j (f .set i) i) (rw (own-xy (f .set i i) (odd j (f .set i) i) (j .measured i) e) at (ok i s .owns));
-      xz = λ i s e. let t = rw (own-xz (f .set i i) (odd j (f .set i) i) (j .measured i) e) at (ok i s .owns) in (and-l (f .set i i) (odd j (f .set i) i) t, and-r (f .set i i) (odd j (f .set i) i) t);
-      yz = λ i s e. swap-pair (f .set i i) (odd j (f .set i) i) (rw (own-yz (f .set i i) (odd j (f .set i) i) (j .measured i) e) at (ok i s .owns));
+      members = λ i k s l t d. late i k (holds i s .members k l t) d;
+      odds = λ i k s l t d. late i k (holds i s .odds k l t) d;
+      xy = λ i s e. pairs-out (f .set i i) (odd j (f .set i) i) (rw (own-xy (f .set i i) (odd j (f .set i) i) (j .measured i) e) at (holds i s .owns));
+      xz = λ i s e. let t = rw (own-xz (f .set i i) (odd j (f .set i) i) (j .measured i) e) at (holds i s .owns) in (and-l (f .set i i) (odd j (f .set i) i) t, and-r (f .set i i) (odd j (f .set i) i) t);
+      yz = λ i s e. swap-pair (f .set i i) (odd j (f .set i) i) (rw (own-yz (f .set i i) (odd j (f .set i) i) (j .measured i) e) at (holds i s .owns));
     }
       where
-        ok : (i : ℕ) → Measured j i → Corrects j false (laterThan (f .layer) i) (f .set i) i
-        ok i s = corrects-out j false (laterThan (f .layer) i) (f .set i) i (right i s)
+        holds : (i : ℕ) → Measured j i → Corrects j false (laterThan (f .layer) i) (f .set i) i
+        holds i s = corrects-out j false (laterThan (f .layer) i) (f .set i) i (right i s)
 
         late : (i k : ℕ) → (k ≡ i) ⊎ (T (laterThan (f .layer) i k) ⊎ ⊥) → k ≢ i → f .layer k < f .layer i
         late i k (inl e) d = absurd (d e)
@@ -165,13 +165,13 @@ module _ (j : Job) (f : Flow) (r : Readable j f) where
           outputs = p .layers .outputs;
           others = p .layers .others refl;
           inputs = rule-inputs modePlanes p;
-          conditions = ok-planes (rule-corrects j f r modePlanes (inl refl) p);
+          conditions = corrects-planes (rule-corrects j f r modePlanes (inl refl) p);
         }
 
     pub accepts-planes : PlanesAccepted j f → Q.verify j f modePlanes ≡ none
     accepts-planes a =
         verify-rule j f r modePlanes (inl refl) .1
-        (corrects-rule j f r modePlanes (inl refl) (a .domain) (record { outputs = a .outputs; others = λ q. a .others }) (planes-ok (a .conditions) (a .inputs)))
+        (corrects-rule j f r modePlanes (inl refl) (a .domain) (record { outputs = a .outputs; others = λ q. a .others }) (planes-corrects (a .conditions) (a .inputs)))
 
   -- ---- Paulis
   pauli-cases : (i : ℕ) → Measured j i → (P : ℕ → Type 0) → (j .measured i ≡ planeXY → P planeXY) → (j .measured i ≡ planeYZ → P planeYZ) → (j .measured i ≡ planeXZ → P planeXZ)
@@ -201,8 +201,8 @@ module _ (j : Job) (f : Flow) (r : Readable j f) where
       go (inl t) = inr t
       go (inr d) = inl (lt-later i k (g d))
 
-  paulis-ok : PauliConditions j (byLayer (f .layer)) (f .set) → NoOtherInputs j (f .set) → (i : ℕ) → Measured j i → Right true i
-  paulis-ok p n i s = corrects-in j true (laterThan (f .layer) i) (f .set i) i (record {
+  paulis-corrects : PauliConditions j (byLayer (f .layer)) (f .set) → NoOtherInputs j (f .set) → (i : ℕ) → Measured j i → Right true i
+  paulis-corrects p n i s = corrects-in j true (laterThan (f .layer) i) (f .set i) i (record {
     inputs = λ k l t q. n i k s l t q;
     members = λ k l t. decide i k (λ d. excused i k (isXorY (j .measured k)) (p .members i k s l t d));
     odds = λ k l t. decide i k (λ d. excused i k (isYorZ (j .measured k)) (p .odds i k s l t d));
@@ -226,22 +226,22 @@ module _ (j : Job) (f : Flow) (r : Readable j f) where
       y′ k l e d (inl t) = inl t
       y′ k l e d (inr m) = inr (same (f .set i k) (odd j (f .set i) k) (p .ys i k s l e d (λ q. m (lt-later i k q))))
 
-  ok-paulis : ((i : ℕ) → Measured j i → Right true i) → PauliConditions j (byLayer (f .layer)) (f .set)
-  ok-paulis right = record {
+  corrects-paulis : ((i : ℕ) → Measured j i → Right true i) → PauliConditions j (byLayer (f .layer)) (f .set)
+  corrects-paulis right = record {
     order = by-layer (f .layer);
-    members = λ i k s l t d m. late i k (isXorY (j .measured k)) (ok i s .members k l t) d m;
-    odds = λ i k s l t d m. late i k (isYorZ (j .measured k)) (ok i s .odds k l t) d m;
-    ys = λ i k s l e d m. both i k (ok i s .ys k l (rw e tt)) d m;
-    xy = λ i s e. pairs-out (f .set i i) (odd j (f .set i) i) (rw (own-xy (f .set i i) (odd j (f .set i) i) (j .measured i) e) at (ok i s .owns));
-    xz = λ i s e. let t = rw (own-xz (f .set i i) (odd j (f .set i) i) (j .measured i) e) at (ok i s .owns) in (and-l (f .set i i) (odd j (f .set i) i) t, and-r (f .set i i) (odd j (f .set i) i) t);
-    yz = λ i s e. swap-pair (f .set i i) (odd j (f .set i) i) (rw (own-yz (f .set i i) (odd j (f .set i) i) (j .measured i) e) at (ok i s .owns));
-    x = λ i s e. rw (own-x (f .set i i) (odd j (f .set i) i) (j .measured i) e) at (ok i s .owns);
-    z = λ i s e. rw (own-z (f .set i i) (odd j (f .set i) i) (j .measured i) e) at (ok i s .owns);
-    y = λ i s e. xor-out (f .set i i) (odd j (f .set i) i) (rw (own-y (f .set i i) (odd j (f .set i) i) (j .measured i) e) at (ok i s .owns));
+    members = λ i k s l t d m. late i k (isXorY (j .measured k)) (holds i s .members k l t) d m;
+    odds = λ i k s l t d m. late i k (isYorZ (j .measured k)) (holds i s .odds k l t) d m;
+    ys = λ i k s l e d m. both i k (holds i s .ys k l (rw e tt)) d m;
+    xy = λ i s e. pairs-out (f .set i i) (odd j (f .set i) i) (rw (own-xy (f .set i i) (odd j (f .set i) i) (j .measured i) e) at (holds i s .owns));
+    xz = λ i s e. let t = rw (own-xz (f .set i i) (odd j (f .set i) i) (j .measured i) e) at (holds i s .owns) in (and-l (f .set i i) (odd j (f .set i) i) t, and-r (f .set i i) (odd j (f .set i) i) t);
+    yz = λ i s e. swap-pair (f .set i i) (odd j (f .set i) i) (rw (own-yz (f .set i i) (odd j (f .set i) i) (j .measured i) e) at (holds i s .owns));
+    x = λ i s e. rw (own-x (f .set i i) (odd j (f .set i) i) (j .measured i) e) at (holds i s .owns);
+    z = λ i s e. rw (own-z (f .set i i) (odd j (f .set i) i) (j .measured i) e) at (holds i s .owns);
+    y = λ i s e. xor-out (f .set i i) (odd j (f .set i) i) (rw (own-y (f .set i i) (odd j (f .set i) i) (j .measured i) e) at (holds i s .owns));
   }
     where
-      ok : (i : ℕ) → Measured j i → Corrects j true (laterThan (f .layer) i) (f .set i) i
-      ok i s = corrects-out j true (laterThan (f .layer) i) (f .set i) i (right i s)
+      holds : (i : ℕ) → Measured j i → Corrects j true (laterThan (f .layer) i) (f .set i) i
+      holds i s = corrects-out j true (laterThan (f .layer) i) (f .set i) i (right i s)
 
       late : (i k : ℕ) (c : Bool) → (k ≡ i) ⊎ (T (laterThan (f .layer) i k) ⊎ T c) → k ≢ i → (T c → ⊥) → f .layer k < f .layer i
       late i k c (inl e) d m = absurd (d e)
@@ -260,13 +260,13 @@ module _ (j : Job) (f : Flow) (r : Readable j f) where
         domain = p .domain;
         outputs = p .layers .outputs;
         inputs = rule-inputs modePauli p;
-        conditions = ok-paulis (rule-corrects j f r modePauli (inr refl) p);
+        conditions = corrects-paulis (rule-corrects j f r modePauli (inr refl) p);
       }
 
   pub accepts-paulis : PaulisAccepted j f → Q.verify j f modePauli ≡ none
   accepts-paulis a =
       verify-rule j f r modePauli (inr refl) .1
-      (corrects-rule j f r modePauli (inr refl) (a .domain) (record { outputs = a .outputs; others = λ q. absurd (three-two q) }) (paulis-ok (a .conditions) (a .inputs)))
+      (corrects-rule j f r modePauli (inr refl) (a .domain) (record { outputs = a .outputs; others = λ q. absurd (three-two q) }) (paulis-corrects (a .conditions) (a .inputs)))
     where
       three-two : modePauli ≡ modePlanes → ⊥
       three-two q = omega arith

@@ -1,4 +1,4 @@
--- Questions in order: none is answered no exactly where each is passed.
+-- Questions in order, `ask`, `next` and `each` of specs/Verdict: none is answered no exactly where each is passed.
 use Prim.Native.Nat.{ℕ, zero, suc, _+_, _≤_, _<_, zero-le}
 use mathlib.Core.Path.{_≡_, refl, sym}
 use mathlib.Core.Bool.{Bool, true, false, cond, not, _&&_, _||_, Bool·beq, true≢false, false≢true}

@@ -153,20 +153,20 @@ module _ (j : Job) (f : Flow) where
     pub node-in : T (corrects j pauli (laterThan (f .layer) i) (f .set i) i) → Q.nodeAsk j f mode i ≡ none
     unfolding Q.nodeAsk
     node-in c =
-        let ok = corrects-out j pauli (laterThan (f .layer) i) (f .set i) i c in
+        let holds = corrects-out j pauli (laterThan (f .layer) i) (f .set i) i c in
         next-in membersAsk (oddsAsk next ysAsk next Q.ownAsk j f i)
         (each-in (j .nodes) (Q.memberAsk j f mode i)
         (λ k l. ask-in _ _ _ _
-        (late-in (f .set i k) (eqb k i) (Q.later j f i k) (memberExcused j pauli k) (λ a. node-same k (ok .members k l a)))))
+        (late-in (f .set i k) (eqb k i) (Q.later j f i k) (memberExcused j pauli k) (λ a. node-same k (holds .members k l a)))))
         (next-in oddsAsk (ysAsk next Q.ownAsk j f i)
         (each-in (j .nodes) (Q.oddAsk j f mode i)
         (λ k l. ask-in _ _ _ _
-        (late-in (odd j (f .set i) k) (eqb k i) (Q.later j f i k) (oddExcused j pauli k) (λ a. node-same k (ok .odds k l a)))))
+        (late-in (odd j (f .set i) k) (eqb k i) (Q.later j f i k) (oddExcused j pauli k) (λ a. node-same k (holds .odds k l a)))))
         (next-in ysAsk (Q.ownAsk j f i)
         (each-in (j .nodes) (Q.yAsk j f mode i)
         (λ k l. ask-in _ _ _ _
-        (both-in (yAsked j pauli k) (f .set i k) (odd j (f .set i) k) (eqb k i) (Q.later j f i k) (λ a. node-same k (ok .ys k l a)))))
-        (ask-in _ _ _ _ (ok .owns))))
+        (both-in (yAsked j pauli k) (f .set i k) (odd j (f .set i) k) (eqb k i) (Q.later j f i k) (λ a. node-same k (holds .ys k l a)))))
+        (ask-in _ _ _ _ (holds .owns))))
 
     pub node-out : NoOtherInput j (f .set i) i → Q.nodeAsk j f mode i ≡ none → T (corrects j pauli (laterThan (f .layer) i) (f .set i) i)
     unfolding Q.nodeAsk
