@@ -19,7 +19,7 @@ use Rattle.records.specs.Records.{lengthField, part, checked, written}
 use Rattle.nodes.specs.Lists.{has, listOf, all}
 use Rattle.records.specs.JobFile.{JobFile, modeCausal, modePlanes, modePauli, rises, pairsRise, allows, allAllowed, openNo, edgesNo, nodesNo, measurementsNo, readJob, readEdges, readInputs, readOutputs, readMeasurements, joined, jobOf}
 use Rattle.records.specs.FlowFile.{FlowFile, entriesIn, allEntries, entriesRise, layersNo, setsNo, readFlow, readSets, setIn, entryIn, flowOf}
-use Rattle.verdicts.specs.Verdict.{eachFrom, nodeAsk, causalAsk, verify}
+use Rattle.verdicts.specs.Verdict.{ask, eachFrom, nodeAsk, causalAsk, verify}
 use Rattle.demands.specs.Calls.{findAsks, verifyAsks}
 use Rattle.records.specs.Writing.{setBytes}
 use Rattle.demands.specs.Programs.{findProgram, verifyProgram}
@@ -171,7 +171,7 @@ all-hold : AllHold cases × AllHold differences
 unfolding
     bit parity anyBelow allBelow count lowestFrom membersFrom solve entryOf digits listOf fits bothFit wellShaped solveAsks own branches firstSolvable rounds
     lengthField part checked written all has rises pairsRise allows allAllowed openNo edgesNo nodesNo measurementsNo readJob readEdges readInputs readOutputs readMeasurements joined
-    entriesIn allEntries entriesRise layersNo setsNo readFlow readSets setIn entryIn eachFrom nodeAsk causalAsk verify setBytes findAsks verifyAsks findProgram verifyProgram equal
+    entriesIn allEntries entriesRise layersNo setsNo readFlow readSets setIn entryIn ask eachFrom nodeAsk causalAsk verify setBytes findAsks verifyAsks findProgram verifyProgram equal
 all-hold = (
   (record { lower = tt }, ((fileF 2, itself (1 ∷ 0 ∷ []), refl, (refl, refl), forbidden 2), record { lower = tt })),
   (

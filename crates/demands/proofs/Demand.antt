@@ -2,7 +2,7 @@
 -- the finder's, and 'no flow' is said exactly where no flow is accepted.
 use Prim.Native.Nat.{ℕ, _+_, _≤_, _<_}
 use mathlib.Core.Path.{_≡_, refl, sym, ap, ap₂, _∙_, subst}
-use mathlib.Core.Bool.{Bool, true, false, cond, not, _&&_, _||_}
+use mathlib.Core.Bool.{Bool, true, false, cond, _||_}
 use mathlib.Core.Option.{Option, none, some}
 use mathlib.Core.List.{List, [], _++_}
 use mathlib.Core.Logic.{_⊎_, inl, inr, _≢_}
@@ -10,98 +10,72 @@ use native.Mathlib.Omega.{arith}
 use lib.Dec.{T, eqb, ltb, leb, eqb→eq}
 use lib.ListN.{length, take, drop}
 use lib.Seq.{take-append-seam}
-use Rattle.nodes.specs.Row.{anyBelow}
-use Rattle.nodes.proofs.Logic.{is-true, is-false, from-true, from-false, dec, and-l, or-out, not-out}
-use Rattle.nodes.proofs.Row.{parity-ext, any-out}
-use Rattle.flows.specs.Job.{Job, odd}
-use Rattle.flows.specs.Search.{Progress}
-use Rattle.flows.specs.Planes as Planes
-use Rattle.flows.specs.Paulis as Paulis
-use Rattle.flows.specs.Conditions.{Ok}
-use Rattle.flows.proofs.Premise.{premiseAt}
-use Rattle.flows.proofs.Flows.{findAt, laterThan, Found, found-flow, found-ok, found-smallest, firstRound}
+use Rattle.nodes.proofs.Logic.{is-true, is-false, from-true, from-false, dec, or-out, not-in, not-out}
+use Rattle.flows.specs.Job.{Job}
+use Rattle.flows.specs.Search.{Progress, firstRound, laterThan}
+use Rattle.flows.specs.Conditions.{corrects}
+use Rattle.flows.specs.Flows.{findAt}
+use Rattle.flows.proofs.Conditions.{corrects-ext}
+use Rattle.flows.proofs.Flows.{FoundAt, found-flow, found-corrects, found-smallest}
 use Rattle.answers.specs.Answer.{Answer, gives, refuses, refusal, asks, _>>_}
 use Rattle.records.specs.Records.{written, kindNoFlow}
-use Rattle.records.specs.JobFile.{JobFile, mostNodes, readJob, jobOf, measuredOf, modeCausal, modePlanes, modePauli}
+use Rattle.records.specs.JobFile.{JobFile, mostNodes, readJob, jobOf, modeCausal, modePlanes, modePauli}
 use Rattle.records.specs.FlowFile.{FlowFile, readFlow, flowOf, nothingLeft}
 use Rattle.records.specs.Encoding.{ValidJob, foundFlow}
 use Rattle.verdicts.specs.Verdict.{verify, checkDomain, checkInitial, checkDefinition}
 use Rattle.nodes.specs.Lists.{zeros}
 use Rattle.solver.specs.Solver.{workBytes}
-use Rattle.demands.specs.Calls.{Outcome, put, findOutcome, findAsks, findCall, foundBytes, search}
+use Rattle.demands.specs.Calls.{modeOf, Outcome, put, findOutcome, findAsks, findCall, foundBytes, search}
 use Rattle.records.specs.Writing.{flowBytes, mostOutput}
-use Rattle.verdicts.specs.Published.{Measured}
+use Rattle.verdicts.specs.Published.{Measured, LayerRule}
+use Rattle.verdicts.specs.Rule.{FlowRule}
 use Rattle.demands.specs.Demand.{premise, Accepted, FlowBytes, layerIn, DemandHolds, Demand3}
 use Rattle.answers.proofs.Answer.{give-inj, never, bind-out, asks-out}
-use Rattle.records.proofs.JobFile.{job-asked, measured-range, measured-most, output-zero, measured-plane, edge-loop}
-use Rattle.records.proofs.FlowFile.{nothing-left, one-member-other}
+use Rattle.records.proofs.JobFile.{job-asked, measured-most, output-zero, measured-plane, edge-loop}
+use Rattle.records.proofs.FlowFile.{flow-asked, nothing-left, one-member-other}
 use Rattle.records.proofs.Records.{written-length}
 use Rattle.records.proofs.Writing.{found-most, found-reads, found-valid, found-layer, found-entry, found-set, no-flow-unread}
-use Rattle.verdicts.proofs.Verdict.{Preliminary, domain-asked, initial-asked, definition-asked, verify-in, verify-preliminary, verify-nodes, node-in, node-out}
-use Rattle.verdicts.proofs.Published as Pub
-use Rattle.demands.proofs.Judging.{Judged, judged-in, judged-out, readable}
-
--- a node's conditions depend on the nodes below n only
-pub ok-ext : (j : Job) (pauli : Bool) (later later′ set set′ : ℕ → Bool) → ((k : ℕ) → k < j .nodes → later k ≡ later′ k) → ((k : ℕ) → k < j .nodes → set k ≡ set′ k)
-    → (u : ℕ) → u < j .nodes → Ok j pauli later set u → Ok j pauli later′ set′ u
-ok-ext j pauli later later′ set set′ a b u l ok = record {
-  inputs = λ k m t q. ok .inputs k m (rw (b k m) t) q;
-  members = λ k m t. rw (a k m) at (ok .members k m (rw (b k m) t));
-  odds = λ k m t. rw (a k m) at (ok .odds k m (rw (same-odd k) t));
-  ys = λ k m t. rw (a k m, same-odd k, b k m) at (ok .ys k m t);
-  owns = rw (same-odd u, b u l) at (ok .owns);
-}
-  where
-    same-odd : (v : ℕ) → odd j set v ≡ odd j set′ v
-    same-odd v = parity-ext (j .nodes) (λ k. j .edge k v && set k) (λ k. j .edge k v && set′ k) (λ k m. rw (b k m))
+use Rattle.verdicts.proofs.Verdict.{domain-asked, initial-asked, definition-asked}
+use Rattle.verdicts.proofs.Rule.{Readable, rule-corrects, corrects-rule, verify-rule}
+use Rattle.demands.proofs.Judging.{Judged, judged-in, judged-out, searched-works, works-planes, causal-works, readable}
 
 -- ---- a job in mode 2 or 3
-module _ (file : List ℕ) (f : JobFile) (reads : readJob file ≡ gives f) (ends : f .after ≡ []) (searched : (f .mode ≡ modePlanes) ⊎ (f .mode ≡ modePauli)) where
+module _ (file : List ℕ) (f : JobFile) (reads : readJob file ≡ gives f) (ends : f .after ≡ []) (searched : (modeOf f ≡ modePlanes) ⊎ (modeOf f ≡ modePauli)) where
   abbrev j : Job
   j = jobOf f
 
   abbrev pauli : Bool
-  pauli = eqb (f .mode) modePauli
+  pauli = eqb (modeOf f) modePauli
 
   valid : ValidJob f
   valid = job-asked file f reads
 
-  not-causal : f .mode ≢ modeCausal
+  not-causal : modeOf f ≢ modeCausal
   not-causal e = go searched e
     where
-      go : (f .mode ≡ modePlanes) ⊎ (f .mode ≡ modePauli) → f .mode ≡ modeCausal → ⊥
-      go (inl p) e = apart (f .mode) p e
+      go : (modeOf f ≡ modePlanes) ⊎ (modeOf f ≡ modePauli) → modeOf f ≡ modeCausal → ⊥
+      go (inl p) e = apart (modeOf f) p e
         where
           apart : (m : ℕ) → m ≡ 2 → m ≡ 1 → ⊥
           apart m p q = omega arith
-      go (inr p) e = apart (f .mode) p e
+      go (inr p) e = apart (modeOf f) p e
         where
           apart : (m : ℕ) → m ≡ 3 → m ≡ 1 → ⊥
           apart m p q = omega arith
 
-  by-mode : search (f .mode) j ≡ findAt j pauli
+  by-mode : search (modeOf f) j ≡ findAt j pauli
   by-mode = go searched
     where
-      go : (f .mode ≡ modePlanes) ⊎ (f .mode ≡ modePauli) → search (f .mode) j ≡ findAt j pauli
+      go : (modeOf f ≡ modePlanes) ⊎ (modeOf f ≡ modePauli) → search (modeOf f) j ≡ findAt j pauli
       go (inl e) = rw e
       go (inr e) = rw e
 
-  premise-mode : premise f ≡ premiseAt j pauli
-  premise-mode = go searched
-    where
-      go : (f .mode ≡ modePlanes) ⊎ (f .mode ≡ modePauli) → premise f ≡ premiseAt j pauli
-      go (inl e) = rw e
-      go (inr e) = rw e
-
-  is-planes : pauli ≡ false → f .mode ≡ modePlanes
+  is-planes : pauli ≡ false → modeOf f ≡ modePlanes
   is-planes p = go searched
     where
-      go : (f .mode ≡ modePlanes) ⊎ (f .mode ≡ modePauli) → f .mode ≡ modePlanes
+      go : (modeOf f ≡ modePlanes) ⊎ (modeOf f ≡ modePauli) → modeOf f ≡ modePlanes
       go (inl e) = e
       go (inr e) = absurd (from-false pauli p (subst (λ (m : ℕ). T (eqb m modePauli)) (sym e) tt))
-
-  not-pauli : f .mode ≢ modePauli → pauli ≡ false
-  not-pauli d = is-false pauli (λ t. d (eqb→eq (f .mode) modePauli t))
 
   measured : (u : ℕ) → u < j .nodes → j .measured u < 7
   measured u l = below (j .measured u) (measured-most f valid u)
@@ -114,74 +88,64 @@ module _ (file : List ℕ) (f : JobFile) (reads : readJob file ≡ gives f) (end
     where
       go : T (j .output u) ⊎ (T (j .output u) → ⊥) → j .measured u ≤ 3
       go (inl t) = rw (output-zero f valid u l (is-true (j .output u) t)) (omega arith)
-      go (inr o) = measured-plane f valid (is-planes p) u l (is-false (j .output u) o) .1
+      go (inr o) = measured-plane f valid (works-planes f (is-planes p)) u l (is-false (j .output u) o) .1
 
   -- ---- (a) the found flow is accepted
   module _ (s : Progress) (e : findAt j pauli ≡ some s) where
-    flow-found : Found j pauli s
+    flow-found : FoundAt j pauli s
     flow-found = found-flow j pauli s e
 
     abbrev g : FlowFile
     g = foundFlow j s
 
-    node-ok : (u : ℕ) → Measured j u → Ok j pauli (laterThan (flowOf g .layer) u) (flowOf g .set u) u
-    node-ok u m =
-        ok-ext j pauli (laterThan (s .layer) u) (laterThan (flowOf g .layer) u) (s .set u) (flowOf g .set u)
-        (λ k l. sym (ap₂ ltb (found-layer j s k l) (found-layer j s u (m .0))))
-        (λ k l. sym (found-set j s u k (m .0) l ∙ rw (is-false (j .output u) (m .1)))) u (m .0)
-        (found-ok j pauli measured s flow-found u (m .0) (m .1))
+    reading : Readable j (flowOf g)
+    reading = readable f valid g (found-valid j s)
 
-    no-set : (u k : ℕ) → u < j .nodes → k < j .nodes → T (flowOf g .set u k) → T (j .output u) → ⊥
-    no-set u k l m t o = not-out (j .output u) (and-l (not (j .output u)) (s .set u k) (rw (found-set j s u k l m) at t)) o
+    node-right : (u : ℕ) → Measured j u → T (corrects j pauli (laterThan (flowOf g .layer) u) (flowOf g .set u) u)
+    node-right u m =
+        corrects-ext j (s .set u) (flowOf g .set u) (λ k l. sym (found-set j s u k (m .0) l ∙ rw (is-false (j .output u) (m .1))))
+        pauli (laterThan (s .layer) u) (laterThan (flowOf g .layer) u) (λ k l. sym (ap₂ ltb (found-layer j s k l) (found-layer j s u (m .0)))) u (m .0)
+        (found-corrects j pauli measured s flow-found u (m .0) (m .1))
 
-    some-member : (u : ℕ) → Measured j u → T (anyBelow (j .nodes) (flowOf g .set u))
-    some-member u m = Pub.some-member j (flowOf g) (readable f valid g (found-valid j s)) u m (node-ok u m .owns)
-
-    preliminary : Preliminary j (flowOf g) (f .mode)
-    preliminary = record {
-      inputs = λ u k l m t q. node-ok u (l, no-set u k l m t) .inputs k m t q;
-      domain = λ u l. ((λ t. let (k, m, q) = any-out (j .nodes) (flowOf g .set u) t in no-set u k l m q), λ o. some-member u (l, o));
+    layer-rule : LayerRule (modeOf f) j (flowOf g .layer)
+    layer-rule = record {
       outputs = λ u l o. found-layer j s u l ∙ flow-found .output-layer u o;
-      others = λ d u m. subst (λ (x : ℕ). 0 < x) (sym (found-layer j s u (m .0))) (positive (not-pauli d) (flow-found .least u (m .0) (m .1)));
-      entries = λ u l t z. entry-measured u l (not-out (j .output u) (rw (found-entry j s u l) at t)) z;
+      others = λ e u m. subst (λ (x : ℕ). 0 < x) (sym (found-layer j s u (m .0))) (positive e (flow-found .least u (m .0) (m .1)));
     }
       where
-        positive : {x : ℕ} → pauli ≡ false → firstRound pauli ≤ x → 0 < x
-        positive p h = rw p at h
+        positive : {x : ℕ} → modeOf f ≡ modePlanes → firstRound pauli ≤ x → 0 < x
+        positive e h = rw e at h
 
-        entry-measured : (u : ℕ) → u < j .nodes → (T (j .output u) → ⊥) → j .measured u ≡ 0 → ⊥
-        entry-measured u l o z = apart (j .measured u) (measured-range f valid u l (is-false (j .output u) o) .0) z
-          where
-            apart : (m : ℕ) → 1 ≤ m → m ≡ 0 → ⊥
-            apart m h q = omega arith
+    found-rule : FlowRule (modeOf f) j (flowOf g)
+    found-rule =
+        corrects-rule j (flowOf g) reading (modeOf f) searched
+        (λ u l. ((λ t. not-out (j .output u) (rw (found-entry j s u l) at t)), λ o. rw (found-entry j s u l) (not-in (j .output u) o))) layer-rule node-right
 
-    found-verified : verify j (flowOf g) (f .mode) ≡ none
-    found-verified = verify-in j (flowOf g) (f .mode) preliminary (λ i m. rw (is-false (eqb (f .mode) modeCausal) (λ t. not-causal (eqb→eq (f .mode) modeCausal t))) (node-in j (flowOf g) (f .mode) i (node-ok i m)))
+    found-verified : verify j (flowOf g) (modeOf f) ≡ none
+    found-verified = verify-rule j (flowOf g) reading (modeOf f) searched .1 found-rule
 
     -- the block that FATAL_MSG guards in the Rust is needless: none of its three checks can fail
-    pub fatal-needless : (checkDomain j (flowOf g) ≡ none) × (checkInitial j (flowOf g) (f .mode) ≡ none) × (checkDefinition j (flowOf g) (f .mode) ≡ none)
-    fatal-needless = (domain-asked j (flowOf g) (f .mode) found-verified, initial-asked j (flowOf g) (f .mode) found-verified, definition-asked j (flowOf g) (f .mode) found-verified)
+    pub fatal-needless : (checkDomain j (flowOf g) ≡ none) × (checkInitial j (flowOf g) (modeOf f) ≡ none) × (checkDefinition j (flowOf g) (modeOf f) ≡ none)
+    fatal-needless = (domain-asked j (flowOf g) (modeOf f) found-verified, initial-asked j (flowOf g) (modeOf f) found-verified, definition-asked j (flowOf g) (modeOf f) found-verified)
 
     pub found-judged : Judged f (flowBytes j (some s)) g
-    found-judged = record { reads = found-reads j s (valid .few); nothing = refl; single = (true, one-member-other (f .mode) (g .sets) not-causal); accepted = found-verified }
+    found-judged = record { reads = found-reads j s (valid .few); nothing = refl; single = (true, one-member-other (f .mode) (g .sets) (λ e. not-causal (causal-works f e))); accepted = found-verified }
 
   -- ---- (b) every accepted flow gives each node at least the layer of the found one
   module _ (p : T (premise f)) (other : List ℕ) (h : FlowFile) (q : Judged f other h) where
-    asked : Preliminary j (flowOf h) (f .mode)
-    asked = verify-preliminary j (flowOf h) (f .mode) (q .accepted)
+    reads-other : Readable j (flowOf h)
+    reads-other = readable f valid h (flow-asked (f .n) other h (q .reads))
 
-    other-ok : (u : ℕ) → u < j .nodes → (T (j .output u) → ⊥) → Ok j pauli (laterThan (flowOf h .layer) u) (flowOf h .set u) u
-    other-ok u l o =
-        node-out j (flowOf h) (f .mode) u (λ k m t i. asked .inputs u k l m t i)
-        (rw (is-false (eqb (f .mode) modeCausal) (λ t. not-causal (eqb→eq (f .mode) modeCausal t))) at (verify-nodes j (flowOf h) (f .mode) (q .accepted) u (l, o)))
+    rule : FlowRule (modeOf f) j (flowOf h)
+    rule = verify-rule j (flowOf h) reads-other (modeOf f) searched .0 (q .accepted)
 
     pub smallest-found : (s : Progress) × (findAt j pauli ≡ some s) × ((u : ℕ) → u < j .nodes → s .layer u ≤ flowOf h .layer u)
     smallest-found =
-        found-smallest j pauli measured low (λ u. edge-loop f valid u) (rw premise-mode at p) (flowOf h .layer) (flowOf h .set)
-        (λ e u l o. asked .others (λ m. from-false pauli e (subst (λ (m : ℕ). T (eqb m modePauli)) (sym m) tt)) u (l, o)) other-ok
+        found-smallest j pauli measured low (λ u. edge-loop f valid u) p (flowOf h .layer) (flowOf h .set) (rule .layers .outputs)
+        (λ e u l o. rule .layers .others (is-planes e) u (l, o)) (λ u l o. rule-corrects j (flowOf h) reads-other (modeOf f) searched rule u (l, o))
 
   -- ---- the three parts, of the bytes that the finder writes
-  bytes-of : (o : Option Progress) → search (f .mode) j ≡ o → foundBytes f ≡ flowBytes j o
+  bytes-of : (o : Option Progress) → search (modeOf f) j ≡ o → foundBytes f ≡ flowBytes j o
   bytes-of o e = ap (flowBytes j) e
 
   wrote-flow : (s : Progress) → findAt j pauli ≡ some s → foundBytes f ≡ flowBytes j (some s)
@@ -252,7 +216,7 @@ asked-find file work f e =
 
 -- no result is longer than `mostOutput`
 pub found-fits : (f : JobFile) → f .n ≤ mostNodes → length (foundBytes f) ≤ mostOutput
-found-fits f h = go (search (measuredOf f .mode) (jobOf f))
+found-fits f h = go (search (modeOf f) (jobOf f))
   where
     go : (o : Option Progress) → length (flowBytes (jobOf f) o) ≤ mostOutput
     go none = subst (λ (k : ℕ). k ≤ mostOutput) (sym (written-length kindNoFlow [])) (omega arith)
@@ -278,4 +242,4 @@ demand3 file work out k e = go (findAsks file work) refl e
     go (refuses r) p e = absurd (never e)
     go (gives f) p e =
         let (reads, ends, mode, size) = asked-find file work f p in
-        (f, reads, subst (DemandHolds file f) (sym (put-fits (zeros (length work)) (foundBytes f) out k e)) (demand-holds file f reads ends mode))
+        (f, reads, subst (DemandHolds file f) (sym (put-fits (zeros (length work)) (foundBytes f) out k e)) (demand-holds file f reads ends (searched-works f mode)))

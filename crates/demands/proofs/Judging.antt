@@ -1,4 +1,4 @@
--- A job followed by a flow: what the verifier asks of the two together, and what reading tells of them.
+-- A job followed by a flow, `verifyAsks` of specs/Calls: what the verifier asks of the two together, and what reading tells of them.
 use Prim.Native.Nat.{ℕ, zero, suc, _+_, _≤_, _<_}
 use mathlib.Core.Path.{_≡_, refl, sym, _∙_, subst}
 use mathlib.Core.Bool.{Bool, true, false, not, _&&_, _||_}
@@ -17,13 +17,14 @@ use Rattle.records.specs.JobFile.{JobFile, rises, readJob, jobOf, modeCausal, m
 use Rattle.records.specs.FlowFile.{SetEntry, FlowFile, allEntries, entriesRise, readFlow, flowOf, nothingLeft, oneMember, entryIn, setIn}
 use Rattle.records.specs.Encoding.{ValidJob, ValidFlow}
 use Rattle.verdicts.specs.Verdict.{verify}
-use Rattle.demands.specs.Calls.{verdict, verifyAsks}
+use Rattle.demands.specs.Calls.{modeOf, verdict, verifyAsks}
 use Rattle.verdicts.specs.Published.{Measured, NoInputs, PublishedFlow, byLayer, LayerRule, Domain, CausalAccepted, AcceptedFlow}
 use Rattle.answers.proofs.Answer.{never, bind-out}
 use Rattle.records.proofs.Records.{and-out}
 use Rattle.records.proofs.JobFile.{job-asked, job-append, measured-range, output-zero, measured-most, measured-plane}
 use Rattle.records.proofs.FlowFile.{flow-asked, set-entry, place-entry, set-at, nodes-below, members-below, nothing-left, one-member-asked, one-member-other, one-member}
-use Rattle.verdicts.proofs.Published.{one-to-three, Readable, planes-accepts, accepts-planes, paulis-accepts, accepts-paulis, causal-accepts, accepts-causal, published-conditions, conditions-published}
+use Rattle.verdicts.proofs.Rule.{Readable}
+use Rattle.verdicts.proofs.Published.{one-to-three, planes-accepts, accepts-planes, paulis-accepts, accepts-paulis, causal-accepts, accepts-causal, published-conditions, conditions-published}
 
 verdict-out : (o : Option Refusal) (b : Bool) → verdict o ≡ gives b → o ≡ none
 verdict-out none b e = refl
@@ -38,7 +39,7 @@ pub record Judged (f : JobFile) (flow : List ℕ) (g : FlowFile) : Type 0 where
   pub reads : readFlow (f .n) flow ≡ gives g
   pub nothing : g .after ≡ []
   pub single : (b : Bool) × (oneMember (f .mode) (g .sets) ≡ gives b)
-  pub accepted : verify (jobOf f) (flowOf g) (f .mode) ≡ none
+  pub accepted : verify (jobOf f) (flowOf g) (modeOf f) ≡ none
 
 module _ (file : List ℕ) (f : JobFile) (reads-job : readJob file ≡ gives f) (ends : f .after ≡ []) (flow : List ℕ) where
   whole : readJob (file ++ flow) ≡ gives (record { n = f .n; mode = f .mode; edges = f .edges; inputs = f .inputs; outputs = f .outputs; measurements = f .measurements; after = flow })
@@ -47,14 +48,27 @@ module _ (file : List ℕ) (f : JobFile) (reads-job : readJob file ≡ gives f) 
   pub judged-out : (b : Bool) → verifyAsks (file ++ flow) ≡ gives b → (g : FlowFile) × Judged f flow g
   unfolding verifyAsks
   judged-out b e =
-      let (g, p, q) = bind-out (readFlow (f .n) flow) (λ g. nothingLeft (g .after) >> (oneMember (f .mode) (g .sets) >> verdict (verify (jobOf f) (flowOf g) (f .mode)))) b (rw whole at e) in
-      let (x, r, s) = then-out (nothingLeft (g .after)) (oneMember (f .mode) (g .sets) >> verdict (verify (jobOf f) (flowOf g) (f .mode))) b q in
-      let (y, t, u) = then-out (oneMember (f .mode) (g .sets)) (verdict (verify (jobOf f) (flowOf g) (f .mode))) b s in
-      (g, record { reads = p; nothing = nothing-left (g .after) x r; single = (y, t); accepted = verdict-out (verify (jobOf f) (flowOf g) (f .mode)) b u })
+      let (g, p, q) = bind-out (readFlow (f .n) flow) (λ g. nothingLeft (g .after) >> (oneMember (f .mode) (g .sets) >> verdict (verify (jobOf f) (flowOf g) (modeOf f)))) b (rw whole at e) in
+      let (x, r, s) = then-out (nothingLeft (g .after)) (oneMember (f .mode) (g .sets) >> verdict (verify (jobOf f) (flowOf g) (modeOf f))) b q in
+      let (y, t, u) = then-out (oneMember (f .mode) (g .sets)) (verdict (verify (jobOf f) (flowOf g) (modeOf f))) b s in
+      (g, record { reads = p; nothing = nothing-left (g .after) x r; single = (y, t); accepted = verdict-out (verify (jobOf f) (flowOf g) (modeOf f)) b u })
 
   pub judged-in : (g : FlowFile) → Judged f flow g → verifyAsks (file ++ flow) ≡ gives true
   unfolding verifyAsks
   judged-in g h = rw (whole, h .reads, h .nothing, h .single .1, h .accepted)
+
+-- ---- the mode to work with, from the mode of the file
+pub searched-works : (f : JobFile) → (f .mode ≡ modePlanes) ⊎ (f .mode ≡ modePauli) → (modeOf f ≡ modePlanes) ⊎ (modeOf f ≡ modePauli)
+searched-works f e = e
+
+pub works-planes : (f : JobFile) → modeOf f ≡ modePlanes → f .mode ≡ modePlanes
+works-planes f e = e
+
+works-causal : (f : JobFile) → modeOf f ≡ modeCausal → f .mode ≡ modeCausal
+works-causal f e = e
+
+pub causal-works : (f : JobFile) → f .mode ≡ modeCausal → modeOf f ≡ modeCausal
+causal-works f e = e
 
 -- ---- what reading tells
 module _ (f : JobFile) (v : ValidJob f) where
@@ -72,8 +86,8 @@ module _ (f : JobFile) (v : ValidJob f) where
       below : (m : ℕ) → m ≤ 6 → m < 7
       below m l = omega arith
 
-  pub planes : f .mode ≡ modePlanes → (u : ℕ) → Measured (jobOf f) u → jobOf f .measured u ≤ planeXZ
-  planes e u s = measured-plane f v e u (s .0) (not-output u (s .1)) .1
+  pub planes : modeOf f ≡ modePlanes → (u : ℕ) → Measured (jobOf f) u → jobOf f .measured u ≤ planeXZ
+  planes e u s = measured-plane f v (works-planes f e) u (s .0) (not-output u (s .1)) .1
 
 -- ---- question 9 follows from the conditions of causal flow
 -- an ascending list of k alone has one element
@@ -120,33 +134,33 @@ module _ (f : JobFile) (g : FlowFile) (w : ValidFlow (f .n) g) where
           (λ k q. let m = members-below (f .n) (g .sets) u k (w .below) (rw (set-at 0 (g .sets) d i k (w .rise) l) q) in eqb→eq k (s u) (rw (here k m) at q))
           (rw (here (s u) (flow .node u measured)) (eqb-refl (s u))))
 
-  one-passed : AcceptedFlow (f .mode) (jobOf f) (flowOf g) → oneMember (f .mode) (g .sets) ≡ gives true
+  one-passed : AcceptedFlow (modeOf f) (jobOf f) (flowOf g) → oneMember (f .mode) (g .sets) ≡ gives true
   one-passed (inl (q, c)) = rw (causal-members c, or-all (not (eqb (f .mode) modeCausal)))
-  one-passed (inr (inl (q, c))) = one-member-other (f .mode) (g .sets) (λ e. omega (arith, q, e))
-  one-passed (inr (inr (q, c))) = one-member-other (f .mode) (g .sets) (λ e. omega (arith, q, e))
+  one-passed (inr (inl (q, c))) = one-member-other (f .mode) (g .sets) (λ e. omega (arith, q, causal-works f e))
+  one-passed (inr (inr (q, c))) = one-member-other (f .mode) (g .sets) (λ e. omega (arith, q, causal-works f e))
 
 -- ---- each verifier against its published conditions, over all bytes that pass reading
 module _ (f : JobFile) (v : ValidJob f) (g : FlowFile) (w : ValidFlow (f .n) g) (single : (b : Bool) × (oneMember (f .mode) (g .sets) ≡ gives b)) where
-  one-each : f .mode ≡ modeCausal → (u : ℕ) → T (entryIn (g .sets) u) → (k : ℕ) × (k < f .n) × ((m : ℕ) → setIn (g .sets) u m ≡ eqb m k)
+  one-each : modeOf f ≡ modeCausal → (u : ℕ) → T (entryIn (g .sets) u) → (k : ℕ) × (k < f .n) × ((m : ℕ) → setIn (g .sets) u m ≡ eqb m k)
   one-each e u t =
-      let (k, h) = one-member 0 (g .sets) u (w .rise) (one-member-asked (g .sets) (single .0) (subst (λ (m : ℕ). oneMember m (g .sets) ≡ gives (single .0)) e (single .1))) t in
+      let (k, h) = one-member 0 (g .sets) u (w .rise) (one-member-asked (g .sets) (single .0) (subst (λ (m : ℕ). oneMember m (g .sets) ≡ gives (single .0)) (works-causal f e) (single .1))) t in
       (k, members-below (f .n) (g .sets) u k (w .below) (subst T (sym (h k ∙ same k)) tt), λ m. h m ∙ eqb-comm k m)
     where
       same : (k : ℕ) → eqb k k ≡ true
       same k = is-true (eqb k k) (eqb-refl k)
 
-  mode-cases : (f .mode ≡ modeCausal) ⊎ ((f .mode ≡ modePlanes) ⊎ (f .mode ≡ modePauli))
-  mode-cases = one-to-three (f .mode) (v .modeFrom) (v .modeTo)
+  mode-cases : (modeOf f ≡ modeCausal) ⊎ ((modeOf f ≡ modePlanes) ⊎ (modeOf f ≡ modePauli))
+  mode-cases = one-to-three (modeOf f) (v .modeFrom) (v .modeTo)
 
-  pub verify-published : verify (jobOf f) (flowOf g) (f .mode) ≡ none → AcceptedFlow (f .mode) (jobOf f) (flowOf g)
+  pub verify-published : verify (jobOf f) (flowOf g) (modeOf f) ≡ none → AcceptedFlow (modeOf f) (jobOf f) (flowOf g)
   verify-published e = go mode-cases
     where
-      go : (f .mode ≡ modeCausal) ⊎ ((f .mode ≡ modePlanes) ⊎ (f .mode ≡ modePauli)) → AcceptedFlow (f .mode) (jobOf f) (flowOf g)
+      go : (modeOf f ≡ modeCausal) ⊎ ((modeOf f ≡ modePlanes) ⊎ (modeOf f ≡ modePauli)) → AcceptedFlow (modeOf f) (jobOf f) (flowOf g)
       go (inl q) = inl (q, causal-accepts (jobOf f) (flowOf g) (readable f v g w) (one-each q) (subst (λ (m : ℕ). verify (jobOf f) (flowOf g) m ≡ none) q e))
       go (inr (inl q)) = inr (inl (q, planes-accepts (jobOf f) (flowOf g) (readable f v g w) (planes f v q) (subst (λ (m : ℕ). verify (jobOf f) (flowOf g) m ≡ none) q e)))
       go (inr (inr q)) = inr (inr (q, paulis-accepts (jobOf f) (flowOf g) (readable f v g w) (subst (λ (m : ℕ). verify (jobOf f) (flowOf g) m ≡ none) q e)))
 
-  pub published-verify : AcceptedFlow (f .mode) (jobOf f) (flowOf g) → verify (jobOf f) (flowOf g) (f .mode) ≡ none
+  pub published-verify : AcceptedFlow (modeOf f) (jobOf f) (flowOf g) → verify (jobOf f) (flowOf g) (modeOf f) ≡ none
   published-verify (inl (q, c)) = subst (λ (m : ℕ). verify (jobOf f) (flowOf g) m ≡ none) (sym q) (accepts-causal (jobOf f) (flowOf g) (readable f v g w) (one-each q) c)
   published-verify (inr (inl (q, c))) = subst (λ (m : ℕ). verify (jobOf f) (flowOf g) m ≡ none) (sym q) (accepts-planes (jobOf f) (flowOf g) (readable f v g w) (planes f v q) c)
   published-verify (inr (inr (q, c))) = subst (λ (m : ℕ). verify (jobOf f) (flowOf g) m ≡ none) (sym q) (accepts-paulis (jobOf f) (flowOf g) (readable f v g w) c)
@@ -159,20 +173,20 @@ module _ (s : List ℕ) (f : JobFile) (g : FlowFile) (reads-job : readJob s ≡ 
   valid-flow : ValidFlow (f .n) g
   valid-flow = flow-asked (f .n) (f .after) g reads-flow
 
-  pub verifier-published : verifyAsks s ≡ gives true ↔ AcceptedFlow (f .mode) (jobOf f) (flowOf g)
+  pub verifier-published : verifyAsks s ≡ gives true ↔ AcceptedFlow (modeOf f) (jobOf f) (flowOf g)
   unfolding verifyAsks
   verifier-published = (
-    (λ e. let (b, t, a) = then-out (oneMember (f .mode) (g .sets)) (verdict (verify (jobOf f) (flowOf g) (f .mode))) true (rw (reads-job, reads-flow, ends) at e) in
-        verify-published f valid g valid-flow (b, t) (verdict-out (verify (jobOf f) (flowOf g) (f .mode)) true a)),
+    (λ e. let (b, t, a) = then-out (oneMember (f .mode) (g .sets)) (verdict (verify (jobOf f) (flowOf g) (modeOf f))) true (rw (reads-job, reads-flow, ends) at e) in
+        verify-published f valid g valid-flow (b, t) (verdict-out (verify (jobOf f) (flowOf g) (modeOf f)) true a)),
     λ c. let t = one-passed f g valid-flow c in rw (reads-job, reads-flow, ends, t, published-verify f valid g valid-flow (true, t) c),
   )
 
   -- a flow by its paper, by an order that the layers give, is accepted where the layers are as the listed differences say
-  pub published-accepted : Domain (jobOf f) (flowOf g .entry) → LayerRule (f .mode) (jobOf f) (flowOf g .layer) → PublishedFlow (f .mode) (jobOf f) (byLayer (flowOf g .layer)) (flowOf g .set)
+  pub published-accepted : Domain (jobOf f) (flowOf g .entry) → LayerRule (modeOf f) (jobOf f) (flowOf g .layer) → PublishedFlow (modeOf f) (jobOf f) (byLayer (flowOf g .layer)) (flowOf g .set)
       → verifyAsks s ≡ gives true
-  published-accepted d r p = verifier-published .1 (published-conditions (f .mode) (jobOf f) (flowOf g) d r p)
+  published-accepted d r p = verifier-published .1 (published-conditions (modeOf f) (jobOf f) (flowOf g) d r p)
 
   -- and an accepted flow that has no input in its own set is a flow by its paper: no other difference is left
   pub accepted-published : verifyAsks s ≡ gives true → NoInputs (jobOf f) (flowOf g .set)
-      → Domain (jobOf f) (flowOf g .entry) × LayerRule (f .mode) (jobOf f) (flowOf g .layer) × PublishedFlow (f .mode) (jobOf f) (byLayer (flowOf g .layer)) (flowOf g .set)
-  accepted-published e i = conditions-published (f .mode) (jobOf f) (flowOf g) i (verifier-published .0 e)
+      → Domain (jobOf f) (flowOf g .entry) × LayerRule (modeOf f) (jobOf f) (flowOf g .layer) × PublishedFlow (modeOf f) (jobOf f) (byLayer (flowOf g .layer)) (flowOf g .set)
+  accepted-published e i = conditions-published (modeOf f) (jobOf f) (flowOf g) i (verifier-published .0 e)

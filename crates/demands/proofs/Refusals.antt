@@ -1,7 +1,8 @@
--- Every refusal before the writer's question has a number from 1 to 19 and a byte a; its b is a byte too, where the file holds bytes.
+-- Every refusal of `findAsks` and `verifyAsks`, specs/Calls, has a number from 1 to 19 and a byte a; its b is a byte too, where the
+-- file holds bytes.
 use Prim.Native.Nat.{ℕ, zero, suc, _+_, _%_, _≤_, _<_}
 use mathlib.Core.Path.{_≡_, refl, sym, ap, _∙_}
-use mathlib.Core.Bool.{Bool, true, false, cond, not, _&&_, _||_, Bool·beq}
+use mathlib.Core.Bool.{Bool, true, false, cond, not, _&&_, _||_}
 use mathlib.Core.Option.{Option, none, some}
 use mathlib.Core.List.{List, _++_}
 use native.Mathlib.Omega.{arith}
@@ -16,13 +17,11 @@ use Rattle.records.specs.FlowFile.{FlowFile, Flow, allEntries, entriesOf, frame
 use Rattle.records.proofs.Records.{below-at, all-right, record-bytes}
 use Rattle.records.proofs.JobFile.{job-asked, job-encodes}
 use Rattle.records.proofs.FlowFile.{flow-parts, flow-asked}
-use Rattle.nodes.specs.Bit.{_⊕_}
-use Rattle.nodes.specs.Row.{anyBelow}
-use Rattle.flows.specs.Job.{Job, odd, own, pauliY, isXorY, isYorZ}
+use Rattle.flows.specs.Job.{Job}
 use Rattle.solver.specs.Solver.{workBytes}
 use Rattle.verdicts.specs.Verdict as Q
 use Rattle.verdicts.specs.Verdict.{ask, _next_, eachFrom, each}
-use Rattle.demands.specs.Calls.{findAsks, verdict, verifyAsks}
+use Rattle.demands.specs.Calls.{modeOf, findAsks, verdict, verifyAsks}
 
 pub record Numbered (bytes : Type 0) (r : Refusal) : Type 0 where
   pub number : 1 ≤ r .number
@@ -132,7 +131,7 @@ module _ (bytes : Type 0) where
   nothing = tt
 
   asked : (c : Bool) (q a b : ℕ) → 1 ≤ q → q < 20 → a < 256 → (bytes → b < 256) → Asked (ask c q a b)
-  unfolding Asked
+  unfolding Asked ask
   asked true q a b h e g f = tt
   asked false q a b h e g f = record { number = h; before = e; a = g; b = f }
 
@@ -154,6 +153,9 @@ module _ (bytes : Type 0) where
       from i (suc k) l = next-asked (f i) (eachFrom (i + 1) k f) (h i (omega arith)) (from (i + 1) k (omega arith))
 
   module _ (j : Job) (f : Flow) (few : j .nodes ≤ mostNodes) (small : bytes → (u : ℕ) → u < j .nodes → f .layer u < 256) where
+    every : (ask : ℕ → Option Refusal) → ((v : ℕ) → v < j .nodes → Asked (ask v)) → Asked (each (j .nodes) ask)
+    every = each-asked (j .nodes)
+
     -- a question on two nodes
     two : (c : Bool) (q i k : ℕ) → 1 ≤ q → q < 20 → i < j .nodes → k < j .nodes → Asked (ask c q i k)
     two c q i k h e l m = asked c q i k h e (omega arith) (λ x. omega arith)
@@ -162,37 +164,34 @@ module _ (bytes : Type 0) where
     one : (c : Bool) (q i : ℕ) → 1 ≤ q → q < 20 → i < j .nodes → Asked (ask c q i 0)
     one c q i h e l = asked c q i 0 h e (omega arith) (λ x. omega arith)
 
-    late : (s excused : ℕ → Bool) (i : ℕ) → i < j .nodes → (k : ℕ) → k < j .nodes → Asked (Q.laterAsk j f s excused i k)
-    late s excused i l k m = two (not (s k) || eqb k i || Q.later j f i k || excused k) 18 i k (omega arith) (omega arith) l m
-
     domain-asked : Asked (Q.checkDomain j f)
     domain-asked =
-        next-asked _ _ (each-asked (j .nodes) (λ u. each (j .nodes) (Q.inputAsk j f u)) (λ u l. each-asked (j .nodes) (Q.inputAsk j f u) (λ k m. one (not (f .set u k) || not (j .input k) || eqb k u) 13 u (omega arith) (omega arith) l)))
-        (each-asked (j .nodes) (Q.domainAsk j f) (λ u l. one (Bool·beq (anyBelow (j .nodes) (f .set u)) (not (j .output u))) 14 u (omega arith) (omega arith) l))
+        next-asked _ _ (every (λ u. each (j .nodes) (Q.inputAsk j f u)) (λ u l. every (Q.inputAsk j f u) (λ k m. one _ 13 u (omega arith) (omega arith) l)))
+        (every (Q.domainAsk j f) (λ u l. one _ 14 u (omega arith) (omega arith) l))
 
     initial-asked : (mode : ℕ) → Asked (Q.checkInitial j f mode)
     initial-asked mode =
-        each-asked (j .nodes) (Q.layerAsk j f mode)
-        (λ u l. cond-asked (j .output u) (Q.outputLayerAsk j f u) (Q.otherLayerAsk j f mode u) (asked (eqb (f .layer u) 0) 15 u (f .layer u) (omega arith) (omega arith) (omega arith) (λ x. small x u l)) (one (eqb mode modePauli || ltb 0 (f .layer u)) 16 u (omega arith) (omega arith) l))
+        every (Q.layerAsk j f mode)
+        (λ u l. cond-asked (j .output u) _ _ (asked _ 15 u (f .layer u) (omega arith) (omega arith) (omega arith) (λ x. small x u l)) (one _ 16 u (omega arith) (omega arith) l))
 
     causal-asked : (i : ℕ) → i < j .nodes → Asked (Q.causalNodeAsk j f i)
     unfolding Q.causalAsk
     causal-asked i l =
-        each-asked (j .nodes) (λ k. cond (f .set i k) (Q.causalAsk j f i k) none) (λ k m. cond-asked (f .set i k) (Q.causalAsk j f i k) none
-        (next-asked (Q.successorAsk j f i k) _ (two (Q.later j f i k) 18 i k (omega arith) (omega arith) l m)
-        (next-asked _ (Q.adjacentAsk j f i k) (each-asked (j .nodes) (Q.neighbourAsk j f i k) (λ v h. late (j .edge k) (λ v. false) i l v h)) (two (j .edge k i) 18 i k (omega arith) (omega arith) l m))) nothing)
+        every (λ k. cond (f .set i k) (Q.causalAsk j f i k) none) (λ k m. cond-asked (f .set i k) (Q.causalAsk j f i k) none
+        (next-asked _ _ (two _ 18 i k (omega arith) (omega arith) l m)
+        (next-asked _ _ (every (Q.neighbourAsk j f i k) (λ v h. two _ 18 i v (omega arith) (omega arith) l h)) (two _ 18 i k (omega arith) (omega arith) l m))) nothing)
 
     node-asked : (mode i : ℕ) → i < j .nodes → Asked (Q.nodeAsk j f mode i)
     unfolding Q.nodeAsk
     node-asked mode i l =
-        next-asked _ _ (each-asked (j .nodes) (Q.memberAsk j f mode i) (late (f .set i) (λ k. eqb mode modePauli && isXorY (j .measured k)) i l))
-        (next-asked _ _ (each-asked (j .nodes) (Q.oddAsk j f mode i) (late (odd j (f .set i)) (λ k. eqb mode modePauli && isYorZ (j .measured k)) i l))
-        (next-asked _ (Q.ownAsk j f i) (each-asked (j .nodes) (Q.yAsk j f mode i) (λ k m. one (not (eqb mode modePauli && eqb (j .measured k) pauliY && (f .set i k ⊕ odd j (f .set i) k)) || eqb k i || Q.later j f i k) 19 i (omega arith) (omega arith) l)) (one (own (j .measured i) (f .set i i) (odd j (f .set i) i)) 19 i (omega arith) (omega arith) l)))
+        next-asked _ _ (every (Q.memberAsk j f mode i) (λ k m. two _ 18 i k (omega arith) (omega arith) l m))
+        (next-asked _ _ (every (Q.oddAsk j f mode i) (λ k m. two _ 18 i k (omega arith) (omega arith) l m))
+        (next-asked _ _ (every (Q.yAsk j f mode i) (λ k m. one _ 19 i (omega arith) (omega arith) l)) (one _ 19 i (omega arith) (omega arith) l)))
 
     definition-asked : (mode : ℕ) → Asked (Q.checkDefinition j f mode)
     definition-asked mode =
-        next-asked _ _ (each-asked (j .nodes) (Q.measuredAsk j f) (λ u l. one (not (f .entry u) || not (eqb (j .measured u) 0)) 17 u (omega arith) (omega arith) l))
-        (each-asked (j .nodes) (Q.definitionAsk j f mode) (λ i l. cond-asked (j .output i) none _ nothing (cond-asked (eqb mode modeCausal) _ _ (causal-asked i l) (node-asked mode i l))))
+        next-asked _ _ (every (Q.measuredAsk j f) (λ u l. one _ 17 u (omega arith) (omega arith) l))
+        (every (Q.definitionAsk j f mode) (λ i l. cond-asked (j .output i) none _ nothing (cond-asked (eqb mode modeCausal) _ _ (causal-asked i l) (node-asked mode i l))))
 
     verify-asked : (mode : ℕ) → Asked (Q.verify j f mode)
     unfolding Q.verify
@@ -223,4 +222,4 @@ verify-numbered file =
     (λ f e. bind-numbered (Bytes file) (readFlow (f .n) (f .after)) _ (flow-numbered (Bytes file) (f .n) (f .after))
     (λ g h. asks-then (Bytes file) 8 (eqb (length (g .after)) 0) _ (omega arith) (omega arith)
     (asks-then (Bytes file) 9 (not (eqb (f .mode) modeCausal) || allEntries (λ e. eqb (length (e .set)) 1) (g .sets)) _ (omega arith) (omega arith)
-    (verdict-numbered (Bytes file) (Q.verify (jobOf f) (flowOf g) (f .mode)) (verify-asked (Bytes file) (jobOf f) (flowOf g) (job-asked file f e .few) (λ b. layer-small file f g e h b) (f .mode))))))
+    (verdict-numbered (Bytes file) (Q.verify (jobOf f) (flowOf g) (modeOf f)) (verify-asked (Bytes file) (jobOf f) (flowOf g) (job-asked file f e .few) (λ b. layer-small file f g e h b) (modeOf f))))))

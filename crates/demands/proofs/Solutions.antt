@@ -6,7 +6,7 @@ use mathlib.Core.Option.{Option, none, some, Option·none-ne-some}
 use mathlib.Core.List.{List, []}
 use mathlib.Core.Logic.{_⊎_, inl, inr}
 use native.Mathlib.Omega.{arith}
-use lib.Dec.{T, eqb, ltb, eqb→eq, ltb→lt}
+use lib.Dec.{T, eqb, ltb, eqb→eq}
 use lib.ListN.{take, length}
 use Rattle.nodes.proofs.Logic.{is-false, not-out, eqb-yes, and-all, lt-or-ge}
 use Rattle.nodes.specs.Options.{isSome}
@@ -14,22 +14,25 @@ use Rattle.solver.specs.System.{Solves, IsAnswer, solve}
 use Rattle.solver.proofs.System.{solvable-some, answer-unique}
 use Rattle.flows.specs.Job.{Job}
 use Rattle.flows.specs.Branch.{Context, branches, systemAt, sideAt, inSet, withNode, tryBranch}
-use Rattle.flows.specs.Search.{Progress}
+use Rattle.flows.specs.Search.{Progress, laterThan}
+use Rattle.flows.specs.Tries.{contextAt, tryAt}
+use Rattle.flows.specs.Flows.{findAt}
 use Rattle.flows.proofs.Branch.{put-out}
-use Rattle.flows.proofs.Tries.{contextAt, tryAt, planes-context, FirstOf, try-first, branch-answer, no-column-u}
-use Rattle.flows.proofs.Flows.{findAt, laterThan, Found, found-flow, try-ext}
+use Rattle.flows.proofs.Tries.{FirstOf, try-first, try-ext, branch-answer, no-column-u}
+use Rattle.flows.proofs.Flows.{FoundAt, found-flow}
 use Rattle.answers.specs.Answer.{Answer, gives, refuses}
 use Rattle.records.specs.JobFile.{JobFile, readJob, jobOf, modePlanes, modePauli}
 use Rattle.records.specs.FlowFile.{FlowFile, flowOf, readFlow}
 use Rattle.records.specs.Encoding.{foundFlow}
 use Rattle.nodes.specs.Lists.{zeros}
-use Rattle.demands.specs.Calls.{findCall, findAsks, findOutcome, foundBytes}
+use Rattle.demands.specs.Calls.{modeOf, findCall, findAsks, findOutcome, foundBytes}
 use Rattle.verdicts.specs.Published.{Measured}
 use Rattle.demands.specs.Demand.{FlowBytes, layerIn}
-use Rattle.demands.specs.Solutions.{contextIn, others, TheSolution, Demand2}
+use Rattle.demands.specs.Solutions.{others, TheSolution, Demand2}
 use Rattle.answers.proofs.Answer.{give-inj, never}
 use Rattle.records.proofs.FlowFile.{members-below, nodes-below}
 use Rattle.records.proofs.Writing.{found-valid, found-layer, found-entry, found-set, no-flow-unread}
+use Rattle.demands.proofs.Judging.{searched-works}
 use Rattle.demands.proofs.Demand.{asked-find, put-fits, reads-back, wrote-none, found-cases}
 
 -- a branch that gives nothing has no solution
@@ -40,45 +43,32 @@ none-solves j c u b e x s = go (solve (systemAt j c) (j .nodes) (sideAt j u b)) 
     go none t e = t
     go (some y) t e = Option·none-ne-some _ (sym e)
 
-module _ (f : JobFile) (searched : (f .mode ≡ modePlanes) ⊎ (f .mode ≡ modePauli)) (s : Progress) (found : Found (jobOf f) (eqb (f .mode) modePauli) s) where
+module _ (f : JobFile) (s : Progress) (found : FoundAt (jobOf f) (eqb (modeOf f) modePauli) s) where
   abbrev j : Job
   j = jobOf f
 
   abbrev pauli : Bool
-  pauli = eqb (f .mode) modePauli
+  pauli = eqb (modeOf f) modePauli
 
   abbrev g : FlowFile
   g = foundFlow j s
 
   module _ (u : ℕ) (m : Measured j u) where
-    abbrev gone : ℕ → Bool
-    gone v = ltb (layerIn g v) (layerIn g u)
+    abbrev later : ℕ → Bool
+    later = laterThan (layerIn g) u
 
-    not-gone : T (gone u) → ⊥
-    not-gone t = below (layerIn g u) (ltb→lt (layerIn g u) (layerIn g u) t)
-      where
-        below : (a : ℕ) → a < a → ⊥
-        below a l = omega arith
+    tried : tryAt j pauli later u ≡ some (s .set u)
+    tried = try-ext j pauli later (laterThan (s .layer) u) (λ v l. ap₂ ltb (found-layer j s v l) (found-layer j s u (m .0))) u ∙ found .by-try u (m .0) (m .1)
 
-    here : contextAt j pauli gone u ≡ contextIn f g u
-    here = go searched
-      where
-        go : (f .mode ≡ modePlanes) ⊎ (f .mode ≡ modePauli) → contextAt j pauli gone u ≡ contextIn f g u
-        go (inl e) = rw e (planes-context j gone u not-gone)
-        go (inr e) = rw e
-
-    tried : tryAt j pauli gone u ≡ some (s .set u)
-    tried = try-ext j pauli gone (laterThan (s .layer) u) (λ v l. ap₂ ltb (found-layer j s v l) (found-layer j s u (m .0))) u ∙ found .by-try u (m .0) (m .1)
-
-    first : FirstOf j (contextAt j pauli gone u) u (branches (j .measured u)) (s .set u)
-    first = try-first j pauli gone u (s .set u) tried
+    first : FirstOf j (contextAt j pauli later u) u (branches (j .measured u)) (s .set u)
+    first = try-first j pauli later u (s .set u) tried
 
     written-set : (k : ℕ) → k < j .nodes → flowOf g .set u k ≡ s .set u k
     written-set k l = found-set j s u k (m .0) l ∙ rw (is-false (j .output u) (m .1))
 
-    module _ (x : ℕ → Bool) (a : IsAnswer (systemAt j (contextAt j pauli gone u)) (j .nodes) (sideAt j u (first .branch)) x) (w : s .set u ≡ (λ k. x k || inSet (first .branch) && eqb k u)) where
+    module _ (x : ℕ → Bool) (a : IsAnswer (systemAt j (contextAt j pauli later u)) (j .nodes) (sideAt j u (first .branch)) x) (w : s .set u ≡ (λ k. x k || inSet (first .branch) && eqb k u)) where
       x-u : x u ≡ false
-      x-u = is-false (x u) (λ t. no-column-u j pauli gone u (a .within u t .1))
+      x-u = is-false (x u) (λ t. no-column-u j pauli later u (a .within u t .1))
 
       the-others : others g u ≡ x
       the-others = fun-ext (λ k. go k (lt-or-ge k (j .nodes)))
@@ -103,17 +93,14 @@ module _ (f : JobFile) (searched : (f .mode ≡ modePlanes) ⊎ (f .mode ≡ mod
         branch = first .branch;
         later = first .later;
         row = first .row;
-        unsolvable = λ b t. subst (λ (c : Context). (x : ℕ → Bool) → Solves (systemAt j c) (f .n) (sideAt j u b) x → ⊥) here
-            (none-solves j (contextAt j pauli gone u) u b (first .unsolvable b t));
+        unsolvable = λ b t. none-solves j (contextAt j pauli later u) u b (first .unsolvable b t);
         self = own-member;
-        answer = subst (λ (c : Context). IsAnswer (systemAt j c) (f .n) (sideAt j u (first .branch)) (others g u)) here
-            (subst (IsAnswer (systemAt j (contextAt j pauli gone u)) (j .nodes) (sideAt j u (first .branch))) (sym the-others) a);
-        only = subst (λ (c : Context). (y : ℕ → Bool) → IsAnswer (systemAt j c) (f .n) (sideAt j u (first .branch)) y → y ≡ others g u) here
-            (λ y b. answer-unique (systemAt j (contextAt j pauli gone u)) (j .nodes) (sideAt j u (first .branch)) y x b a ∙ sym the-others);
+        answer = subst (IsAnswer (systemAt j (contextAt j pauli later u)) (j .nodes) (sideAt j u (first .branch))) (sym the-others) a;
+        only = λ y b. answer-unique (systemAt j (contextAt j pauli later u)) (j .nodes) (sideAt j u (first .branch)) y x b a ∙ sym the-others;
       }
 
     pub the-solution : TheSolution f g u
-    the-solution = let (x, a, w) = branch-answer j (contextAt j pauli gone u) u (first .branch) (s .set u) (first .gave) in solution x a w
+    the-solution = let (x, a, w) = branch-answer j (contextAt j pauli later u) u (first .branch) (s .set u) (first .gave) in solution x a w
 
 pub demand2 : Demand2
 unfolding findCall
@@ -124,16 +111,16 @@ demand2 file work out k e f r g b u t = go (findAsks file work) refl e b
     go (gives h) p e b =
         let (reads, ends, mode, size) = asked-find file work h p in
         let same : f ≡ h = give-inj (sym r ∙ reads) in
-        by h reads ends mode same (subst (λ (w : List ℕ). readFlow (f .n) w ≡ gives g) (put-fits (zeros (length work)) (foundBytes h) out k e) (b .0))
+        by h reads ends (searched-works h mode) same (subst (λ (w : List ℕ). readFlow (f .n) w ≡ gives g) (put-fits (zeros (length work)) (foundBytes h) out k e) (b .0))
       where
-        by : (h : JobFile) → readJob file ≡ gives h → h .after ≡ [] → (h .mode ≡ modePlanes) ⊎ (h .mode ≡ modePauli) → f ≡ h → readFlow (f .n) (foundBytes h) ≡ gives g → TheSolution f g u
+        by : (h : JobFile) → readJob file ≡ gives h → h .after ≡ [] → (modeOf h ≡ modePlanes) ⊎ (modeOf h ≡ modePauli) → f ≡ h → readFlow (f .n) (foundBytes h) ≡ gives g → TheSolution f g u
         by h reads ends mode same q = subst (λ (f : JobFile). TheSolution f g u) (sym same) (from (subst (λ (f : JobFile). readFlow (f .n) (foundBytes h) ≡ gives g) same q) (found-cases file h reads ends mode))
           where
-            from : readFlow (h .n) (foundBytes h) ≡ gives g → (findAt (jobOf h) (eqb (h .mode) modePauli) ≡ none) ⊎ ((s : Progress) × (findAt (jobOf h) (eqb (h .mode) modePauli) ≡ some s)) → TheSolution h g u
+            from : readFlow (h .n) (foundBytes h) ≡ gives g → (findAt (jobOf h) (eqb (modeOf h) modePauli) ≡ none) ⊎ ((s : Progress) × (findAt (jobOf h) (eqb (modeOf h) modePauli) ≡ some s)) → TheSolution h g u
             from q (inl n) = absurd (no-flow-unread (h .n) g (subst (λ (w : List ℕ). readFlow (h .n) w ≡ gives g) (wrote-none file h reads ends mode n) q))
             from q (inr (s, n)) =
                 let is : foundFlow (jobOf h) s ≡ g = give-inj (sym (reads-back file h reads ends mode s n .0) ∙ q) in
-                subst (λ (g : FlowFile). TheSolution h g u) is (the-solution h mode s (found-flow (jobOf h) (eqb (h .mode) modePauli) s n) u (measured s is))
+                subst (λ (g : FlowFile). TheSolution h g u) is (the-solution h s (found-flow (jobOf h) (eqb (modeOf h) modePauli) s n) u (measured s is))
               where
                 measured : (s : Progress) → foundFlow (jobOf h) s ≡ g → Measured (jobOf h) u
                 measured s is =

@@ -18,13 +18,18 @@ use Rattle.records.specs.JobFile.{JobFile, readJob, jobOf, measuredOf, modePlan
 use Rattle.records.specs.FlowFile.{readFlow, flowOf, nothingLeft, oneMember}
 use Rattle.verdicts.specs.Verdict.{verify}
 
+-- Everything after reading goes by the mode and the measurements to work with: by `modeOf`, and by `jobOf`, which has the measurements.
+-- Only two questions read the mode of the file itself: 9 (has each causal entry one member) and 10 (is the mode 2 or 3).
+abbrev pub modeOf : JobFile → ℕ
+modeOf f = measuredOf f .mode
+
 -- ---- what the finder writes
 -- mode 2 searches by planes, mode 3 by Paulis
 abbrev pub search : ℕ → Job → Option Progress
 search mode j = cond (eqb mode modePlanes) (Planes.find j) (Paulis.find j)
 
 abbrev pub foundBytes : JobFile → List ℕ
-foundBytes f = flowBytes (jobOf f) (search (measuredOf f .mode) (jobOf f))
+foundBytes f = flowBytes (jobOf f) (search (modeOf f) (jobOf f))
 
 -- the finder's questions before its search: is nothing left (8), is the mode 2 or 3 (10), is the work buffer right (11)
 unfoldable pub findAsks : List ℕ → List ℕ → Answer JobFile
@@ -46,7 +51,7 @@ verifyAsks file = do
   g ← readFlow (f .n) (f .after)
   nothingLeft (g .after)
   oneMember (f .mode) (g .sets)
-  verdict (verify (jobOf f) (flowOf g) (measuredOf f .mode))
+  verdict (verify (jobOf f) (flowOf g) (modeOf f))
 
 -- ---- the lent buffers
 -- the answer is the number of bytes written

@@ -13,6 +13,7 @@ use Rattle.records.specs.Records.{written, kindOpen, kindEdges, kindInputs, kin
 use Rattle.flows.specs.Job.{Job}
 use Rattle.records.specs.JobFile.{JobFile, readJob, jobOf}
 use Rattle.records.specs.FlowFile.{FlowFile, Flow, flowOf}
+use Rattle.demands.specs.Calls.{modeOf}
 use Rattle.demands.specs.Programs.{findProgram, verifyProgram}
 use Rattle.demands.specs.Demand.{FlowBytes}
 use Rattle.verdicts.specs.Published.{PublishedFlow, byLayer}
@@ -67,7 +68,7 @@ allHold (c ∷ cs) = holds c && allHold cs
 -- ---- what the papers say
 -- the bytes are a job and a flow file for it, and of the two this is said
 abbrev pub Of : (job flow : List ℕ) (says : ℕ → Job → Flow → Type 1) → Type 1
-Of job flow says = (f : JobFile) × (g : FlowFile) × (readJob job ≡ gives f) × FlowBytes (f .n) flow g × says (f .mode) (jobOf f) (flowOf g)
+Of job flow says = (f : JobFile) × (g : FlowFile) × (readJob job ≡ gives f) × FlowBytes (f .n) flow g × says (modeOf f) (jobOf f) (flowOf g)
 
 abbrev pub IsFlow : ℕ → Job → Flow → Type 1
 IsFlow mode j f = Lift {0, 1} (PublishedFlow mode j (byLayer (f .layer)) (f .set))

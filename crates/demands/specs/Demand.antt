@@ -1,20 +1,20 @@
 -- Demand 3 as one proposition about the calls, over all jobs and all flows, both modes.
 use Prim.Native.Nat.{ℕ, _≤_, _<_}
 use mathlib.Core.Path.{_≡_}
-use mathlib.Core.Bool.{Bool, true, cond}
+use mathlib.Core.Bool.{Bool, true}
 use mathlib.Core.List.{List, [], _++_}
 use mathlib.Core.Logic.{_↔_, _⊎_}
 use lib.Dec.{T, eqb}
 use lib.ListN.{getD, take}
-use Rattle.flows.specs.Premise.{planesPremise, paulisPremise}
+use Rattle.flows.specs.Premise.{premiseAt}
 use Rattle.answers.specs.Answer.{gives}
 use Rattle.records.specs.Records.{written, kindNoFlow}
-use Rattle.records.specs.JobFile.{JobFile, readJob, jobOf, measuredOf, modePlanes}
+use Rattle.records.specs.JobFile.{JobFile, readJob, jobOf, modePauli}
 use Rattle.records.specs.FlowFile.{FlowFile, readFlow}
-use Rattle.demands.specs.Calls.{findCall, verifyAsks}
+use Rattle.demands.specs.Calls.{modeOf, findCall, verifyAsks}
 
 abbrev pub premise : JobFile → Bool
-premise f = cond (eqb (measuredOf f .mode) modePlanes) (planesPremise (jobOf f)) (paulisPremise (jobOf f))
+premise f = premiseAt (jobOf f) (eqb (modeOf f) modePauli)
 
 -- a flow is accepted for a job: no question of the verifier, the writer's aside, is answered no
 abbrev pub Accepted : (job flow : List ℕ) → Type 0

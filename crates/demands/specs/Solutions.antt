@@ -1,26 +1,24 @@
 -- Demand 2 of the finder: each set it writes is the one solution that avoids every column equal to a sum of earlier ones.
 use Prim.Native.Nat.{ℕ}
 use mathlib.Core.Path.{_≡_}
-use mathlib.Core.Bool.{Bool, cond, not, _&&_}
+use mathlib.Core.Bool.{Bool, not, _&&_}
 use mathlib.Core.List.{List, _∷_, _++_}
-use lib.Dec.{T, eqb, ltb}
+use lib.Dec.{T, eqb}
 use lib.ListN.{take}
 use Rattle.solver.specs.System.{System, Solves, IsAnswer}
 use Rattle.flows.specs.Branch.{Context, branches, systemAt, sideAt, inSet}
-use Rattle.flows.specs.Planes as Planes
-use Rattle.flows.specs.Paulis as Paulis
+use Rattle.flows.specs.Search.{laterThan}
+use Rattle.flows.specs.Tries.{contextAt}
 use Rattle.answers.specs.Answer.{gives}
 use Rattle.nodes.specs.Lists.{has}
-use Rattle.records.specs.JobFile.{JobFile, readJob, jobOf, measuredOf, modePlanes}
+use Rattle.records.specs.JobFile.{JobFile, readJob, jobOf, modePauli}
 use Rattle.records.specs.FlowFile.{FlowFile, flowOf}
-use Rattle.demands.specs.Calls.{findCall}
+use Rattle.demands.specs.Calls.{modeOf, findCall}
 use Rattle.demands.specs.Demand.{FlowBytes, layerIn}
 
--- what u met in its round, r being its layer: the nodes of layers below r were solved
+-- what u met in its round, its layer: the nodes of smaller layers were solved
 abbrev pub contextIn : JobFile → FlowFile → ℕ → Context
-contextIn f g u =
-    let gone : ℕ → Bool = λ v. ltb (layerIn g v) (layerIn g u) in
-    cond (eqb (measuredOf f .mode) modePlanes) (Planes.context (jobOf f) gone) (Paulis.context (jobOf f) gone u)
+contextIn f g u = contextAt (jobOf f) (eqb (modeOf f) modePauli) (laterThan (layerIn g) u) u
 
 abbrev pub systemIn : JobFile → FlowFile → ℕ → System
 systemIn f g u = systemAt (jobOf f) (contextIn f g u)

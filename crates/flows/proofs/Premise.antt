@@ -10,23 +10,13 @@ use Rattle.nodes.proofs.Logic.{dec, and-l, and-r, and-in, or-l, or-r, or-out, n
 use Rattle.nodes.proofs.Row.{any-in, any-out, all-out}
 use Rattle.nodes.proofs.Count.{rank-sur}
 use Rattle.flows.specs.Job.{Job, odd, isXorY, isYorZ, planeYZ}
-use Rattle.flows.specs.Premise.{planesPremise, paulisPremise}
+use Rattle.flows.specs.Premise.{planesPremise, paulisPremise, premiseAt}
+use Rattle.nodes.specs.Options.{isSome}
 use Rattle.flows.proofs.Table.{needs-odd}
-use Rattle.flows.specs.Conditions.{Ok}
-use Rattle.flows.proofs.Tries.{contextAt, needs-column}
-
-abbrev pub premiseAt : Job → Bool → Bool
-premiseAt j true = paulisPremise j
-premiseAt j false = planesPremise j
-
--- what a round's start has of the outputs: all of them for planes
-abbrev pub Gone : Job → Bool → (ℕ → Bool) → Type 0
-Gone j true gone = Unit {0}
-Gone j false gone = (v : ℕ) → v < j .nodes → T (j .output v) → T (gone v)
-
-pub all-gone : (j : Job) (pauli : Bool) (gone : ℕ → Bool) → ((v : ℕ) → v < j .nodes → T (j .output v) → T (gone v)) → Gone j pauli gone
-all-gone j true gone h = tt
-all-gone j false gone h = h
+use Rattle.flows.specs.Conditions.{corrects}
+use Rattle.flows.specs.Tries.{contextAt, tryAt}
+use Rattle.flows.proofs.Conditions.{own-measured, corrects-own}
+use Rattle.flows.proofs.Tries.{needs-column, try-complete}
 
 -- of two members one is not u
 other : (n : ℕ) (s : ℕ → Bool) → 2 ≤ count n s → (u : ℕ) → (k : ℕ) × (k < n) × T (s k) × (T (eqb k u) → ⊥)
@@ -45,23 +35,28 @@ other n s h u =
 
 module _ (j : Job) (u : ℕ) (h : u < j .nodes) (measured : j .measured u < 7) (loopless : j .edge u u ≡ false) (no-output : T (j .output u) → ⊥) where
   abbrev Column : Bool → (ℕ → Bool) → Type 0
-  Column pauli gone = T (anyBelow (j .nodes) (contextAt j pauli gone u .column))
+  Column pauli later = T (anyBelow (j .nodes) (contextAt j pauli later u .column))
+
+  abbrev OutputsLater : (ℕ → Bool) → Type 0
+  OutputsLater later = (v : ℕ) → v < j .nodes → T (j .output v) → T (later v)
 
   -- a measurement that asks for the node in Odd needs a column
-  by-odd : (pauli : Bool) (gone set : ℕ → Bool) → Ok j pauli gone set u → (T (eqb (j .measured u) planeYZ || isYorZ (j .measured u)) → ⊥) → Column pauli gone
-  by-odd pauli gone set ok f = needs-column j pauli gone u measured loopless set ok (needs-odd (j .measured u) (set u) (odd j set u) measured f (ok .owns))
+  by-odd : (pauli : Bool) (later set : ℕ → Bool) → T (corrects j pauli later set u) → (T (eqb (j .measured u) planeYZ || isYorZ (j .measured u)) → ⊥) → Column pauli later
+  by-odd pauli later set c f =
+      needs-column j pauli later u h measured loopless set c
+      (needs-odd (j .measured u) (set u) (odd j set u) measured f (own-measured j set u (corrects-own j pauli later set u c)))
 
-  planes-column : (gone set : ℕ → Bool) → (j .measured u ≤ 3) → T (planesPremise j) → Gone j false gone → Ok j false gone set u → Column false gone
-  planes-column gone set low p g ok = go (or-out (anyBelow (j .nodes) (λ k. j .output k && not (j .input k))) (allBelow (j .nodes) (λ k. not (eqb (j .measured k) planeYZ))) p)
+  planes-column : (later set : ℕ → Bool) → (j .measured u ≤ 3) → T (planesPremise j) → OutputsLater later → T (corrects j false later set u) → Column false later
+  planes-column later set low p g ok = go (or-out (anyBelow (j .nodes) (λ k. j .output k && not (j .input k))) (allBelow (j .nodes) (λ k. not (eqb (j .measured k) planeYZ))) p)
     where
-      go : T (anyBelow (j .nodes) (λ k. j .output k && not (j .input k))) ⊎ T (allBelow (j .nodes) (λ k. not (eqb (j .measured k) planeYZ))) → Column false gone
+      go : T (anyBelow (j .nodes) (λ k. j .output k && not (j .input k))) ⊎ T (allBelow (j .nodes) (λ k. not (eqb (j .measured k) planeYZ))) → Column false later
       go (inl t) =
           let (k, l, a) = any-out (j .nodes) (λ k. j .output k && not (j .input k)) t in
-          any-in (j .nodes) (contextAt j false gone u .column) k l
-          (and-in ((gone k || false) && not (j .input k)) (not (eqb k u))
-          (and-in (gone k || false) (not (j .input k)) (or-l (gone k) false (g k l (and-l (j .output k) (not (j .input k)) a))) (and-r (j .output k) (not (j .input k)) a))
+          any-in (j .nodes) (contextAt j false later u .column) k l
+          (and-in ((later k || false) && not (j .input k)) (not (eqb k u))
+          (and-in (later k || false) (not (j .input k)) (or-l (later k) false (g k l (and-l (j .output k) (not (j .input k)) a))) (and-r (j .output k) (not (j .input k)) a))
           (not-in (eqb k u) (λ e. no-output (rw (eqb→eq k u e) at (and-l (j .output k) (not (j .input k)) a)))))
-      go (inr t) = by-odd false gone set ok (λ q. by (or-out (eqb (j .measured u) planeYZ) (isYorZ (j .measured u)) q))
+      go (inr t) = by-odd false later set ok (λ q. by (or-out (eqb (j .measured u) planeYZ) (isYorZ (j .measured u)) q))
         where
           by : T (eqb (j .measured u) planeYZ) ⊎ T (isYorZ (j .measured u)) → ⊥
           by (inl q) = not-out (eqb (j .measured u) planeYZ) (all-out (j .nodes) (λ k. not (eqb (j .measured k) planeYZ)) t u h) q
@@ -71,19 +66,22 @@ module _ (j : Job) (u : ℕ) (h : u < j .nodes) (measured : j .measured u < 7) (
               high m l (inl q) = let e : m ≡ 5 = eqb→eq m 5 q in omega arith
               high m l (inr q) = let e : m ≡ 6 = eqb→eq m 6 q in omega arith
 
-  paulis-column : (gone set : ℕ → Bool) → T (paulisPremise j) → Ok j true gone set u → Column true gone
-  paulis-column gone set p ok = go (or-out (leb 2 (count (j .nodes) (λ k. not (j .input k) && isXorY (j .measured k)))) (allBelow (j .nodes) (λ k. not (eqb (j .measured k) planeYZ || isYorZ (j .measured k)))) p)
+  paulis-column : (later set : ℕ → Bool) → T (paulisPremise j) → T (corrects j true later set u) → Column true later
+  paulis-column later set p ok = go (or-out (leb 2 (count (j .nodes) (λ k. not (j .input k) && isXorY (j .measured k)))) (allBelow (j .nodes) (λ k. not (eqb (j .measured k) planeYZ || isYorZ (j .measured k)))) p)
     where
-      go : T (leb 2 (count (j .nodes) (λ k. not (j .input k) && isXorY (j .measured k)))) ⊎ T (allBelow (j .nodes) (λ k. not (eqb (j .measured k) planeYZ || isYorZ (j .measured k)))) → Column true gone
+      go : T (leb 2 (count (j .nodes) (λ k. not (j .input k) && isXorY (j .measured k)))) ⊎ T (allBelow (j .nodes) (λ k. not (eqb (j .measured k) planeYZ || isYorZ (j .measured k)))) → Column true later
       go (inl t) =
           let (k, l, a, d) = other (j .nodes) (λ k. not (j .input k) && isXorY (j .measured k)) (leb→le 2 (count (j .nodes) (λ k. not (j .input k) && isXorY (j .measured k))) t) u in
-          any-in (j .nodes) (contextAt j true gone u .column) k l
-          (and-in ((gone k || isXorY (j .measured k)) && not (j .input k)) (not (eqb k u))
-          (and-in (gone k || isXorY (j .measured k)) (not (j .input k)) (or-r (gone k) (isXorY (j .measured k)) (and-r (not (j .input k)) (isXorY (j .measured k)) a)) (and-l (not (j .input k)) (isXorY (j .measured k)) a))
+          any-in (j .nodes) (contextAt j true later u .column) k l
+          (and-in ((later k || isXorY (j .measured k)) && not (j .input k)) (not (eqb k u))
+          (and-in (later k || isXorY (j .measured k)) (not (j .input k)) (or-r (later k) (isXorY (j .measured k)) (and-r (not (j .input k)) (isXorY (j .measured k)) a)) (and-l (not (j .input k)) (isXorY (j .measured k)) a))
           (not-in (eqb k u) d))
-      go (inr t) = by-odd true gone set ok (not-out (eqb (j .measured u) planeYZ || isYorZ (j .measured u)) (all-out (j .nodes) (λ k. not (eqb (j .measured k) planeYZ || isYorZ (j .measured k))) t u h))
+      go (inr t) = by-odd true later set ok (not-out (eqb (j .measured u) planeYZ || isYorZ (j .measured u)) (all-out (j .nodes) (λ k. not (eqb (j .measured k) planeYZ || isYorZ (j .measured k))) t u h))
 
-  -- under the premise a node with a right set has a column
-  pub column-left : (pauli : Bool) → (pauli ≡ false → j .measured u ≤ 3) → T (premiseAt j pauli) → (gone set : ℕ → Bool) → Gone j pauli gone → Ok j pauli gone set u → Column pauli gone
-  column-left true low p gone set g ok = paulis-column gone set p ok
-  column-left false low p gone set g ok = planes-column gone set (low refl) p g ok
+  column-left : (pauli : Bool) → (pauli ≡ false → j .measured u ≤ 3) → T (premiseAt j pauli) → (later set : ℕ → Bool) → (pauli ≡ false → OutputsLater later) → T (corrects j pauli later set u) → Column pauli later
+  column-left true low p later set g c = paulis-column later set p c
+  column-left false low p later set g c = planes-column later set (low refl) p (g refl) c
+
+  -- under the premise a node with a right set is solved; for planes that wants the outputs later
+  pub premise-complete : (pauli : Bool) → (pauli ≡ false → j .measured u ≤ 3) → T (premiseAt j pauli) → (later set : ℕ → Bool) → (pauli ≡ false → OutputsLater later) → T (corrects j pauli later set u) → T (isSome (tryAt j pauli later u))
+  premise-complete pauli low p later set g c = try-complete j pauli later u h measured (column-left pauli low p later set g c) set c

@@ -1,4 +1,4 @@
--- A search depends on the nodes below n only: progress that agrees there goes on to agree.
+-- The searches of specs/Search depend on the nodes below n only: progress that agrees there goes on to agree.
 use Prim.Native.Nat.{ℕ, zero, suc, _+_, _<_}
 use mathlib.Core.Path.{_≡_, refl, sym, ap, ap₂, _∙_}
 use mathlib.Core.Bool.{Bool, true, false, cond, not, _||_}
@@ -9,8 +9,7 @@ use Rattle.flows.specs.Job.{Job}
 use Rattle.flows.specs.Search.{Progress, solvedNow, round, rounds}
 use Rattle.flows.specs.Planes as Planes
 use Rattle.flows.specs.Paulis as Paulis
-use Rattle.flows.proofs.Tries.{node-ext}
-use Rattle.flows.proofs.Flows.{try-ext}
+use Rattle.flows.proofs.Tries.{node-ext, try-ext}
 
 pub record SameProgress (n : ℕ) (s t : Progress) : Type 0 where
   pub solved : (u : ℕ) → u < n → s .solved u ≡ t .solved u
@@ -35,7 +34,7 @@ round-agree n f g e r s t h = record {
 
 pub rounds-agree : (stops : Progress → Bool) (try : (ℕ → Bool) → ℕ → Option (ℕ → Bool)) (n : ℕ)
     → ((s t : Progress) → SameProgress n s t → stops s ≡ stops t)
-    → ((gone gone′ : ℕ → Bool) → ((v : ℕ) → v < n → gone v ≡ gone′ v) → (u : ℕ) → u < n → try gone u ≡ try gone′ u)
+    → ((later later′ : ℕ → Bool) → ((v : ℕ) → v < n → later v ≡ later′ v) → (u : ℕ) → u < n → try later u ≡ try later′ u)
     → (k r : ℕ) (s t : Progress) → SameProgress n s t → SameProgress n (rounds stops try n k r s) (rounds stops try n k r t)
 unfolding rounds
 rounds-agree stops try n p q zero r s t h = h
@@ -52,14 +51,14 @@ rounds-agree stops try n p q (suc k) r s t h = go (stops s) (stops t) (p s t h) 
     go false b e false d f ih = rw (← e, ← f) h
 
 -- ---- both searches
-pub planes-try-ext : (j : Job) (gone gone′ : ℕ → Bool) → ((v : ℕ) → v < j .nodes → gone v ≡ gone′ v) → (u : ℕ) → u < j .nodes → Planes.try j gone u ≡ Planes.try j gone′ u
-planes-try-ext j gone gone′ e u l =
-    node-ext j (Planes.context j gone) (Planes.context j gone′) (record { column = λ k m. rw (e k m); upper = λ v m. rw (e v m); lower = λ v m. refl }) u
+pub planes-try-ext : (j : Job) (later later′ : ℕ → Bool) → ((v : ℕ) → v < j .nodes → later v ≡ later′ v) → (u : ℕ) → u < j .nodes → Planes.try j later u ≡ Planes.try j later′ u
+planes-try-ext j later later′ e u l =
+    node-ext j (Planes.context j later) (Planes.context j later′) (record { column = λ k m. rw (e k m); upper = λ v m. rw (e v m); lower = λ v m. refl }) u
 
 pub planes-stops-ext : (j : Job) (s t : Progress) → SameProgress (j .nodes) s t → Planes.stops j s ≡ Planes.stops j t
 planes-stops-ext j s t h =
     ap₂ _||_ (all-ext (j .nodes) (s .solved) (t .solved) (h .solved))
     (ap not (any-ext (j .nodes) (Planes.context j (s .solved) .column) (Planes.context j (t .solved) .column) (λ k l. rw (h .solved k l))))
 
-pub paulis-try-ext : (j : Job) (gone gone′ : ℕ → Bool) → ((v : ℕ) → v < j .nodes → gone v ≡ gone′ v) → (u : ℕ) → u < j .nodes → Paulis.try j gone u ≡ Paulis.try j gone′ u
-paulis-try-ext j gone gone′ e u l = try-ext j true gone gone′ e u
+pub paulis-try-ext : (j : Job) (later later′ : ℕ → Bool) → ((v : ℕ) → v < j .nodes → later v ≡ later′ v) → (u : ℕ) → u < j .nodes → Paulis.try j later u ≡ Paulis.try j later′ u
+paulis-try-ext j later later′ e u l = try-ext j true later later′ e u

@@ -2,7 +2,7 @@
 -- layer.
 use Prim.Native.Nat.{ℕ, zero, suc, _+_, _≤_, _<_}
 use mathlib.Core.Path.{_≡_, refl, sym, ap, ap₂, _∙_, fun-ext}
-use mathlib.Core.Bool.{Bool, false, cond, not, _&&_, _||_}
+use mathlib.Core.Bool.{Bool, true, false, cond, not, _&&_, _||_}
 use mathlib.Core.Logic.{_⊎_, inl, inr}
 use mathlib.Core.Option.{Option, none, some}
 use native.Mathlib.Omega.{arith}
@@ -13,7 +13,7 @@ use Rattle.nodes.proofs.Logic.{is-true, is-false, from-false, dec, and-l, and-r
 use Rattle.nodes.proofs.Row.{any-in, any-out, any-none, ltb-no}
 use Rattle.nodes.proofs.Count.{Within, count-pos, grows}
 use Rattle.nodes.specs.Options.{isSome}
-use Rattle.flows.specs.Search.{Progress, noNode, orNone, start, solvedNow, round, rounds}
+use Rattle.flows.specs.Search.{Progress, noNode, orNone, start, solvedNow, round, rounds, laterThan}
 
 abbrev pub never : Progress → Bool
 never s = false
@@ -86,6 +86,45 @@ module _ (stops : Progress → Bool) (try : (ℕ → Bool) → ℕ → Option (�
       go (inl (e, p)) ih = rw p e
       go (inr (t, p)) ih = let l = fewer r s t in rw p (ih (r + 1) (after r s) (omega arith))
 
+  -- where a round solves nothing the search has ended, whatever the bound
+  pub rounds-idle : (k r : ℕ) (s : Progress) → anyBelow n (solvedNow (try (s .solved)) s) ≡ false → rounds stops try n k r s ≡ s
+  unfolding rounds
+  rounds-idle zero r s e = refl
+  rounds-idle (suc k) r s e = rw e (either (stops s))
+    where
+      either : (c : Bool) → cond c s s ≡ s
+      either true = refl
+      either false = refl
+
+  -- any bound that the unsolved nodes do not exceed gives the same
+  pub rounds-enough : (k m r : ℕ) (s : Progress) → count n (λ u. not (s .solved u)) ≤ k → count n (λ u. not (s .solved u)) ≤ m → rounds stops try n k r s ≡ rounds stops try n m r s
+  unfolding rounds
+  rounds-enough zero m r s c d = sym (rounds-idle m r s (any-none n (solvedNow (try (s .solved)) s) (λ u l t. fresh-open (try (s .solved)) s u (none-left s c u l) t)))
+  rounds-enough (suc k) zero r s c d = rounds-idle (suc k) r s (any-none n (solvedNow (try (s .solved)) s) (λ u l t. fresh-open (try (s .solved)) s u (none-left s d u l) t))
+  rounds-enough (suc k) (suc m) r s c d = go (dec (anyBelow n (solvedNow (try (s .solved)) s))) (rounds-enough k m)
+    where
+      go : T (anyBelow n (solvedNow (try (s .solved)) s)) ⊎ (T (anyBelow n (solvedNow (try (s .solved)) s)) → ⊥)
+          → ((r : ℕ) (s : Progress) → count n (λ u. not (s .solved u)) ≤ k → count n (λ u. not (s .solved u)) ≤ m → rounds stops try n k r s ≡ rounds stops try n m r s)
+          → rounds stops try n (suc k) r s ≡ rounds stops try n (suc m) r s
+      go (inl t) ih = let l = fewer r s t in rw (ih (r + 1) (after r s) (omega arith) (omega arith))
+      go (inr f) ih = rounds-idle (suc k) r s (is-false _ f) ∙ sym (rounds-idle (suc m) r s (is-false _ f))
+
+  -- k rounds from r on give no node a layer from r + k on, solved or not
+  pub layers-below : (k r : ℕ) (s : Progress) → ((u : ℕ) → s .layer u < r) → (u : ℕ) → rounds stops try n k r s .layer u < r + k
+  unfolding rounds
+  layers-below zero r s h u = omega (arith, h u)
+  layers-below (suc k) r s h u = go (rounds-step k r s) (layers-below k)
+    where
+      kept : (c : Bool) (a : ℕ) → a < r → cond c r a < r + 1
+      kept true a l = omega arith
+      kept false a l = omega arith
+
+      go : (Ended s × (rounds stops try n (suc k) r s ≡ s))
+          ⊎ (T (anyBelow n (solvedNow (try (s .solved)) s)) × (rounds stops try n (suc k) r s ≡ rounds stops try n k (r + 1) (after r s)))
+          → ((r : ℕ) (s : Progress) → ((u : ℕ) → s .layer u < r) → (u : ℕ) → rounds stops try n k r s .layer u < r + k) → rounds stops try n (suc k) r s .layer u < r + suc k
+      go (inl (e, p)) ih = rw p (omega (arith, h u))
+      go (inr (t, p)) ih = rw p (omega (arith, ih (r + 1) (after r s) (λ v. kept (solvedNow (try (s .solved)) s v) (s .layer v) (h v)) u))
+
 -- only the tries of unsolved nodes count
 pub now-ext : (f g : ℕ → Option (ℕ → Bool)) (s : Progress) → ((u : ℕ) → (T (s .solved u) → ⊥) → f u ≡ g u) → solvedNow f s ≡ solvedNow g s
 now-ext f g s h = fun-ext (λ u. go u (dec (s .solved u)))
@@ -124,11 +163,11 @@ rounds-pass stops try pass n idle same (suc k) r s = go (dec (stops s)) (rounds-
 
 -- ---- what is solved was solved by a try
 module _ (n : ℕ) (output : ℕ → Bool) (try : (ℕ → Bool) → ℕ → Option (ℕ → Bool)) (first : ℕ) where
-  -- u's set is what a try gave it when just the solved nodes of smaller layers were gone
+  -- u's set is what a try gave it when just the solved nodes of smaller layers were later
   pub record Tried (s : Progress) (u : ℕ) : Type 0 where
-    pub gone : ℕ → Bool
-    pub later : (v : ℕ) → v < n → gone v ≡ (s .solved v && ltb (s .layer v) (s .layer u))
-    pub gave : try gone u ≡ some (s .set u)
+    pub later : ℕ → Bool
+    pub smaller : (v : ℕ) → v < n → later v ≡ (s .solved v && ltb (s .layer v) (s .layer u))
+    pub gave : try later u ≡ some (s .set u)
 
   -- the progress before round r, where `first` was the first round
   pub record Searched (r : ℕ) (s : Progress) : Type 0 where
@@ -139,65 +178,65 @@ module _ (n : ℕ) (output : ℕ → Bool) (try : (ℕ → Bool) → ℕ → Opt
     pub above : (u : ℕ) → u < n → (T (output u) → ⊥) → T (s .solved u) → first ≤ s .layer u
     pub tried : (u : ℕ) → u < n → (T (output u) → ⊥) → T (s .solved u) → Tried s u
 
-  -- round r, in which the nodes that are gone are those of smaller layers
-  module _ (gone : ℕ → Bool) (r : ℕ) (from : first ≤ r) (s : Progress) (g : Searched (suc r) s) (past : (v : ℕ) → v < n → gone v ≡ (s .solved v && ltb (s .layer v) r)) where
+  -- round r, in which the later nodes are those of smaller layers
+  module _ (later : ℕ → Bool) (r : ℕ) (from : first ≤ r) (s : Progress) (g : Searched (suc r) s) (past : (v : ℕ) → v < n → later v ≡ (s .solved v && ltb (s .layer v) r)) where
     abbrev next : Progress
-    next = round (try gone) r s
+    next = round (try later) r s
 
     kept-layer : (u : ℕ) → T (s .solved u) → next .layer u ≡ s .layer u
-    kept-layer u t = cond-f (solvedNow (try gone) s u) r (s .layer u) (fresh-open (try gone) s u t)
+    kept-layer u t = cond-f (solvedNow (try later) s u) r (s .layer u) (fresh-open (try later) s u t)
 
     kept-set : (u : ℕ) → T (s .solved u) → next .set u ≡ s .set u
-    kept-set u t = cond-f (solvedNow (try gone) s u) (orNone (try gone u)) (s .set u) (fresh-open (try gone) s u t)
+    kept-set u t = cond-f (solvedNow (try later) s u) (orNone (try later u)) (s .set u) (fresh-open (try later) s u t)
 
-    new-layer : (u : ℕ) → T (solvedNow (try gone) s u) → next .layer u ≡ r
-    new-layer u f = cond-t (solvedNow (try gone) s u) r (s .layer u) f
+    new-layer : (u : ℕ) → T (solvedNow (try later) s u) → next .layer u ≡ r
+    new-layer u f = cond-t (solvedNow (try later) s u) r (s .layer u) f
 
-    new-set : (u : ℕ) → T (solvedNow (try gone) s u) → next .set u ≡ orNone (try gone u)
-    new-set u f = cond-t (solvedNow (try gone) s u) (orNone (try gone u)) (s .set u) f
+    new-set : (u : ℕ) → T (solvedNow (try later) s u) → next .set u ≡ orNone (try later u)
+    new-set u f = cond-t (solvedNow (try later) s u) (orNone (try later u)) (s .set u) f
 
     still : (v : ℕ) → T (s .solved v) → T (next .solved v)
-    still v t = or-l (s .solved v) (solvedNow (try gone) s v) t
+    still v t = or-l (s .solved v) (solvedNow (try later) s v) t
 
     -- nodes of layers below l, which is at most r, are as they were
     same-past : (l v : ℕ) → l ≤ r → (next .solved v && ltb (next .layer v) l) ≡ (s .solved v && ltb (s .layer v) l)
-    same-past l v h = go (dec (s .solved v)) (dec (solvedNow (try gone) s v))
+    same-past l v h = go (dec (s .solved v)) (dec (solvedNow (try later) s v))
       where
-        go : T (s .solved v) ⊎ (T (s .solved v) → ⊥) → T (solvedNow (try gone) s v) ⊎ (T (solvedNow (try gone) s v) → ⊥)
+        go : T (s .solved v) ⊎ (T (s .solved v) → ⊥) → T (solvedNow (try later) s v) ⊎ (T (solvedNow (try later) s v) → ⊥)
             → (next .solved v && ltb (next .layer v) l) ≡ (s .solved v && ltb (s .layer v) l)
         go (inl t) d = rw (kept-layer v t, is-true (s .solved v) t)
         go (inr f) (inl q) = rw (new-layer v q, ltb-no r l h, and-none (next .solved v), is-false (s .solved v) f)
-        go (inr f) (inr m) = rw (is-false (solvedNow (try gone) s v) m, is-false (s .solved v) f)
+        go (inr f) (inr m) = rw (is-false (solvedNow (try later) s v) m, is-false (s .solved v) f)
 
     pub step : Searched (suc r) next
     step = record {
       outputs = λ u o. still u (g .outputs u o);
       output-layer = λ u o. kept-layer u (g .outputs u o) ∙ g .output-layer u o;
       output-set = λ u o. kept-set u (g .outputs u o) ∙ g .output-set u o;
-      below = λ u l t. below′ u l (or-out (s .solved u) (solvedNow (try gone) s u) t);
-      above = λ u l o t. above′ u l o (or-out (s .solved u) (solvedNow (try gone) s u) t);
-      tried = λ u l o t. tried′ u l o (or-out (s .solved u) (solvedNow (try gone) s u) t);
+      below = λ u l t. below′ u l (or-out (s .solved u) (solvedNow (try later) s u) t);
+      above = λ u l o t. above′ u l o (or-out (s .solved u) (solvedNow (try later) s u) t);
+      tried = λ u l o t. tried′ u l o (or-out (s .solved u) (solvedNow (try later) s u) t);
     }
       where
-        below′ : (u : ℕ) → u < n → T (s .solved u) ⊎ T (solvedNow (try gone) s u) → next .layer u < suc r
+        below′ : (u : ℕ) → u < n → T (s .solved u) ⊎ T (solvedNow (try later) s u) → next .layer u < suc r
         below′ u l (inl t) = rw (kept-layer u t) (g .below u l t)
         below′ u l (inr f) = rw (new-layer u f) (lt-suc-self r)
 
-        above′ : (u : ℕ) → u < n → (T (output u) → ⊥) → T (s .solved u) ⊎ T (solvedNow (try gone) s u) → first ≤ next .layer u
+        above′ : (u : ℕ) → u < n → (T (output u) → ⊥) → T (s .solved u) ⊎ T (solvedNow (try later) s u) → first ≤ next .layer u
         above′ u l o (inl t) = rw (kept-layer u t) (g .above u l o t)
         above′ u l o (inr f) = rw (new-layer u f) from
 
-        tried′ : (u : ℕ) → u < n → (T (output u) → ⊥) → T (s .solved u) ⊎ T (solvedNow (try gone) s u) → Tried next u
+        tried′ : (u : ℕ) → u < n → (T (output u) → ⊥) → T (s .solved u) ⊎ T (solvedNow (try later) s u) → Tried next u
         tried′ u l o (inl t) =
             let p = g .tried u l o t in record {
-              gone = p .gone;
-              later = λ v m. p .later v m ∙ sym (ap (λ (q : ℕ). next .solved v && ltb (next .layer v) q) (kept-layer u t) ∙ same-past (s .layer u) v (le-of-suc-le-suc (g .below u l t)));
+              later = p .later;
+              smaller = λ v m. p .smaller v m ∙ sym (ap (λ (q : ℕ). next .solved v && ltb (next .layer v) q) (kept-layer u t) ∙ same-past (s .layer u) v (le-of-suc-le-suc (g .below u l t)));
               gave = p .gave ∙ ap some (sym (kept-set u t));
             }
         tried′ u l o (inr f) = record {
-          gone = gone;
-          later = λ v m. past v m ∙ sym (ap (λ (q : ℕ). next .solved v && ltb (next .layer v) q) (new-layer u f) ∙ same-past r v (omega arith));
-          gave = some-of (try gone u) (and-r (not (s .solved u)) (isSome (try gone u)) f) ∙ ap some (sym (new-set u f));
+          later = later;
+          smaller = λ v m. past v m ∙ sym (ap (λ (q : ℕ). next .solved v && ltb (next .layer v) q) (new-layer u f) ∙ same-past r v (omega arith));
+          gave = some-of (try later u) (and-r (not (s .solved u)) (isSome (try later u)) f) ∙ ap some (sym (new-set u f));
         }
 
   pub searched-start : Searched 1 (start output)
@@ -244,19 +283,14 @@ module _ (n : ℕ) (output : ℕ → Bool) (try : (ℕ → Bool) → ℕ → Opt
       go (inr (t, p)) ih =
           rw (p, ← shift r k) (ih (r + 1) (omega arith) (round (try (s .solved)) r s) (rw (← suc-one r) (step (s .solved) r from s (later-bound r s g) (all-past r s g))))
 
--- ---- no right layering has a smaller layer: over any question Ok of a node's set that depends on which nodes are later
+-- ---- no layering has a smaller layer: over any try that still gives a set where more nodes are later
 module _
     (n : ℕ)
     (output : ℕ → Bool)
     (try : (ℕ → Bool) → ℕ → Option (ℕ → Bool))
-    (Ok : (ℕ → Bool) → (ℕ → Bool) → ℕ → Type 0)
-    (more : (s t : ℕ → Bool) → Within n s t → (x : ℕ → Bool) (u : ℕ) → Ok s x u → Ok t x u)
-    (Gone : (ℕ → Bool) → Type 0)
-    (all-gone : (gone : ℕ → Bool) → ((v : ℕ) → v < n → T (output v) → T (gone v)) → Gone gone)
-    (complete : (gone x : ℕ → Bool) (u : ℕ) → u < n → (T (output u) → ⊥) → Gone gone → Ok gone x u → T (isSome (try gone u)))
+    (monotone : (s t : ℕ → Bool) → Within n s t → (u : ℕ) → u < n → (T (output u) → ⊥) → T (isSome (try s u)) → T (isSome (try t u)))
     (layer : ℕ → ℕ)
-    (set : ℕ → ℕ → Bool)
-    (flow : (u : ℕ) → u < n → (T (output u) → ⊥) → Ok (λ v. ltb (layer v) (layer u)) (set u) u)
+    (solvable : (u : ℕ) → u < n → (T (output u) → ⊥) → T (isSome (try (laterThan layer u) u)))
   where
     -- before round r: every node of a smaller layer is solved, and no solved node has a larger layer
     pub record SmallestTill (r : ℕ) (s : Progress) : Type 0 where
@@ -269,30 +303,30 @@ module _
       pub all : (u : ℕ) → u < n → T (s .solved u)
       pub smallest : (u : ℕ) → u < n → s .layer u ≤ layer u
 
-    -- an unsolved node all of whose smaller layers are gone is solved
-    pub can : (gone : ℕ → Bool) (s : Progress) (u : ℕ) → u < n → (T (output u) → T (s .solved u)) → Gone gone → Within n (λ v. ltb (layer v) (layer u)) gone → (T (s .solved u) → ⊥) → T (solvedNow (try gone) s u)
-    can gone s u l outs q w f =
-        and-in (not (s .solved u)) (isSome (try gone u)) (not-in (s .solved u) f)
-        (complete gone (set u) u l (λ o. f (outs o)) q (more (λ v. ltb (layer v) (layer u)) gone w (set u) u (flow u l (λ o. f (outs o)))))
+    -- an unsolved node is solved where all of smaller layers are later
+    pub can : (later : ℕ → Bool) (s : Progress) (u : ℕ) → u < n → (T (output u) → T (s .solved u)) → Within n (laterThan layer u) later → (T (s .solved u) → ⊥) → T (solvedNow (try later) s u)
+    can later s u l outs w f =
+        and-in (not (s .solved u)) (isSome (try later u)) (not-in (s .solved u) f)
+        (monotone (laterThan layer u) later w u l (λ o. f (outs o)) (solvable u l (λ o. f (outs o))))
 
-    pub step-smallest : (gone : ℕ → Bool) (r : ℕ) (s : Progress) → SmallestTill r s → ((v : ℕ) → v < n → layer v < r → T (gone v)) → Gone gone → SmallestTill (suc r) (round (try gone) r s)
-    step-smallest gone r s b past ready = record {
-      outputs = λ u l o. or-l (s .solved u) (solvedNow (try gone) s u) (b .outputs u l o);
+    pub step-smallest : (later : ℕ → Bool) (r : ℕ) (s : Progress) → SmallestTill r s → ((v : ℕ) → v < n → layer v < r → T (later v)) → SmallestTill (suc r) (round (try later) r s)
+    step-smallest later r s b past = record {
+      outputs = λ u l o. or-l (s .solved u) (solvedNow (try later) s u) (b .outputs u l o);
       solved = λ u l h. solved′ u l h (dec (s .solved u));
-      smallest = λ u l t. smallest′ u l (dec (solvedNow (try gone) s u)) (or-out (s .solved u) (solvedNow (try gone) s u) t) (le-or-lt r (layer u));
+      smallest = λ u l t. smallest′ u l (dec (solvedNow (try later) s u)) (or-out (s .solved u) (solvedNow (try later) s u) t) (le-or-lt r (layer u));
     }
       where
-        solved′ : (u : ℕ) → u < n → layer u < suc r → T (s .solved u) ⊎ (T (s .solved u) → ⊥) → T (s .solved u || solvedNow (try gone) s u)
-        solved′ u l h (inl t) = or-l (s .solved u) (solvedNow (try gone) s u) t
+        solved′ : (u : ℕ) → u < n → layer u < suc r → T (s .solved u) ⊎ (T (s .solved u) → ⊥) → T (s .solved u || solvedNow (try later) s u)
+        solved′ u l h (inl t) = or-l (s .solved u) (solvedNow (try later) s u) t
         solved′ u l h (inr f) =
-            or-r (s .solved u) (solvedNow (try gone) s u)
-            (can gone s u l (b .outputs u l) ready (λ v m d. let e : layer v < layer u = ltb→lt (layer v) (layer u) d in past v m (omega arith)) f)
+            or-r (s .solved u) (solvedNow (try later) s u)
+            (can later s u l (b .outputs u l) (λ v m d. let e : layer v < layer u = ltb→lt (layer v) (layer u) d in past v m (omega arith)) f)
 
-        smallest′ : (u : ℕ) → u < n → T (solvedNow (try gone) s u) ⊎ (T (solvedNow (try gone) s u) → ⊥) → T (s .solved u) ⊎ T (solvedNow (try gone) s u) → (r ≤ layer u) ⊎ (layer u < r)
-            → cond (solvedNow (try gone) s u) r (s .layer u) ≤ layer u
-        smallest′ u l (inl f) q (inl h) = rw (cond-t (solvedNow (try gone) s u) r (s .layer u) f) h
-        smallest′ u l (inl f) q (inr h) = absurd (fresh-open (try gone) s u (b .solved u l h) f)
-        smallest′ u l (inr m) (inl t) h = rw (cond-f (solvedNow (try gone) s u) r (s .layer u) m) (b .smallest u l t)
+        smallest′ : (u : ℕ) → u < n → T (solvedNow (try later) s u) ⊎ (T (solvedNow (try later) s u) → ⊥) → T (s .solved u) ⊎ T (solvedNow (try later) s u) → (r ≤ layer u) ⊎ (layer u < r)
+            → cond (solvedNow (try later) s u) r (s .layer u) ≤ layer u
+        smallest′ u l (inl f) q (inl h) = rw (cond-t (solvedNow (try later) s u) r (s .layer u) f) h
+        smallest′ u l (inl f) q (inr h) = absurd (fresh-open (try later) s u (b .solved u l h) f)
+        smallest′ u l (inr m) (inl t) h = rw (cond-f (solvedNow (try later) s u) r (s .layer u) m) (b .smallest u l t)
         smallest′ u l (inr m) (inr f) h = absurd (m f)
 
     -- a round that solves nothing is a fixpoint: by induction on a bound for the layer, all is solved
@@ -305,7 +339,7 @@ module _
         go (inr g) ih =
             absurd
             (f (any-in n (solvedNow (try (s .solved)) s) u l
-            (can (s .solved) s u l (b .outputs u l) (all-gone (s .solved) (b .outputs)) (λ v k d. let e : layer v < layer u = ltb→lt (layer v) (layer u) d in ih v k (omega arith)) g)))
+            (can (s .solved) s u l (b .outputs u l) (λ v k d. let e : layer v < layer u = ltb→lt (layer v) (layer u) d in ih v k (omega arith)) g)))
 
     end-smallest : (r : ℕ) (s : Progress) → SmallestTill r s → anyBelow n (solvedNow (try (s .solved)) s) ≡ false → Smallest s
     end-smallest r s b e =
@@ -330,4 +364,4 @@ module _
         go (inl (e, p)) ih = rw p (end-smallest r s b (ended e))
         go (inr (t, p)) ih =
             let l = fewer never try n r s t in
-            rw p (ih (r + 1) (round (try (s .solved)) r s) (rw (← suc-one r) (step-smallest (s .solved) r s b (b .solved) (all-gone (s .solved) (b .outputs)))) (omega arith))
+            rw p (ih (r + 1) (round (try (s .solved)) r s) (rw (← suc-one r) (step-smallest (s .solved) r s b (b .solved))) (omega arith))

@@ -1,4 +1,4 @@
--- The rule of the table of branches: row m lists, in the order XY, YZ, XZ, exactly the branches whose pair 'in its set,
+-- The rule of the table of branches in specs/Branch: row m lists, in the order XY, YZ, XZ, exactly the branches whose pair 'in its set,
 -- in Odd' passes m's own measurement. It is tested over the whole table at once.
 use Prim.Native.Nat.{ℕ, _<_}
 use mathlib.Core.Path.{_≡_, refl}

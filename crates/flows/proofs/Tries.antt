@@ -9,47 +9,35 @@ use native.Mathlib.Omega.{arith}
 use lib.Dec.{T, eqb, ltb, eqb→eq, eqb-refl, ltb→lt, nltb→le}
 use Rattle.nodes.specs.Row.{anyBelow}
 use Rattle.nodes.proofs.Logic.{is-true, is-false, dec, and-l, and-r, and-in, or-l, or-r, or-out, not-in, not-out, eqb-yes, and-all, or-none}
-use Rattle.nodes.proofs.Row.{parity-none, any-in, any-out}
+use Rattle.nodes.proofs.Row.{parity-none, any-in, any-out, any-ext}
+use Rattle.nodes.proofs.Count.{Within}
 use Rattle.nodes.specs.Options.{isSome, firstOf}
 use Rattle.solver.specs.System.{IsAnswer, solve}
 use Rattle.solver.proofs.System.{solve-answer, Agree, solve-ext}
-use Rattle.flows.specs.Job.{Job, odd, own, isXorY, isYorZ, pauliY}
+use Rattle.flows.specs.Job.{Job, odd, own}
 use Rattle.flows.specs.Branch.{Context, inSet, inOdd, branches, systemAt, sideAt, withNode, tryBranch, firstSolvable, tryNode}
 use Rattle.flows.specs.Planes as Planes
-use Rattle.flows.specs.Paulis as Paulis
+use Rattle.flows.specs.Tries.{contextAt, tryAt}
 use Rattle.flows.proofs.Branch.{Fits, fits-some, some-fits}
 use Rattle.nodes.specs.Lists.{has}
 use Rattle.flows.proofs.Table.{branch-own, branchOf, own-branch}
-use Rattle.flows.specs.Conditions.{Ok}
+use Rattle.flows.specs.Conditions.{memberExcused, oddExcused, yAsked, corrects}
+use Rattle.flows.proofs.Conditions.{Corrects, corrects-in, corrects-out, more-later}
 
--- ---- one context: with Paulis the excused nodes are columns from the start and leave the rows
-abbrev pub contextAt : Job → Bool → (ℕ → Bool) → ℕ → Context
-contextAt j pauli gone u = record {
-  column = λ k. ((gone k || (pauli && isXorY (j .measured k))) && not (j .input k)) && not (eqb k u);
-  upper = λ v. (not (gone v) && not (pauli && isYorZ (j .measured v))) || eqb v u;
-  lower = λ v. (not (gone v) && (pauli && eqb (j .measured v) pauliY)) && not (eqb v u);
-}
-
-abbrev pub noColumnAt : Job → Bool → (ℕ → Bool) → ℕ → Bool
-noColumnAt j pauli gone u = not (anyBelow (j .nodes) (contextAt j pauli gone u .column))
-
-abbrev pub tryAt : Job → Bool → (ℕ → Bool) → ℕ → Option (ℕ → Bool)
-tryAt j pauli gone u = let tried = tryNode j (contextAt j pauli gone u) u in cond (noColumnAt j pauli gone u) none tried
-
--- for a node that is not gone, the planes' context is this one
-pub planes-context : (j : Job) (gone : ℕ → Bool) (u : ℕ) → (T (gone u) → ⊥) → contextAt j false gone u ≡ Planes.context j gone
-planes-context j gone u f = make (fun-ext (λ k. column′ k (dec (eqb k u)))) (fun-ext (λ v. upper′ v (dec (eqb v u)))) (fun-ext (λ v. lower′ (not (gone v)) (eqb v u)))
+-- ---- for a node that is not later, the planes' context is the joint one
+pub planes-context : (j : Job) (later : ℕ → Bool) (u : ℕ) → (T (later u) → ⊥) → contextAt j false later u ≡ Planes.context j later
+planes-context j later u f = make (fun-ext (λ k. column′ k (dec (eqb k u)))) (fun-ext (λ v. upper′ v (dec (eqb v u)))) (fun-ext (λ v. lower′ (not (later v)) (eqb v u)))
   where
     make : {a a′ b b′ c c′ : ℕ → Bool} → a ≡ a′ → b ≡ b′ → c ≡ c′ → _≡_ {A = Context} (record { column = a; upper = b; lower = c }) (record { column = a′; upper = b′; lower = c′ })
     make p q r = rw (p, q, r)
 
-    column′ : (k : ℕ) → T (eqb k u) ⊎ (T (eqb k u) → ⊥) → ((gone k || false) && not (j .input k)) && not (eqb k u) ≡ gone k && not (j .input k)
-    column′ k (inl t) = rw (eqb→eq k u t, is-false (gone u) f)
-    column′ k (inr d) = rw (is-false (eqb k u) d, or-none (gone k), and-all (gone k && not (j .input k)))
+    column′ : (k : ℕ) → T (eqb k u) ⊎ (T (eqb k u) → ⊥) → ((later k || false) && not (j .input k)) && not (eqb k u) ≡ later k && not (j .input k)
+    column′ k (inl t) = rw (eqb→eq k u t, is-false (later u) f)
+    column′ k (inr d) = rw (is-false (eqb k u) d, or-none (later k), and-all (later k && not (j .input k)))
 
-    upper′ : (v : ℕ) → T (eqb v u) ⊎ (T (eqb v u) → ⊥) → (not (gone v) && true) || eqb v u ≡ not (gone v)
-    upper′ v (inl t) = rw (eqb→eq v u t, is-false (gone u) f)
-    upper′ v (inr d) = rw (is-false (eqb v u) d, and-all (not (gone v)), or-none (not (gone v)))
+    upper′ : (v : ℕ) → T (eqb v u) ⊎ (T (eqb v u) → ⊥) → (not (later v) && true) || eqb v u ≡ not (later v)
+    upper′ v (inl t) = rw (eqb→eq v u t, is-false (later u) f)
+    upper′ v (inr d) = rw (is-false (eqb v u) d, and-all (not (later v)), or-none (not (later v)))
 
     lower′ : (a b : Bool) → (a && false) && not b ≡ false
     lower′ true b = refl
@@ -141,42 +129,42 @@ branch-answer j c u b set e = go (solve (systemAt j c) (j .nodes) (sideAt j u b)
     go none f e = absurd (Option·none-ne-some _ e)
     go (some x) f e = (x, f x refl, sym (Option·some-injective _ _ e))
 
-module _ (j : Job) (pauli : Bool) (gone : ℕ → Bool) (u : ℕ) where
+module _ (j : Job) (pauli : Bool) (later : ℕ → Bool) (u : ℕ) where
   abbrev here : Context
-  here = contextAt j pauli gone u
+  here = contextAt j pauli later u
 
   abbrev entering : ℕ → Bool
-  entering k = gone k || (pauli && isXorY (j .measured k))
+  entering k = later k || memberExcused j pauli k
 
   pub no-column-u : T (here .column u) → ⊥
   no-column-u t = not-out (eqb u u) (and-r (entering u && not (j .input u)) (not (eqb u u)) t) (eqb-refl u)
 
   no-lower-u : T (here .lower u) → ⊥
-  no-lower-u t = not-out (eqb u u) (and-r (not (gone u) && (pauli && eqb (j .measured u) pauliY)) (not (eqb u u)) t) (eqb-refl u)
+  no-lower-u t = not-out (eqb u u) (and-r (not (later u) && yAsked j pauli u) (not (eqb u u)) t) (eqb-refl u)
 
   is-u : (k : ℕ) → T (eqb k u) → k ≡ u
   is-u k t = eqb→eq k u t
 
   -- a set that fits a branch of u's measurement is right
-  pub fits-ok : (b : ℕ) → T (own (j .measured u) (inSet b) (inOdd b)) → u < j .nodes → (set : ℕ → Bool) → Fits j here u b set → Ok j pauli gone set u
-  fits-ok b t h set f = record {
+  pub fits-corrects : (b : ℕ) → T (own (j .measured u) (inSet b) (inOdd b)) → u < j .nodes → (set : ℕ → Bool) → Fits j here u b set → Corrects j pauli later set u
+  fits-corrects b t h set f = record {
     inputs = λ k l a i. input′ k (f .taken k l a) i;
     members = λ k l a. member′ k (f .taken k l a);
-    odds = λ k l a. odd′ k l a (dec (eqb k u)) (dec (gone k)) (dec (pauli && isYorZ (j .measured k)));
-    ys = λ k l a. y′ k l a (dec (eqb k u)) (dec (gone k));
-    owns = rw (f .self, f .ups u h (or-r (not (gone u) && not (pauli && isYorZ (j .measured u))) (eqb u u) (eqb-refl u)), eqb-yes u) t;
+    odds = λ k l a. odd′ k l a (dec (eqb k u)) (dec (later k)) (dec (oddExcused j pauli k));
+    ys = λ k l a. y′ k l a (dec (eqb k u)) (dec (later k));
+    owns = rw (f .self, f .ups u h (or-r (not (later u) && not (oddExcused j pauli u)) (eqb u u) (eqb-refl u)), eqb-yes u) t;
   }
     where
       input′ : (k : ℕ) → (k ≡ u) ⊎ T (here .column k) → T (j .input k) → k ≡ u
       input′ k (inl e) i = e
       input′ k (inr q) i = absurd (not-out (j .input k) (and-r (entering k) (not (j .input k)) (and-l (entering k && not (j .input k)) (not (eqb k u)) q)) i)
 
-      member′ : (k : ℕ) → (k ≡ u) ⊎ T (here .column k) → (k ≡ u) ⊎ (T (gone k) ⊎ T (pauli && isXorY (j .measured k)))
+      member′ : (k : ℕ) → (k ≡ u) ⊎ T (here .column k) → (k ≡ u) ⊎ (T (later k) ⊎ T (memberExcused j pauli k))
       member′ k (inl e) = inl e
-      member′ k (inr q) = inr (or-out (gone k) (pauli && isXorY (j .measured k)) (and-l (entering k) (not (j .input k)) (and-l (entering k && not (j .input k)) (not (eqb k u)) q)))
+      member′ k (inr q) = inr (or-out (later k) (memberExcused j pauli k) (and-l (entering k) (not (j .input k)) (and-l (entering k && not (j .input k)) (not (eqb k u)) q)))
 
-      odd′ : (k : ℕ) → k < j .nodes → T (odd j set k) → T (eqb k u) ⊎ (T (eqb k u) → ⊥) → T (gone k) ⊎ (T (gone k) → ⊥) → T (pauli && isYorZ (j .measured k)) ⊎ (T (pauli && isYorZ (j .measured k)) → ⊥)
-          → (k ≡ u) ⊎ (T (gone k) ⊎ T (pauli && isYorZ (j .measured k)))
+      odd′ : (k : ℕ) → k < j .nodes → T (odd j set k) → T (eqb k u) ⊎ (T (eqb k u) → ⊥) → T (later k) ⊎ (T (later k) → ⊥) → T (oddExcused j pauli k) ⊎ (T (oddExcused j pauli k) → ⊥)
+          → (k ≡ u) ⊎ (T (later k) ⊎ T (oddExcused j pauli k))
       odd′ k l a (inl e) g y = inl (is-u k e)
       odd′ k l a (inr d) (inl g) y = inr (inl g)
       odd′ k l a (inr d) (inr g) (inl y) = inr (inr y)
@@ -184,96 +172,141 @@ module _ (j : Job) (pauli : Bool) (gone : ℕ → Bool) (u : ℕ) where
           absurd
           (d (and-l (eqb k u) (inOdd b)
           (rw (f .ups k l
-          (or-l (not (gone k) && not (pauli && isYorZ (j .measured k))) (eqb k u)
-          (and-in (not (gone k)) (not (pauli && isYorZ (j .measured k))) (not-in (gone k) g) (not-in (pauli && isYorZ (j .measured k)) y)))) at a)))
+          (or-l (not (later k) && not (oddExcused j pauli k)) (eqb k u)
+          (and-in (not (later k)) (not (oddExcused j pauli k)) (not-in (later k) g) (not-in (oddExcused j pauli k) y)))) at a)))
 
-      y′ : (k : ℕ) → k < j .nodes → T (pauli && eqb (j .measured k) pauliY) → T (eqb k u) ⊎ (T (eqb k u) → ⊥) → T (gone k) ⊎ (T (gone k) → ⊥) → (k ≡ u) ⊎ (T (gone k) ⊎ (odd j set k ≡ set k))
+      y′ : (k : ℕ) → k < j .nodes → T (yAsked j pauli k) → T (eqb k u) ⊎ (T (eqb k u) → ⊥) → T (later k) ⊎ (T (later k) → ⊥) → (k ≡ u) ⊎ (T (later k) ⊎ (odd j set k ≡ set k))
       y′ k l a (inl e) g = inl (is-u k e)
       y′ k l a (inr d) (inl g) = inr (inl g)
       y′ k l a (inr d) (inr g) =
-          inr (inr (f .lows k l (and-in (not (gone k) && (pauli && eqb (j .measured k) pauliY)) (not (eqb k u)) (and-in (not (gone k)) (pauli && eqb (j .measured k) pauliY) (not-in (gone k) g) a) (not-in (eqb k u) d))))
+          inr (inr (f .lows k l (and-in (not (later k) && yAsked j pauli k) (not (eqb k u)) (and-in (not (later k)) (yAsked j pauli k) (not-in (later k) g) a) (not-in (eqb k u) d))))
 
   -- a right set fits the branch of its pair
-  pub ok-fits : (b : ℕ) (set : ℕ → Bool) → Ok j pauli gone set u → set u ≡ inSet b → odd j set u ≡ inOdd b → Fits j here u b set
-  ok-fits b set ok s o = record { taken = taken′; ups = λ v l t. ups′ v l t (dec (eqb v u)); lows = lows′; self = s }
+  pub corrects-fits : (b : ℕ) (set : ℕ → Bool) → Corrects j pauli later set u → set u ≡ inSet b → odd j set u ≡ inOdd b → Fits j here u b set
+  corrects-fits b set holds s o = record { taken = taken′; ups = λ v l t. ups′ v l t (dec (eqb v u)); lows = lows′; self = s }
     where
       taken′ : (k : ℕ) → k < j .nodes → T (set k) → (k ≡ u) ⊎ T (here .column k)
-      taken′ k l t = go (dec (eqb k u)) (ok .members k l t)
+      taken′ k l t = go (dec (eqb k u)) (holds .members k l t)
         where
           column′ : (T (eqb k u) → ⊥) → T (entering k) → T (here .column k)
           column′ d a =
               and-in (entering k && not (j .input k)) (not (eqb k u))
-              (and-in (entering k) (not (j .input k)) a (not-in (j .input k) (λ i. d (rw (ok .inputs k l t i) (eqb-refl u)))))
+              (and-in (entering k) (not (j .input k)) a (not-in (j .input k) (λ i. d (rw (holds .inputs k l t i) (eqb-refl u)))))
               (not-in (eqb k u) d)
 
-          go : T (eqb k u) ⊎ (T (eqb k u) → ⊥) → (k ≡ u) ⊎ (T (gone k) ⊎ T (pauli && isXorY (j .measured k))) → (k ≡ u) ⊎ T (here .column k)
+          go : T (eqb k u) ⊎ (T (eqb k u) → ⊥) → (k ≡ u) ⊎ (T (later k) ⊎ T (memberExcused j pauli k)) → (k ≡ u) ⊎ T (here .column k)
           go (inl e) q = inl (is-u k e)
           go (inr d) (inl e) = inl e
-          go (inr d) (inr (inl g)) = inr (column′ d (or-l (gone k) (pauli && isXorY (j .measured k)) g))
-          go (inr d) (inr (inr m)) = inr (column′ d (or-r (gone k) (pauli && isXorY (j .measured k)) m))
+          go (inr d) (inr (inl g)) = inr (column′ d (or-l (later k) (memberExcused j pauli k) g))
+          go (inr d) (inr (inr m)) = inr (column′ d (or-r (later k) (memberExcused j pauli k) m))
 
       ups′ : (v : ℕ) → v < j .nodes → T (here .upper v) → T (eqb v u) ⊎ (T (eqb v u) → ⊥) → odd j set v ≡ eqb v u && inOdd b
       ups′ v l t (inl e) = rw (is-u v e, eqb-yes u) o
-      ups′ v l t (inr d) = rw (is-false (eqb v u) d) (is-false (odd j set v) (λ a. by (ok .odds v l a)))
+      ups′ v l t (inr d) = rw (is-false (eqb v u) d) (is-false (odd j set v) (λ a. by (holds .odds v l a)))
         where
-          asked : T (not (gone v) && not (pauli && isYorZ (j .measured v)))
-          asked = rw (is-false (eqb v u) d, or-none (not (gone v) && not (pauli && isYorZ (j .measured v)))) at t
+          asked : T (not (later v) && not (oddExcused j pauli v))
+          asked = rw (is-false (eqb v u) d, or-none (not (later v) && not (oddExcused j pauli v))) at t
 
-          by : (v ≡ u) ⊎ (T (gone v) ⊎ T (pauli && isYorZ (j .measured v))) → ⊥
+          by : (v ≡ u) ⊎ (T (later v) ⊎ T (oddExcused j pauli v)) → ⊥
           by (inl e) = d (rw e (eqb-refl u))
-          by (inr (inl g)) = not-out (gone v) (and-l (not (gone v)) (not (pauli && isYorZ (j .measured v))) asked) g
-          by (inr (inr m)) = not-out (pauli && isYorZ (j .measured v)) (and-r (not (gone v)) (not (pauli && isYorZ (j .measured v))) asked) m
+          by (inr (inl g)) = not-out (later v) (and-l (not (later v)) (not (oddExcused j pauli v)) asked) g
+          by (inr (inr m)) = not-out (oddExcused j pauli v) (and-r (not (later v)) (not (oddExcused j pauli v)) asked) m
 
       lows′ : (v : ℕ) → v < j .nodes → T (here .lower v) → odd j set v ≡ set v
-      lows′ v l t = by (ok .ys v l (and-r (not (gone v)) (pauli && eqb (j .measured v) pauliY) asked))
+      lows′ v l t = by (holds .ys v l (and-r (not (later v)) (yAsked j pauli v) asked))
         where
-          asked : T (not (gone v) && (pauli && eqb (j .measured v) pauliY))
-          asked = and-l (not (gone v) && (pauli && eqb (j .measured v) pauliY)) (not (eqb v u)) t
+          asked : T (not (later v) && yAsked j pauli v)
+          asked = and-l (not (later v) && yAsked j pauli v) (not (eqb v u)) t
 
-          by : (v ≡ u) ⊎ (T (gone v) ⊎ (odd j set v ≡ set v)) → odd j set v ≡ set v
-          by (inl e) = absurd (not-out (eqb v u) (and-r (not (gone v) && (pauli && eqb (j .measured v) pauliY)) (not (eqb v u)) t) (rw e (eqb-refl u)))
-          by (inr (inl g)) = absurd (not-out (gone v) (and-l (not (gone v)) (pauli && eqb (j .measured v) pauliY) asked) g)
+          by : (v ≡ u) ⊎ (T (later v) ⊎ (odd j set v ≡ set v)) → odd j set v ≡ set v
+          by (inl e) = absurd (not-out (eqb v u) (and-r (not (later v) && yAsked j pauli v) (not (eqb v u)) t) (rw e (eqb-refl u)))
+          by (inr (inl g)) = absurd (not-out (later v) (and-l (not (later v)) (yAsked j pauli v) asked) g)
           by (inr (inr e)) = e
 
-  passed-over : (set : ℕ → Bool) → tryAt j pauli gone u ≡ some set → tryNode j here u ≡ some set
-  passed-over set e = go (noColumnAt j pauli gone u) e
+  -- ---- a column, where none is passed over
+  passed-over : (set : ℕ → Bool) → tryAt j pauli later u ≡ some set → T (anyBelow (j .nodes) (here .column)) × (tryNode j here u ≡ some set)
+  passed-over set e = go (anyBelow (j .nodes) (here .column)) e
     where
-      go : (c : Bool) → cond c none (tryNode j here u) ≡ some set → tryNode j here u ≡ some set
-      go true e = absurd (Option·none-ne-some _ e)
-      go false e = e
+      go : (c : Bool) → cond (not c) none (tryNode j here u) ≡ some set → T c × (tryNode j here u ≡ some set)
+      go true e = (tt, e)
+      go false e = absurd (Option·none-ne-some _ e)
 
-  pub try-first : (set : ℕ → Bool) → tryAt j pauli gone u ≡ some set → FirstOf j here u (branches (j .measured u)) set
-  try-first set e = first-of j here u (branches (j .measured u)) set (passed-over set e)
+  pub try-first : (set : ℕ → Bool) → tryAt j pauli later u ≡ some set → FirstOf j here u (branches (j .measured u)) set
+  try-first set e = first-of j here u (branches (j .measured u)) set (passed-over set e .1)
 
-  pub try-sound : u < j .nodes → j .measured u < 7 → (set : ℕ → Bool) → tryAt j pauli gone u ≡ some set → Ok j pauli gone set u
-  try-sound h m set e =
-      let f = try-first set e in
-      let (x, a, w) = branch-answer j here u (f .branch) set (f .gave) in
-      fits-ok (f .branch) (branch-own (j .measured u) (f .branch) m (rw (f .row) (has-in (f .earlier) (f .branch) (f .later)))) h set
-      (subst (λ (z : ℕ → Bool). Fits j here u (f .branch) z) (sym w) (some-fits j here u (f .branch) h no-lower-u no-column-u x a))
+  module _ (h : u < j .nodes) (m : j .measured u < 7) where
+    pub try-sound : (set : ℕ → Bool) → tryAt j pauli later u ≡ some set → T (corrects j pauli later set u)
+    try-sound set e =
+        let f = try-first set e in
+        let (x, a, w) = branch-answer j here u (f .branch) set (f .gave) in
+        corrects-in j pauli later set u
+        (fits-corrects (f .branch) (branch-own (j .measured u) (f .branch) m (rw (f .row) (has-in (f .earlier) (f .branch) (f .later)))) h set
+        (subst (λ (z : ℕ → Bool). Fits j here u (f .branch) z) (sym w) (some-fits j here u (f .branch) h no-lower-u no-column-u x a)))
 
-  -- where a column is left, a node with a right set is solved
-  pub try-complete : u < j .nodes → j .measured u < 7 → T (anyBelow (j .nodes) (here .column)) → (set : ℕ → Bool) → Ok j pauli gone set u → T (isSome (tryAt j pauli gone u))
-  try-complete h m q set ok =
-      let (l, s, o) = own-branch (j .measured u) (set u) (odd j set u) m (ok .owns) in
-      rw (is-true (anyBelow (j .nodes) (here .column)) q)
-      (first-some j here u (branches (j .measured u)) (branchOf (set u) (odd j set u)) l
-      (fits-some j here u (branchOf (set u) (odd j set u)) h no-lower-u set (ok-fits (branchOf (set u) (odd j set u)) set ok s o)))
+    -- where a column is left, a node with a right set is solved
+    pub try-complete : T (anyBelow (j .nodes) (here .column)) → (set : ℕ → Bool) → T (corrects j pauli later set u) → T (isSome (tryAt j pauli later u))
+    try-complete q set c =
+        let holds = corrects-out j pauli later set u c in
+        let (l, s, o) = own-branch (j .measured u) (set u) (odd j set u) m (holds .owns) in
+        rw (is-true (anyBelow (j .nodes) (here .column)) q)
+        (first-some j here u (branches (j .measured u)) (branchOf (set u) (odd j set u)) l
+        (fits-some j here u (branchOf (set u) (odd j set u)) h no-lower-u set (corrects-fits (branchOf (set u) (odd j set u)) set holds s o)))
 
-  -- Where no column is left, only YZ, Y and Z can be right: a node in Odd of its set has a member as neighbour, which is a
-  -- column, since no node is its own neighbour.
-  pub needs-column : j .measured u < 7 → j .edge u u ≡ false → (set : ℕ → Bool) → Ok j pauli gone set u → T (odd j set u) → T (anyBelow (j .nodes) (here .column))
-  needs-column m e set ok t = go (dec (anyBelow (j .nodes) (λ k. j .edge k u && set k)))
-    where
-      go : T (anyBelow (j .nodes) (λ k. j .edge k u && set k)) ⊎ (T (anyBelow (j .nodes) (λ k. j .edge k u && set k)) → ⊥) → T (anyBelow (j .nodes) (here .column))
-      go (inr f) = absurd (rw (parity-none (j .nodes) (λ k. j .edge k u && set k) (λ k l. is-false (j .edge k u && set k) (λ a. f (any-in (j .nodes) (λ k. j .edge k u && set k) k l a)))) at t)
-      go (inl q) =
-          let (k, l, a) = any-out (j .nodes) (λ k. j .edge k u && set k) q in
-          any-in (j .nodes) (here .column) k l (by k l (and-l (j .edge k u) (set k) a) (and-r (j .edge k u) (set k) a))
-        where
-          by : (k : ℕ) → k < j .nodes → T (j .edge k u) → T (set k) → T (here .column k)
-          by k l a b = from (ok-fits (branchOf (set u) (odd j set u)) set ok (own-branch (j .measured u) (set u) (odd j set u) m (ok .owns) .1) (own-branch (j .measured u) (set u) (odd j set u) m (ok .owns) .2) .taken k l b)
-            where
-              from : (k ≡ u) ⊎ T (here .column k) → T (here .column k)
-              from (inl p) = absurd (rw (p, e) at a)
-              from (inr c) = c
+    -- a node that is solved has a column and a right set
+    pub try-right : T (isSome (tryAt j pauli later u)) → (set : ℕ → Bool) × T (anyBelow (j .nodes) (here .column)) × T (corrects j pauli later set u)
+    try-right t = go (tryAt j pauli later u) refl t
+      where
+        go : (o : Option (ℕ → Bool)) → tryAt j pauli later u ≡ o → T (isSome o) → (set : ℕ → Bool) × T (anyBelow (j .nodes) (here .column)) × T (corrects j pauli later set u)
+        go none e t = absurd t
+        go (some set) e t = (set, passed-over set e .0, try-sound set e)
+
+    -- Where no column is left, only YZ, Y and Z can be right: a node in Odd of its set has a member as neighbour, which is a
+    -- column, since no node is its own neighbour.
+    pub needs-column : j .edge u u ≡ false → (set : ℕ → Bool) → T (corrects j pauli later set u) → T (odd j set u) → T (anyBelow (j .nodes) (here .column))
+    needs-column e set c t = go (dec (anyBelow (j .nodes) (λ k. j .edge k u && set k)))
+      where
+        go : T (anyBelow (j .nodes) (λ k. j .edge k u && set k)) ⊎ (T (anyBelow (j .nodes) (λ k. j .edge k u && set k)) → ⊥) → T (anyBelow (j .nodes) (here .column))
+        go (inr f) = absurd (rw (parity-none (j .nodes) (λ k. j .edge k u && set k) (λ k l. is-false (j .edge k u && set k) (λ a. f (any-in (j .nodes) (λ k. j .edge k u && set k) k l a)))) at t)
+        go (inl q) =
+            let (k, l, a) = any-out (j .nodes) (λ k. j .edge k u && set k) q in
+            any-in (j .nodes) (here .column) k l (by k l (and-l (j .edge k u) (set k) a) (and-r (j .edge k u) (set k) a))
+          where
+            by : (k : ℕ) → k < j .nodes → T (j .edge k u) → T (set k) → T (here .column k)
+            by k l a b =
+                let holds = corrects-out j pauli later set u c in
+                let (r, s, o) = own-branch (j .measured u) (set u) (odd j set u) m (holds .owns) in
+                from (corrects-fits (branchOf (set u) (odd j set u)) set holds s o .taken k l b)
+              where
+                from : (k ≡ u) ⊎ T (here .column k) → T (here .column k)
+                from (inl p) = absurd (rw (p, e) at a)
+                from (inr c) = c
+
+-- ---- a node that is solved is still solved where more nodes are later: its columns stay, and so does its set
+pub try-monotone : (j : Job) (pauli : Bool) (s t : ℕ → Bool) → Within (j .nodes) s t → (u : ℕ) → u < j .nodes → j .measured u < 7 → T (isSome (tryAt j pauli s u)) → T (isSome (tryAt j pauli t u))
+try-monotone j pauli s t w u h m a =
+    let (set, q, c) = try-right j pauli s u h m a in
+    let (k, l, b) = any-out (j .nodes) (contextAt j pauli s u .column) q in
+    try-complete j pauli t u h m (any-in (j .nodes) (contextAt j pauli t u .column) k l (stays k l b)) set (more-later j pauli s t w set u c)
+  where
+    stays : (k : ℕ) → k < j .nodes → T (contextAt j pauli s u .column k) → T (contextAt j pauli t u .column k)
+    stays k l b =
+        let d = and-l ((s k || memberExcused j pauli k) && not (j .input k)) (not (eqb k u)) b in
+        and-in ((t k || memberExcused j pauli k) && not (j .input k)) (not (eqb k u))
+        (and-in (t k || memberExcused j pauli k) (not (j .input k)) (more (or-out (s k) (memberExcused j pauli k) (and-l (s k || memberExcused j pauli k) (not (j .input k)) d))) (and-r (s k || memberExcused j pauli k) (not (j .input k)) d))
+        (and-r ((s k || memberExcused j pauli k) && not (j .input k)) (not (eqb k u)) b)
+      where
+        more : T (s k) ⊎ T (memberExcused j pauli k) → T (t k || memberExcused j pauli k)
+        more (inl a) = or-l (t k) (memberExcused j pauli k) (w k l a)
+        more (inr a) = or-r (t k) (memberExcused j pauli k) a
+
+-- ---- a try depends on the later nodes below n only
+module _ (j : Job) (pauli : Bool) (later later′ : ℕ → Bool) (same : (v : ℕ) → v < j .nodes → later v ≡ later′ v) (u : ℕ) where
+  contexts-agree : SameContext j (contextAt j pauli later u) (contextAt j pauli later′ u)
+  contexts-agree = record { column = λ k l. rw (same k l); upper = λ v l. rw (same v l); lower = λ v l. rw (same v l) }
+
+  pub try-ext : tryAt j pauli later u ≡ tryAt j pauli later′ u
+  try-ext =
+      rw (
+        any-ext (j .nodes) (contextAt j pauli later u .column) (contextAt j pauli later′ u .column) (contexts-agree .column),
+        node-ext j (contextAt j pauli later u) (contextAt j pauli later′ u) contexts-agree u,
+      )

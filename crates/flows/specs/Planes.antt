@@ -1,30 +1,31 @@
--- The search for planes (`find` of gflow.rs).
+-- The search for planes (`find` of gflow.rs): that of Paulis with nobody excused, from round 1 on. One context serves all nodes of a
+-- round, and the search stops where no column exists.
 use Prim.Native.Nat.{ℕ}
 use mathlib.Core.Bool.{Bool, not, _&&_, _||_}
 use mathlib.Core.Option.{Option}
 use Rattle.nodes.specs.Row.{anyBelow, allBelow}
 use Rattle.flows.specs.Job.{Job}
 use Rattle.flows.specs.Branch.{Context, tryNode}
-use Rattle.flows.specs.Search.{Progress, start, rounds, found, noNode}
+use Rattle.flows.specs.Search.{Progress, start, rounds, ifSolved, noNode}
 
 -- Columns: the outputs and solved nodes that are no inputs. Rows: the unsolved nodes.
-abbrev pub context : Job → (ℕ → Bool) → Context
-context j gone = record { column = λ k. gone k && not (j .input k); upper = λ v. not (gone v); lower = noNode }
+abbrev pub context : Job → (later : ℕ → Bool) → Context
+context j later = record { column = λ k. later k && not (j .input k); upper = λ v. not (later v); lower = noNode }
 
 -- no column exists
-abbrev pub noColumn : Job → (ℕ → Bool) → Bool
-noColumn j gone = not (anyBelow (j .nodes) (context j gone .column))
+abbrev pub noColumn : Job → (later : ℕ → Bool) → Bool
+noColumn j later = not (anyBelow (j .nodes) (context j later .column))
 
 -- nothing is unsolved or no column exists
 abbrev pub stops : Job → Progress → Bool
 stops j s = allBelow (j .nodes) (s .solved) || noColumn j (s .solved)
 
-abbrev pub try : Job → (ℕ → Bool) → ℕ → Option (ℕ → Bool)
-try j gone u = tryNode j (context j gone) u
+abbrev pub try : Job → (later : ℕ → Bool) → ℕ → Option (ℕ → Bool)
+try j later u = tryNode j (context j later) u
 
 -- how far the search comes, and what it finds
 abbrev pub progress : Job → Progress
 progress j = rounds (stops j) (try j) (j .nodes) (j .nodes) 1 (start (j .output))
 
 abbrev pub find : Job → Option Progress
-find j = found (j .nodes) (progress j)
+find j = ifSolved (j .nodes) (progress j)

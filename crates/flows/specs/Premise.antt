@@ -1,5 +1,5 @@
 -- The premises of demand 3: under them a node that could be solved without a column is never passed over or given up.
-use mathlib.Core.Bool.{Bool, not, _&&_, _||_}
+use mathlib.Core.Bool.{Bool, true, false, not, _&&_, _||_}
 use lib.Dec.{eqb, leb}
 use Rattle.nodes.specs.Row.{anyBelow, allBelow, count}
 use Rattle.flows.specs.Job.{Job, planeYZ, isXorY, isYorZ}
@@ -14,3 +14,7 @@ abbrev pub paulisPremise : Job → Bool
 paulisPremise j =
     leb 2 (count (j .nodes) (λ k. not (j .input k) && isXorY (j .measured k)))
     || allBelow (j .nodes) (λ k. not (eqb (j .measured k) planeYZ || isYorZ (j .measured k)))
+
+abbrev pub premiseAt : Job → Bool → Bool
+premiseAt j true = paulisPremise j
+premiseAt j false = planesPremise j

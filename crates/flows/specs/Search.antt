@@ -1,7 +1,8 @@
 -- The search by rounds, over any way to try a node. All nodes of a round meet the sets as they stood when it began.
 use Prim.Native.Nat.{ℕ, zero, suc, _+_}
-use mathlib.Core.Bool.{Bool, false, cond, not, _&&_, _||_}
+use mathlib.Core.Bool.{Bool, true, false, cond, not, _&&_, _||_}
 use mathlib.Core.Option.{Option, none, some}
+use lib.Dec.{ltb}
 use Rattle.nodes.specs.Row.{anyBelow, allBelow}
 use Rattle.nodes.specs.Options.{isSome}
 
@@ -35,7 +36,7 @@ round try r s = record {
 }
 
 -- Rounds from r on. A search ends where it `stops` or where a round solves nothing; that it never ends by the bound on
--- their number is a law (rounds-end). `try gone u` tries u when the nodes `gone` are solved.
+-- their number is a law (rounds-end). `try later u` tries u when the nodes `later` were solved before.
 unfoldable pub rounds : (Progress → Bool) → ((ℕ → Bool) → ℕ → Option (ℕ → Bool)) → ℕ → ℕ → ℕ → Progress → Progress
 rounds stops try n zero r s = s
 rounds stops try n (suc bound) r s =
@@ -43,6 +44,22 @@ rounds stops try n (suc bound) r s =
     let here = cond (anyBelow n (solvedNow (try (s .solved)) s)) on s in
     cond (stops s) s here
 
+-- v is later than u: its layer is smaller
+abbrev pub laterThan : (layer : ℕ → ℕ) → ℕ → ℕ → Bool
+laterThan layer u v = ltb (layer v) (layer u)
+
+-- ---- the search over any way to try a node, from round 0 or from round 1 on
+abbrev pub firstRound : (fromZero : Bool) → ℕ
+firstRound true = 0
+firstRound false = 1
+
+-- the progress before round 1; in round 0 no node is later, outputs neither, and it never ends the search
+abbrev pub begun : (fromZero : Bool) → ((ℕ → Bool) → ℕ → Option (ℕ → Bool)) → (output : ℕ → Bool) → Progress
+begun fromZero try output = cond fromZero (round (try noNode) 0 (start output)) (start output)
+
+abbrev pub searchFrom : (fromZero : Bool) → ((ℕ → Bool) → ℕ → Option (ℕ → Bool)) → ℕ → (output : ℕ → Bool) → Progress
+searchFrom fromZero try n output = rounds (λ s. false) try n n 1 (begun fromZero try output)
+
 -- a node still unsolved at the end means no flow
-abbrev pub found : ℕ → Progress → Option Progress
-found n s = cond (allBelow n (s .solved)) (some s) none
+abbrev pub ifSolved : ℕ → Progress → Option Progress
+ifSolved n s = cond (allBelow n (s .solved)) (some s) none

@@ -1,3 +1,4 @@
-pub mod Questions
-pub mod Verdict
 pub mod Published
+pub mod Questions
+pub mod Rule
+pub mod Verdict

@@ -1,28 +1,25 @@
 -- The verifier of each mode accepts exactly the published conditions with the listed differences.
 use Prim.Native.Nat.{ℕ, zero, suc, _≤_, _<_}
 use mathlib.Core.Path.{_≡_, refl, sym, ap, _∙_}
-use mathlib.Core.Bool.{Bool, true, false, cond, not, _&&_, _||_, true≢false, false≢true}
-use mathlib.Core.Option.{Option, none}
+use mathlib.Core.Bool.{Bool, true, false, not, _&&_, true≢false, false≢true}
+use mathlib.Core.Option.{none}
 use mathlib.Core.Logic.{_⊎_, inl, inr, _↔_, _≢_}
 use native.Mathlib.Omega.{arith}
 use lib.Dec.{T, eqb, eqb→eq, eqb-refl, ltb→lt, lt→ltb}
 use Rattle.nodes.specs.Bit.{_⊕_}
-use Rattle.nodes.specs.Row.{anyBelow, lowest}
-use Rattle.nodes.proofs.Logic.{is-false, dec, and-l, and-r, and-in, eqb-no, eqb-yes, and-none}
-use Rattle.nodes.proofs.Row.{any-in, any-out, parity-none}
+use Rattle.nodes.specs.Row.{lowest}
+use Rattle.nodes.proofs.Logic.{dec, and-l, and-r, and-in, eqb-no, eqb-yes}
 use Rattle.nodes.proofs.Members.{lowest-unique}
 use Rattle.flows.specs.Job.{Job, odd, own, isXorY, isYorZ, planeXY, planeYZ, planeXZ, pauliX, pauliY, pauliZ}
-use Rattle.flows.specs.Conditions.{Ok}
-use Rattle.flows.proofs.Flows.{laterThan}
-use Rattle.flows.proofs.Table.{needs-one}
-use Rattle.answers.specs.Answer.{Refusal}
+use Rattle.flows.specs.Conditions.{corrects}
+use Rattle.flows.specs.Search.{laterThan}
+use Rattle.flows.proofs.Conditions.{Corrects, corrects-in, corrects-out, own-inputs, causal-in, causal-inputs, causal-adjacent, needs-member, needs-neighbour, needs-out}
 use Rattle.records.specs.JobFile.{modeCausal, modePlanes, modePauli}
 use Rattle.records.specs.FlowFile.{Flow}
 use Rattle.verdicts.specs.Verdict as Q
-use Rattle.verdicts.specs.Verdict.{_next_, each}
-use Rattle.verdicts.specs.Published.{StrictOrder, Measured, CausalFlow, PlaneConditions, PauliConditions, byLayer, NoOtherInputs, OutputsAtZero, OthersAboveZero, LayerRule, Domain, NoInputs, PublishedFlow, AcceptedFlow, CausalAccepted, PlanesAccepted, PaulisAccepted}
-use Rattle.verdicts.proofs.Questions.{ask-in, ask-out, next-in, next-l, next-r, each-in, each-out, when-in, when-out, late-in, late-out}
-use Rattle.verdicts.proofs.Verdict.{Preliminary, verify-in, verify-preliminary, verify-nodes, node-in, node-out}
+use Rattle.verdicts.specs.Published.{StrictOrder, Measured, CausalFlow, PlaneConditions, PauliConditions, byLayer, NoOtherInputs, LayerRule, Domain, NoInputs, PublishedFlow, AcceptedFlow, CausalAccepted, PlanesAccepted, PaulisAccepted}
+use Rattle.verdicts.specs.Rule.{FlowRule, CausalRule}
+use Rattle.verdicts.proofs.Rule.{Readable, rule-corrects, corrects-rule, verify-rule, verify-causal-rule}
 
 pub by-layer : (layer : ℕ → ℕ) → StrictOrder (byLayer layer)
 by-layer layer = record { irreflexive = λ i l. not-below (layer i) l; transitive = λ i k l a b. through (layer l) (layer k) (layer i) b a }
@@ -103,57 +100,18 @@ module _ (s o : Bool) where
   unfolding own
   own-z m e = rw e
 
--- ---- what reading tells of the job and of the flow
-pub record Readable (j : Job) (f : Flow) : Type 0 where
-  pub unmeasured : (u : ℕ) → u < j .nodes → T (j .output u) → j .measured u ≡ 0
-  pub measured : (u : ℕ) → Measured j u → (0 < j .measured u) × (j .measured u < 7)
-  pub entries : (u k : ℕ) → T (f .set u k) → T (f .entry u)
-  pub nodes : (u k : ℕ) → T (f .set u k) → k < j .nodes
-
 module _ (j : Job) (f : Flow) (r : Readable j f) where
-  -- a set with a node's own measurement right is not empty
-  pub some-member : (i : ℕ) → Measured j i → T (own (j .measured i) (f .set i i) (odd j (f .set i) i)) → T (anyBelow (j .nodes) (f .set i))
-  some-member i s t = go (dec (anyBelow (j .nodes) (f .set i)))
-    where
-      go : T (anyBelow (j .nodes) (f .set i)) ⊎ (T (anyBelow (j .nodes) (f .set i)) → ⊥) → T (anyBelow (j .nodes) (f .set i))
-      go (inl q) = q
-      go (inr d) =
-          absurd
-          (needs-one (j .measured i) (r .measured i s .1)
-          (rw (empty i (s .0), parity-none (j .nodes) (λ k. j .edge k i && f .set i k) (λ k l. rw (empty k l) (and-none (j .edge k i)))) at t))
-        where
-          empty : (k : ℕ) → k < j .nodes → f .set i k ≡ false
-          empty k l = is-false (f .set i k) (λ q. d (any-in (j .nodes) (f .set i) k l q))
-
-  not-output : (u : ℕ) → u < j .nodes → j .measured u ≢ 0 → T (j .output u) → ⊥
-  not-output u l d o = d (r .unmeasured u l o)
-
-  -- the questions before the node by node part, for any mode
-  preliminary-domain : (mode : ℕ) → Preliminary j f mode → Domain j (f .entry)
-  preliminary-domain mode p u l =
-      ((λ t. not-output u l (p .entries u l t)), λ o. let (k, m, t) = any-out (j .nodes) (f .set u) (p .domain u l .1 o) in r .entries u k t)
-
-  preliminary : (mode : ℕ) → Domain j (f .entry) → OutputsAtZero j (f .layer) → (mode ≢ modePauli → OthersAboveZero j (f .layer)) → NoOtherInputs j (f .set)
-      → ((i : ℕ) → Measured j i → T (anyBelow (j .nodes) (f .set i))) → Preliminary j f mode
-  preliminary mode d z a i m = record {
-    inputs = λ u k l h t q. i u k (l, d u l .0 (r .entries u k t)) h t q;
-    domain = λ u l. ((λ t. let (k, h, q) = any-out (j .nodes) (f .set u) t in d u l .0 (r .entries u k q)), λ o. m u (l, o));
-    outputs = z;
-    others = a;
-    entries = λ u l t. positive (j .measured u) (r .measured u (l, d u l .0 t) .0);
-  }
-    where
-      positive : (m : ℕ) → 0 < m → m ≢ 0
-      positive m l e = omega arith
-
-  measured-inputs : (mode : ℕ) → Preliminary j f mode → NoOtherInputs j (f .set)
-  measured-inputs mode p i k s l t q = p .inputs i k (s .0) l t q
-
   later-lt : (i k : ℕ) → T (laterThan (f .layer) i k) → f .layer k < f .layer i
   later-lt i k t = ltb→lt (f .layer k) (f .layer i) t
 
   lt-later : (i k : ℕ) → f .layer k < f .layer i → T (laterThan (f .layer) i k)
   lt-later i k l = lt→ltb (f .layer k) (f .layer i) l
+
+  abbrev Right : Bool → ℕ → Type 0
+  Right pauli i = T (corrects j pauli (laterThan (f .layer) i) (f .set i) i)
+
+  rule-inputs : (mode : ℕ) → FlowRule mode j f → NoOtherInputs j (f .set)
+  rule-inputs mode p i k s l t q = own-inputs j (f .set i) i (p .own i s) k l t q
 
   decide : {A : Type 0} (i k : ℕ) → (k ≢ i → A) → (k ≡ i) ⊎ A
   decide {A = A} i k g = go (dec (eqb k i))
@@ -167,30 +125,33 @@ module _ (j : Job) (f : Flow) (r : Readable j f) where
     plane : (i : ℕ) → Measured j i → (j .measured i ≡ planeXY) ⊎ ((j .measured i ≡ planeYZ) ⊎ (j .measured i ≡ planeXZ))
     plane i s = one-to-three (j .measured i) (r .measured i s .0) (planes i s)
 
-    planes-ok : PlaneConditions j (byLayer (f .layer)) (f .set) → NoOtherInputs j (f .set) → (i : ℕ) → Measured j i → Ok j false (laterThan (f .layer) i) (f .set i) i
-    planes-ok p n i s = record {
+    planes-corrects : PlaneConditions j (byLayer (f .layer)) (f .set) → NoOtherInputs j (f .set) → (i : ℕ) → Measured j i → Right false i
+    planes-corrects p n i s = corrects-in j false (laterThan (f .layer) i) (f .set i) i (record {
       inputs = λ k l t q. n i k s l t q;
       members = λ k l t. decide i k (λ d. inl (lt-later i k (p .members i k s l t d)));
       odds = λ k l t. decide i k (λ d. inl (lt-later i k (p .odds i k s l t d)));
       ys = λ k l t. absurd t;
       owns = own′ (plane i s);
-    }
+    })
       where
         own′ : (j .measured i ≡ planeXY) ⊎ ((j .measured i ≡ planeYZ) ⊎ (j .measured i ≡ planeXZ)) → T (own (j .measured i) (f .set i i) (odd j (f .set i) i))
         own′ (inl e) = rw (own-xy (f .set i i) (odd j (f .set i) i) (j .measured i) e) (pairs-in (f .set i i) (odd j (f .set i) i) (p .xy i s e .0) (p .xy i s e .1))
         own′ (inr (inl e)) = rw (own-yz (f .set i i) (odd j (f .set i) i) (j .measured i) e) (pair-swap (f .set i i) (odd j (f .set i) i) (p .yz i s e .0) (p .yz i s e .1))
         own′ (inr (inr e)) = rw (own-xz (f .set i i) (odd j (f .set i) i) (j .measured i) e) (and-in (f .set i i) (odd j (f .set i) i) (p .xz i s e .0) (p .xz i s e .1))
 
-    ok-planes : ((i : ℕ) → Measured j i → Ok j false (laterThan (f .layer) i) (f .set i) i) → PlaneConditions j (byLayer (f .layer)) (f .set)
-    ok-planes ok = record {
+    corrects-planes : ((i : ℕ) → Measured j i → Right false i) → PlaneConditions j (byLayer (f .layer)) (f .set)
+    corrects-planes right = record {
       order = by-layer (f .layer);
-      members = λ i k s l t d. late i k (ok i s .members k l t) d;
-      odds = λ i k s l t d. late i k (ok i s .odds k l t) d;
-      xy = λ i s e. pairs-out (f .set i i) (odd j (f .set i) i) (rw (own-xy (f .set i i) (odd j (f .set i) i) (j .measured i) e) at (ok i s .owns));
-      xz = λ i s e. let t = rw (own-xz (f .set i i) (odd j (f .set i) i) (j .measured i) e) at (ok i s .owns) in (and-l (f .set i i) (odd j (f .set i) i) t, and-r (f .set i i) (odd j (f .set i) i) t);
-      yz = λ i s e. swap-pair (f .set i i) (odd j (f .set i) i) (rw (own-yz (f .set i i) (odd j (f .set i) i) (j .measured i) e) at (ok i s .owns));
+      members = λ i k s l t d. late i k (holds i s .members k l t) d;
+      odds = λ i k s l t d. late i k (holds i s .odds k l t) d;
+      xy = λ i s e. pairs-out (f .set i i) (odd j (f .set i) i) (rw (own-xy (f .set i i) (odd j (f .set i) i) (j .measured i) e) at (holds i s .owns));
+      xz = λ i s e. let t = rw (own-xz (f .set i i) (odd j (f .set i) i) (j .measured i) e) at (holds i s .owns) in (and-l (f .set i i) (odd j (f .set i) i) t, and-r (f .set i i) (odd j (f .set i) i) t);
+      yz = λ i s e. swap-pair (f .set i i) (odd j (f .set i) i) (rw (own-yz (f .set i i) (odd j (f .set i) i) (j .measured i) e) at (holds i s .owns));
     }
       where
+        holds : (i : ℕ) → Measured j i → Corrects j false (laterThan (f .layer) i) (f .set i) i
+        holds i s = corrects-out j false (laterThan (f .layer) i) (f .set i) i (right i s)
+
         late : (i k : ℕ) → (k ≡ i) ⊎ (T (laterThan (f .layer) i k) ⊎ ⊥) → k ≢ i → f .layer k < f .layer i
         late i k (inl e) d = absurd (d e)
         late i k (inr (inl t)) d = later-lt i k t
@@ -199,22 +160,18 @@ module _ (j : Job) (f : Flow) (r : Readable j f) where
     -- Backens et al.: no question is answered no exactly where the conditions hold, a node's own input excepted
     pub planes-accepts : Q.verify j f modePlanes ≡ none → PlanesAccepted j f
     planes-accepts e =
-        let p = verify-preliminary j f modePlanes e in record {
-          domain = preliminary-domain modePlanes p;
-          outputs = p .outputs;
-          others = p .others (λ q. two-three q);
-          inputs = measured-inputs modePlanes p;
-          conditions = ok-planes (λ i s. node-out j f modePlanes i (λ k l t q. p .inputs i k (s .0) l t q) (verify-nodes j f modePlanes e i s));
+        let p = verify-rule j f r modePlanes (inl refl) .0 e in record {
+          domain = p .domain;
+          outputs = p .layers .outputs;
+          others = p .layers .others refl;
+          inputs = rule-inputs modePlanes p;
+          conditions = corrects-planes (rule-corrects j f r modePlanes (inl refl) p);
         }
-      where
-        two-three : modePlanes ≡ modePauli → ⊥
-        two-three q = omega arith
 
     pub accepts-planes : PlanesAccepted j f → Q.verify j f modePlanes ≡ none
     accepts-planes a =
-        verify-in j f modePlanes
-        (preliminary modePlanes (a .domain) (a .outputs) (λ q. a .others) (a .inputs) (λ i s. some-member i s (planes-ok (a .conditions) (a .inputs) i s .owns)))
-        (λ i s. node-in j f modePlanes i (planes-ok (a .conditions) (a .inputs) i s))
+        verify-rule j f r modePlanes (inl refl) .1
+        (corrects-rule j f r modePlanes (inl refl) (a .domain) (record { outputs = a .outputs; others = λ q. a .others }) (planes-corrects (a .conditions) (a .inputs)))
 
   -- ---- Paulis
   pauli-cases : (i : ℕ) → Measured j i → (P : ℕ → Type 0) → (j .measured i ≡ planeXY → P planeXY) → (j .measured i ≡ planeYZ → P planeYZ) → (j .measured i ≡ planeXZ → P planeXZ)
@@ -244,8 +201,8 @@ module _ (j : Job) (f : Flow) (r : Readable j f) where
       go (inl t) = inr t
       go (inr d) = inl (lt-later i k (g d))
 
-  paulis-ok : PauliConditions j (byLayer (f .layer)) (f .set) → NoOtherInputs j (f .set) → (i : ℕ) → Measured j i → Ok j true (laterThan (f .layer) i) (f .set i) i
-  paulis-ok p n i s = record {
+  paulis-corrects : PauliConditions j (byLayer (f .layer)) (f .set) → NoOtherInputs j (f .set) → (i : ℕ) → Measured j i → Right true i
+  paulis-corrects p n i s = corrects-in j true (laterThan (f .layer) i) (f .set i) i (record {
     inputs = λ k l t q. n i k s l t q;
     members = λ k l t. decide i k (λ d. excused i k (isXorY (j .measured k)) (p .members i k s l t d));
     odds = λ k l t. decide i k (λ d. excused i k (isYorZ (j .measured k)) (p .odds i k s l t d));
@@ -257,7 +214,7 @@ module _ (j : Job) (f : Flow) (r : Readable j f) where
         (λ e. rw (own-x (f .set i i) (odd j (f .set i) i) pauliX refl) (p .x i s e))
         (λ e. rw (own-y (f .set i i) (odd j (f .set i) i) pauliY refl) (xor-in (f .set i i) (odd j (f .set i) i) (p .y i s e)))
         (λ e. rw (own-z (f .set i i) (odd j (f .set i) i) pauliZ refl) (p .z i s e));
-  }
+  })
     where
       same : (a b : Bool) → (T a ↔ T b) → b ≡ a
       same true true q = refl
@@ -269,20 +226,23 @@ module _ (j : Job) (f : Flow) (r : Readable j f) where
       y′ k l e d (inl t) = inl t
       y′ k l e d (inr m) = inr (same (f .set i k) (odd j (f .set i) k) (p .ys i k s l e d (λ q. m (lt-later i k q))))
 
-  ok-paulis : ((i : ℕ) → Measured j i → Ok j true (laterThan (f .layer) i) (f .set i) i) → PauliConditions j (byLayer (f .layer)) (f .set)
-  ok-paulis ok = record {
+  corrects-paulis : ((i : ℕ) → Measured j i → Right true i) → PauliConditions j (byLayer (f .layer)) (f .set)
+  corrects-paulis right = record {
     order = by-layer (f .layer);
-    members = λ i k s l t d m. late i k (isXorY (j .measured k)) (ok i s .members k l t) d m;
-    odds = λ i k s l t d m. late i k (isYorZ (j .measured k)) (ok i s .odds k l t) d m;
-    ys = λ i k s l e d m. both i k (ok i s .ys k l (rw e tt)) d m;
-    xy = λ i s e. pairs-out (f .set i i) (odd j (f .set i) i) (rw (own-xy (f .set i i) (odd j (f .set i) i) (j .measured i) e) at (ok i s .owns));
-    xz = λ i s e. let t = rw (own-xz (f .set i i) (odd j (f .set i) i) (j .measured i) e) at (ok i s .owns) in (and-l (f .set i i) (odd j (f .set i) i) t, and-r (f .set i i) (odd j (f .set i) i) t);
-    yz = λ i s e. swap-pair (f .set i i) (odd j (f .set i) i) (rw (own-yz (f .set i i) (odd j (f .set i) i) (j .measured i) e) at (ok i s .owns));
-    x = λ i s e. rw (own-x (f .set i i) (odd j (f .set i) i) (j .measured i) e) at (ok i s .owns);
-    z = λ i s e. rw (own-z (f .set i i) (odd j (f .set i) i) (j .measured i) e) at (ok i s .owns);
-    y = λ i s e. xor-out (f .set i i) (odd j (f .set i) i) (rw (own-y (f .set i i) (odd j (f .set i) i) (j .measured i) e) at (ok i s .owns));
+    members = λ i k s l t d m. late i k (isXorY (j .measured k)) (holds i s .members k l t) d m;
+    odds = λ i k s l t d m. late i k (isYorZ (j .measured k)) (holds i s .odds k l t) d m;
+    ys = λ i k s l e d m. both i k (holds i s .ys k l (rw e tt)) d m;
+    xy = λ i s e. pairs-out (f .set i i) (odd j (f .set i) i) (rw (own-xy (f .set i i) (odd j (f .set i) i) (j .measured i) e) at (holds i s .owns));
+    xz = λ i s e. let t = rw (own-xz (f .set i i) (odd j (f .set i) i) (j .measured i) e) at (holds i s .owns) in (and-l (f .set i i) (odd j (f .set i) i) t, and-r (f .set i i) (odd j (f .set i) i) t);
+    yz = λ i s e. swap-pair (f .set i i) (odd j (f .set i) i) (rw (own-yz (f .set i i) (odd j (f .set i) i) (j .measured i) e) at (holds i s .owns));
+    x = λ i s e. rw (own-x (f .set i i) (odd j (f .set i) i) (j .measured i) e) at (holds i s .owns);
+    z = λ i s e. rw (own-z (f .set i i) (odd j (f .set i) i) (j .measured i) e) at (holds i s .owns);
+    y = λ i s e. xor-out (f .set i i) (odd j (f .set i) i) (rw (own-y (f .set i i) (odd j (f .set i) i) (j .measured i) e) at (holds i s .owns));
   }
     where
+      holds : (i : ℕ) → Measured j i → Corrects j true (laterThan (f .layer) i) (f .set i) i
+      holds i s = corrects-out j true (laterThan (f .layer) i) (f .set i) i (right i s)
+
       late : (i k : ℕ) (c : Bool) → (k ≡ i) ⊎ (T (laterThan (f .layer) i k) ⊎ T c) → k ≢ i → (T c → ⊥) → f .layer k < f .layer i
       late i k c (inl e) d m = absurd (d e)
       late i k c (inr (inl t)) d m = later-lt i k t
@@ -296,18 +256,20 @@ module _ (j : Job) (f : Flow) (r : Readable j f) where
   -- Simmons: the same for Paulis
   pub paulis-accepts : Q.verify j f modePauli ≡ none → PaulisAccepted j f
   paulis-accepts e =
-      let p = verify-preliminary j f modePauli e in record {
-        domain = preliminary-domain modePauli p;
-        outputs = p .outputs;
-        inputs = measured-inputs modePauli p;
-        conditions = ok-paulis (λ i s. node-out j f modePauli i (λ k l t q. p .inputs i k (s .0) l t q) (verify-nodes j f modePauli e i s));
+      let p = verify-rule j f r modePauli (inr refl) .0 e in record {
+        domain = p .domain;
+        outputs = p .layers .outputs;
+        inputs = rule-inputs modePauli p;
+        conditions = corrects-paulis (rule-corrects j f r modePauli (inr refl) p);
       }
 
   pub accepts-paulis : PaulisAccepted j f → Q.verify j f modePauli ≡ none
   accepts-paulis a =
-      verify-in j f modePauli
-      (preliminary modePauli (a .domain) (a .outputs) (λ q. absurd (q refl)) (a .inputs) (λ i s. some-member i s (paulis-ok (a .conditions) (a .inputs) i s .owns)))
-      (λ i s. node-in j f modePauli i (paulis-ok (a .conditions) (a .inputs) i s))
+      verify-rule j f r modePauli (inr refl) .1
+      (corrects-rule j f r modePauli (inr refl) (a .domain) (record { outputs = a .outputs; others = λ q. absurd (three-two q) }) (paulis-corrects (a .conditions) (a .inputs)))
+    where
+      three-two : modePauli ≡ modePlanes → ⊥
+      three-two q = omega arith
 
   -- ---- causal flow, where each entry has one member
   module _ (single : (u : ℕ) → T (f .entry u) → (k : ℕ) × (k < j .nodes) × ((v : ℕ) → f .set u v ≡ eqb v k)) where
@@ -323,79 +285,37 @@ module _ (j : Job) (f : Flow) (r : Readable j f) where
             let q : successor i ≡ k = lowest-unique (j .nodes) (f .set i) k (omega arith) (λ v m. e v ∙ eqb-no v k (omega arith)) (λ m. e k ∙ eqb-yes k) in
             (rw q l, λ v. e v ∙ ap (eqb v) (sym q))
 
-    abbrev neighboursAsk : ℕ → ℕ → Option Refusal
-    neighboursAsk i k = each (j .nodes) (Q.neighbourAsk j f i k)
-
-    causal-in : (i k : ℕ) → f .layer k < f .layer i → ((v : ℕ) → v < j .nodes → T (j .edge k v) → v ≢ i → f .layer v < f .layer i) → T (j .edge k i) → Q.causalAsk j f i k ≡ none
-    unfolding Q.causalAsk
-    causal-in i k a b c =
-        next-in (Q.successorAsk j f i k) (neighboursAsk i k next Q.adjacentAsk j f i k) (ask-in (Q.later j f i k) 18 i k (lt-later i k a))
-        (next-in (neighboursAsk i k) (Q.adjacentAsk j f i k)
-        (each-in (j .nodes) (Q.neighbourAsk j f i k)
-        (λ v l. ask-in (not (j .edge k v) || eqb v i || Q.later j f i v || false) 18 i v
-        (late-in (j .edge k v) (eqb v i) (Q.later j f i v) false (λ t. by v l t (dec (eqb v i))))))
-        (ask-in (j .edge k i) 18 i k c))
-      where
-        by : (v : ℕ) → v < j .nodes → T (j .edge k v) → T (eqb v i) ⊎ (T (eqb v i) → ⊥) → T (eqb v i) ⊎ (T (Q.later j f i v) ⊎ ⊥)
-        by v l t (inl q) = inl q
-        by v l t (inr d) = inr (inl (lt-later i v (b v l t (λ e. d (rw e (eqb-refl i))))))
-
-    module _ (i k : ℕ) (e : Q.causalAsk j f i k ≡ none) where
-      asked : (Q.successorAsk j f i k next neighboursAsk i k next Q.adjacentAsk j f i k) ≡ none
-      unfolding Q.causalAsk
-      asked = e
-
-      after-successor : (neighboursAsk i k next Q.adjacentAsk j f i k) ≡ none
-      after-successor = next-r (Q.successorAsk j f i k) (neighboursAsk i k next Q.adjacentAsk j f i k) asked
-
-      successor-later : f .layer k < f .layer i
-      successor-later = later-lt i k (ask-out (Q.later j f i k) 18 i k (next-l (Q.successorAsk j f i k) (neighboursAsk i k next Q.adjacentAsk j f i k) asked))
-
-      neighbour-later : (v : ℕ) → v < j .nodes → T (j .edge k v) → v ≢ i → f .layer v < f .layer i
-      neighbour-later v l t d =
-          by
-          (late-out (j .edge k v) (eqb v i) (Q.later j f i v) false
-          (ask-out (not (j .edge k v) || eqb v i || Q.later j f i v || false) 18 i v (each-out (j .nodes) (Q.neighbourAsk j f i k) (next-l (neighboursAsk i k) (Q.adjacentAsk j f i k) after-successor) v l)) t)
-        where
-          by : T (eqb v i) ⊎ (T (Q.later j f i v) ⊎ ⊥) → f .layer v < f .layer i
-          by (inl q) = absurd (d (eqb→eq v i q))
-          by (inr (inl q)) = later-lt i v q
-          by (inr (inr q)) = absurd q
-
-      is-adjacent : T (j .edge k i)
-      is-adjacent = ask-out (j .edge k i) 18 i k (next-r (neighboursAsk i k) (Q.adjacentAsk j f i k) after-successor)
-
     -- Danos and Kashefi: the same for causal flow; here no node's own input is excepted, since f(i) is later than i
     pub causal-accepts : Q.verify j f modeCausal ≡ none → CausalAccepted j f
     causal-accepts e = record {
-      domain = preliminary-domain modeCausal asked-first;
-      outputs = asked-first .outputs;
-      others = asked-first .others (λ q. one-three q);
+      domain = rule .domain;
+      outputs = rule .layers .outputs;
+      others = λ i s. omega (arith, f-later i s);
       flow = (
         successor,
         record {
           order = by-layer (f .layer);
-          node = λ i s. the-member i (has-entry i s) .0;
-          noInput = λ i s t. self (f .layer) i (successor i) (asked-first .inputs i (successor i) (s .0) (the-member i (has-entry i s) .0) (in-set i s) t) (successor-later i (successor i) (causal i s));
-          adjacent = λ i s. is-adjacent i (successor i) (causal i s);
-          successor = λ i s. successor-later i (successor i) (causal i s);
-          neighbours = λ i k s l t d. neighbour-later i (successor i) (causal i s) k l t d;
+          node = λ i s. member i s .0;
+          noInput = λ i s t. self (f .layer) i (successor i) (causal-inputs j (f .set i) i (rule .own i s) (successor i) (member i s .0) (in-set i s) t) (f-later i s);
+          adjacent = λ i s. causal-adjacent j (f .set i) i (rule .own i s) (successor i) (member i s .0) (in-set i s);
+          successor = f-later;
+          neighbours = λ i k s l t d. rule .later i k s l (needs-neighbour j (f .set i) i (successor i) k (member i s .0) (in-set i s) t d);
         },
-        λ i k s l. the-member i (has-entry i s) .1 k,
+        λ i k s l. member i s .1 k,
       );
     }
       where
-        one-three : modeCausal ≡ modePauli → ⊥
-        one-three q = omega arith
+        rule : CausalRule j f
+        rule = verify-causal-rule j f r single .0 e
 
-        asked-first : Preliminary j f modeCausal
-        asked-first = verify-preliminary j f modeCausal e
-
-        has-entry : (i : ℕ) → Measured j i → T (f .entry i)
-        has-entry i s = preliminary-domain modeCausal asked-first i (s .0) .1 (s .1)
+        member : (i : ℕ) → Measured j i → (successor i < j .nodes) × ((v : ℕ) → f .set i v ≡ eqb v (successor i))
+        member i s = the-member i (rule .domain i (s .0) .1 (s .1))
 
         in-set : (i : ℕ) → Measured j i → T (f .set i (successor i))
-        in-set i s = rw (the-member i (has-entry i s) .1 (successor i)) (eqb-refl (successor i))
+        in-set i s = rw (member i s .1 (successor i)) (eqb-refl (successor i))
+
+        f-later : (i : ℕ) → Measured j i → f .layer (successor i) < f .layer i
+        f-later i s = rule .later i (successor i) s (member i s .0) (needs-member j (f .set i) i (successor i) (in-set i s))
 
         self : (layer : ℕ → ℕ) (i k : ℕ) → k ≡ i → layer k < layer i → ⊥
         self layer i k q l = not-below (layer i) (rw q at l)
@@ -403,32 +323,23 @@ module _ (j : Job) (f : Flow) (r : Readable j f) where
             not-below : (a : ℕ) → a < a → ⊥
             not-below a l = omega arith
 
-        causal : (i : ℕ) → Measured j i → Q.causalAsk j f i (successor i) ≡ none
-        causal i s =
-            when-out (f .set i (successor i)) (Q.causalAsk j f i (successor i))
-            (each-out (j .nodes) (λ k. cond (f .set i k) (Q.causalAsk j f i k) none) (verify-nodes j f modeCausal e i s) (successor i) (the-member i (has-entry i s) .0)) (in-set i s)
-
     pub accepts-causal : CausalAccepted j f → Q.verify j f modeCausal ≡ none
-    accepts-causal a =
-        verify-in j f modeCausal
-        (preliminary modeCausal (a .domain) (a .outputs) (λ q. a .others)
-        (λ i k s l t q. absurd (c .noInput i s (rw (← is-f i k s l t) q)))
-        (λ i s. any-in (j .nodes) (f .set i) (g i) (c .node i s) (rw (w i (g i) s (c .node i s)) (eqb-refl (g i)))))
-        (λ i s. each-in (j .nodes) (λ k. cond (f .set i k) (Q.causalAsk j f i k) none)
-        (λ k l. when-in (f .set i k) (Q.causalAsk j f i k)
-        (λ t. rw (is-f i k s l t) (causal-in i (g i) (c .successor i s) (λ v m q d. c .neighbours i v s m q d) (c .adjacent i s)))))
+    accepts-causal a = verify-causal-rule j f r single .1 (record {
+      domain = a .domain;
+      layers = record { outputs = a .outputs; others = λ q. a .others };
+      own = λ i s. causal-in j (f .set i) i (λ k l t q. absurd (c .noInput i s (rw (← is-f i k s l t) q))) (λ k l t. rw (is-f i k s l t) (c .adjacent i s));
+      later = λ i k s l t. needed i k s l (needs-out j (f .set i) i k t);
+    })
       where
-        g : ℕ → ℕ
-        g = a .flow .0
-
         c : CausalFlow j (byLayer (f .layer)) (a .flow .0)
         c = a .flow .1
 
-        w : (i k : ℕ) → Measured j i → k < j .nodes → f .set i k ≡ eqb k (a .flow .0 i)
-        w = a .flow .2
-
         is-f : (i k : ℕ) → Measured j i → k < j .nodes → T (f .set i k) → k ≡ a .flow .0 i
-        is-f i k s l t = eqb→eq k (a .flow .0 i) (rw (w i k s l) at t)
+        is-f i k s l t = eqb→eq k (a .flow .0 i) (rw (a .flow .2 i k s l) at t)
+
+        needed : (i k : ℕ) → Measured j i → k < j .nodes → T (f .set i k) ⊎ ((v : ℕ) × (v < j .nodes) × T (f .set i v) × T (j .edge v k) × (k ≢ i)) → f .layer k < f .layer i
+        needed i k s l (inl t) = rw (is-f i k s l t) (c .successor i s)
+        needed i k s l (inr (v, m, t, q, d)) = c .neighbours i k s l (rw (is-f i v s m t) at q) d
 
 -- ---- the published flows themselves
 module _ (mode : ℕ) (j : Job) (f : Flow) where

@@ -1,4 +1,4 @@
--- Questions in order: none is answered no exactly where each is passed.
+-- Questions in order, `ask`, `next` and `each` of specs/Verdict: none is answered no exactly where each is passed.
 use Prim.Native.Nat.{ℕ, zero, suc, _+_, _≤_, _<_, zero-le}
 use mathlib.Core.Path.{_≡_, refl, sym}
 use mathlib.Core.Bool.{Bool, true, false, cond, not, _&&_, _||_, Bool·beq, true≢false, false≢true}
@@ -12,10 +12,12 @@ use Rattle.answers.specs.Answer.{Refusal}
 use Rattle.verdicts.specs.Verdict.{ask, _next_, eachFrom, each}
 
 pub ask-in : (c : Bool) (q a b : ℕ) → T c → ask c q a b ≡ none
+unfolding ask
 ask-in true q a b t = refl
 ask-in false q a b t = absurd t
 
 pub ask-out : (c : Bool) (q a b : ℕ) → ask c q a b ≡ none → T c
+unfolding ask
 ask-out true q a b e = tt
 ask-out false q a b e = absurd (Option·none-ne-some _ (sym e))
 
@@ -63,17 +65,6 @@ unless-out true p e f = absurd (f tt)
 unless-out false p e f = e
 
 -- ---- what the tests of the questions say
--- a node of the set is no input, or the node itself
-pub input-out : (a b c : Bool) → T (not a || not b || c) → T a → T b → T c
-input-out true true c t p q = t
-input-out true false c t p q = absurd q
-input-out false b c t p q = absurd p
-
-pub input-in : (a b c : Bool) → (T a → T b → T c) → T (not a || not b || c)
-input-in true true c f = f tt tt
-input-in true false c f = tt
-input-in false b c f = tt
-
 -- a node of the set is the node itself, later or excused
 pub late-out : (a b c d : Bool) → T (not a || b || c || d) → T a → T b ⊎ (T c ⊎ T d)
 late-out true true c d t p = inl tt

@@ -1,2 +1,3 @@
 pub mod Published
+pub mod Rule
 pub mod Verdict

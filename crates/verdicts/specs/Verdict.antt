@@ -5,13 +5,14 @@ use mathlib.Core.Option.{Option, none, some}
 use lib.Dec.{eqb, ltb}
 use Rattle.nodes.specs.Bit.{_⊕_}
 use Rattle.nodes.specs.Row.{anyBelow}
-use Rattle.flows.specs.Job.{Job, odd, own, pauliY, isXorY, isYorZ}
+use Rattle.flows.specs.Job.{Job, odd, own}
+use Rattle.flows.specs.Conditions.{memberExcused, oddExcused, yAsked, inputHolds}
 use Rattle.answers.specs.Answer.{Refusal}
 use Rattle.records.specs.JobFile.{modeCausal, modePauli}
 use Rattle.records.specs.FlowFile.{Flow}
 
 -- the question is passed, or refused with number, a and b
-abbrev pub ask : Bool → (number a b : ℕ) → Option Refusal
+unfoldable pub ask : Bool → (number a b : ℕ) → Option Refusal
 ask true q a b = none
 ask false q a b = some (record { number = q; a = a; b = b })
 
@@ -32,7 +33,7 @@ module _ (j : Job) (f : Flow) where
   -- ---- questions on sets
   -- is each member no input, the node itself excepted (13)
   abbrev pub inputAsk : ℕ → ℕ → Option Refusal
-  inputAsk u k = ask (not (f .set u k) || not (j .input k) || eqb k u) 13 u 0
+  inputAsk u k = ask (inputHolds j (f .set u) u k) 13 u 0
 
   -- are the nodes with a non-empty set exactly the non-outputs (14)
   abbrev pub domainAsk : ℕ → Option Refusal
@@ -70,16 +71,16 @@ module _ (j : Job) (f : Flow) where
   abbrev pub laterAsk : (ℕ → Bool) → (ℕ → Bool) → ℕ → ℕ → Option Refusal
   laterAsk s excused i k = ask (not (s k) || eqb k i || later i k || excused k) 18 i k
 
-  -- in mode 3 a member is excused by X or Y, a node of Odd by Y or Z
+  -- the excuses are those of `need`; nobody is excused but in mode 3
   abbrev pub memberAsk : ℕ → ℕ → ℕ → Option Refusal
-  memberAsk mode i = laterAsk (f .set i) (λ k. eqb mode modePauli && isXorY (j .measured k)) i
+  memberAsk mode i = laterAsk (f .set i) (memberExcused j (eqb mode modePauli)) i
 
   abbrev pub oddAsk : ℕ → ℕ → ℕ → Option Refusal
-  oddAsk mode i = laterAsk (odd j (f .set i)) (λ k. eqb mode modePauli && isYorZ (j .measured k)) i
+  oddAsk mode i = laterAsk (odd j (f .set i)) (oddExcused j (eqb mode modePauli)) i
 
   -- in mode 3, is each Y node other than i that is in just one of set and Odd later (19)
   abbrev pub yAsk : ℕ → ℕ → ℕ → Option Refusal
-  yAsk mode i k = ask (not (eqb mode modePauli && eqb (j .measured k) pauliY && (f .set i k ⊕ odd j (f .set i) k)) || eqb k i || later i k) 19 i 0
+  yAsk mode i k = ask (not (yAsked j (eqb mode modePauli) k && (f .set i k ⊕ odd j (f .set i) k)) || eqb k i || later i k) 19 i 0
 
   -- mode 1: is f(i) = k later; are k's neighbours other than i later (18)
   abbrev pub successorAsk : ℕ → ℕ → Option Refusal
