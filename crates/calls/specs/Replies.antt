@@ -9,7 +9,7 @@ use Rattle.nodes.specs.Row.{members}
 use Rattle.nodes.specs.NodeSet.{highest, capacity}
 use Rattle.nodes.specs.SetTable.{setAt}
 use Rattle.answers.specs.Answer.{Answer, gives, refuses, refusal}
-use Rattle.records.specs.Refusals.{refusalOf}
+use Rattle.answers.specs.Refusals.{refusalOf}
 use Rattle.records.specs.Writing.{flowRecords}
 use Rattle.calls.specs.declared.Reply.{Reply}
 use Rattle.calls.specs.declared.Reply.the-variants.{Wrote, Refused as NotWritten}

@@ -1,6 +1,6 @@
 // Checking a causal flow, mode 1 of document 01.
 ghost use mathlib.Core.Path.{_≡_};
-ghost use Prim.Native.Nat.{_≤_};
+ghost use Prim.Native.Nat.{_≤_, _<_};
 ghost use mathlib.Core.List.{[]};
 ghost use Rattle.nodes.specs.NodeSet.{capacity};
 ghost use Rattle.finder.specs.Finder.{jobIn};
@@ -8,21 +8,22 @@ ghost use Rattle.records.specs.JobFile.{modeCausal};
 ghost use Rattle.verdicts.specs.Verdict.{each, causalAsk, definitionAsk, checkDefinition};
 ghost use Rattle.calls.specs.Loaded.{flowIn, noNodes, askedOf};
 use crate::validate::Asked;
-use crate::validate::byte_at;
 use crate::validate::check_measured;
 use crate::validate::in_order;
+use crate::validate::layer_at;
 use crate::validate::not_later;
+use answers::INCONSISTENT_FLOW_ORDER;
+use answers::Refusal;
 use nodes::utils::NodeSet;
 use nodes::utils::set_at;
-use records::common::Refused;
 
-// Node i with f(i) = k: is f(i) later, are its neighbors other than i later, are the two adjacent (18)?
-fn check_pair(n: usize, graph: &[u64], layers: &[u8], i: u8, k: u8) -> Asked
-    requires { ⌜ n ≤ capacity ⌝ }
+// Node i with f(i) = k: is f(i) later, are its neighbours other than i later, are the two adjacent (18)?
+fn check_pair(n: usize, graph: &[u64], layers: &[u16], i: usize, k: usize) -> Asked
+    requires { ⌜ (n ≤ capacity) × (i < capacity) × (k < capacity) ⌝ }
     ensures { λ r. ⌜ askedOf r ≡ causalAsk (jobIn n (now (graph .entry)) noNodes noNodes []) (flowIn (now (layers .entry)) noNodes []) i k ⌝ }
 {
-    if byte_at(layers, k) >= byte_at(layers, i) {
-        return Asked::Refused(Refused::InconsistentFlowOrder(i, k));
+    if layer_at(layers, k) >= layer_at(layers, i) {
+        return Asked::Refused(Refusal(INCONSISTENT_FLOW_ORDER, i as u8, k as u16));
     }
     let around = set_at(graph, k);
     let a = in_order(i, around.intersection(not_later(n, layers, i)));
@@ -30,7 +31,7 @@ fn check_pair(n: usize, graph: &[u64], layers: &[u8], i: u8, k: u8) -> Asked
         return a;
     };
     if !around.has(i) {
-        return Asked::Refused(Refused::InconsistentFlowOrder(i, k));
+        return Asked::Refused(Refusal(INCONSISTENT_FLOW_ORDER, i as u8, k as u16));
     }
     Asked::Passed
 }
@@ -40,11 +41,11 @@ fn check_node(
     n: usize,
     graph: &[u64],
     outputs: NodeSet,
-    layers: &[u8],
+    layers: &[u16],
     sets: &[u64],
-    i: u8,
+    i: usize,
 ) -> Asked
-    requires { ⌜ n ≤ capacity ⌝ }
+    requires { ⌜ (n ≤ capacity) × (i < capacity) ⌝ }
     ensures { λ r. ⌜ askedOf r ≡ definitionAsk (jobIn n (now (graph .entry)) noNodes outputs []) (flowIn (now (layers .entry)) noNodes (now (sets .entry))) modeCausal i ⌝ }
 {
     if outputs.has(i) {
@@ -61,12 +62,12 @@ fn check_node(
     Asked::Passed
 }
 
-fn check_nodes(n: usize, graph: &[u64], outputs: NodeSet, layers: &[u8], sets: &[u64]) -> Asked
+fn check_nodes(n: usize, graph: &[u64], outputs: NodeSet, layers: &[u16], sets: &[u64]) -> Asked
     requires { ⌜ n ≤ capacity ⌝ }
     ensures { λ r. ⌜ askedOf r ≡ each n (definitionAsk (jobIn n (now (graph .entry)) noNodes outputs []) (flowIn (now (layers .entry)) noNodes (now (sets .entry))) modeCausal) ⌝ }
 {
-    let mut i: u8 = 0;
-    while (i as usize) < n {
+    let mut i = 0;
+    while i < n {
         let a = check_node(n, graph, outputs, layers, sets, i);
         let Asked::Passed = a else {
             return a;
@@ -82,7 +83,7 @@ pub(crate) fn check_definition(
     graph: &[u64],
     outputs: NodeSet,
     measured: &[u8],
-    layers: &[u8],
+    layers: &[u16],
     entries: NodeSet,
     sets: &[u64],
 ) -> Asked

@@ -1,25 +1,26 @@
-// What the records hold, as the cores take it: the measurements to work with, and edges and sets as tables of sets.
+// One loader for all calls: from the places of payloads to what searches and verifiers work on.
 ghost use mathlib.Core.Path.{_≡_};
 ghost use mathlib.Core.Bool.{true, _&&_, _||_};
-ghost use mathlib.Core.List.{List};
-ghost use Prim.Native.Nat.{ℕ, _<_};
+ghost use Prim.Native.Nat.{ℕ, _≤_, _<_};
 ghost use lib.Dec.{eqb, ltb};
-ghost use lib.ListN.{length};
+ghost use lib.ListN.{length, getD};
 ghost use Rattle.nodes.specs.NodeSet.{member, capacity};
 ghost use Rattle.nodes.specs.SetTable.{setAt, tableWords};
-ghost use Rattle.nodes.specs.Lists.{all};
-ghost use Rattle.records.specs.JobFile.{measuredOf, joined};
-ghost use Rattle.records.specs.FlowFile.{entriesOf, framed, listed, allEntries, entryBelow, setIn, entryIn};
-ghost use Rattle.records.specs.Views.{Lies, fileAt};
-ghost use Rattle.calls.specs.Loading.{measuredAt, hasSet};
-use finder::CAPACITY;
-use finder::TABLE_WORDS;
+ghost use Rattle.nodes.specs.Lists.{all, zeros};
+ghost use Rattle.records.specs.JobFile.{measuredOf, joined, jobOf};
+ghost use Rattle.records.specs.FlowFile.{entriesOf, framed, listed, allEntries, entryBelow, setIn, entryIn, flowOf};
+ghost use Rattle.records.specs.Encoding.{ValidJob};
+ghost use Rattle.records.specs.Views.{bytesAt, Lies, fileAt, JobLies, flowAt};
+ghost use Rattle.calls.specs.Loaded.{hasSet, jobLoaded, flowIn};
+use nodes::utils::CAPACITY;
 use nodes::utils::NodeSet;
+use nodes::utils::TABLE_WORDS;
 use nodes::utils::clear_table;
 use nodes::utils::mask;
 use nodes::utils::put_set;
 use nodes::utils::set_at;
 use records::common::ENTRY_HEAD_BYTES;
+use records::common::FlowPlaces;
 use records::common::JobPlaces;
 use records::common::Place;
 use records::common::entries_end;
@@ -30,51 +31,43 @@ const SET_WORDS: usize = TABLE_WORDS / CAPACITY;
 
 const WORD_NODES: usize = CAPACITY / SET_WORDS;
 
-// The mode and the measurements to work with.
-pub(crate) struct Measured {
-    pub(crate) mode: u8,
-    pub(crate) measurements: Place,
-}
-
-// Today those of the file.
-pub(crate) fn measured_of(job: JobPlaces) -> Measured
-    ensures { λ r. ⌜ ((s : List ℕ) → measuredAt s r ≡ measuredOf (fileAt s job)) ⌝ }
-    ensures { λ r. ⌜ ((s : List ℕ) → Lies s (job .measurements) → Lies s (r .measurements)) ⌝ }
+// The bytes at a place.
+pub(crate) fn payload(file: &[u8], place: Place) -> &[u8]
+    requires { ⌜ Lies (now file) place ⌝ }
+    ensures { λ r. ⌜ now r ≡ bytesAt place (now (file .entry)) ⌝ }
 {
-    let measurements = job.measurements;
-    Measured {
-        mode: job.mode,
-        measurements,
-    }
+    let start = place.start;
+    let end = place.end;
+    &file[start..end]
 }
 
 // The nodes of more join set u, where the table has it.
-fn add_set(table: &mut [u64], u: u8, more: NodeSet)
+fn add_set(table: &mut [u64], u: usize, more: NodeSet)
     ensures { λ _. ⌜ ((v w : ℕ) → setAt (now (table .exit)) v w ≡ setAt (now (table .entry)) v w || ((eqb v u && member more w) && hasSet (now (table .entry)) u)) ⌝ }
 {
     let old = set_at(table, u);
     put_set(table, u, old.union(more));
 }
 
-// Node b becomes a neighbor of a: its digit is in one word of a's set.
-fn join(graph: &mut [u64], a: u8, b: u8)
+// Node b becomes a neighbour of a: its digit is in one word of a's set.
+fn join(graph: &mut [u64], a: usize, b: usize)
     requires { ⌜ (length (now graph) ≡ tableWords) × (a < capacity) × (b < capacity) ⌝ }
     ensures { λ _. ⌜ ((u v : ℕ) → setAt (now (graph .exit)) u v ≡ setAt (now (graph .entry)) u v || (eqb u a && eqb v b)) ⌝ }
 {
-    let at = SET_WORDS * a as usize + b as usize / WORD_NODES;
+    let at = SET_WORDS * a + b / WORD_NODES;
     graph[at] |= mask(b);
 }
 
 // Each edge joins both ways.
-pub(crate) fn load_graph(edges: &[u8], graph: &mut [u64])
+fn load_graph(edges: &[u8], graph: &mut [u64])
     requires { ⌜ (length (now graph) ≡ tableWords) × (all (λ v. ltb v capacity) (now edges) ≡ true) ⌝ }
     ensures { λ _. ⌜ ((u v : ℕ) → setAt (now (graph .exit)) u v ≡ joined (now (edges .entry)) u v) ⌝ }
 {
     clear_table(graph);
     let mut i = 0;
     while i + 1 < edges.len() {
-        let a = edges[i];
-        let b = edges[i + 1];
+        let a = edges[i] as usize;
+        let b = edges[i + 1] as usize;
         join(graph, a, b);
         join(graph, b, a);
         i += 2;
@@ -92,7 +85,7 @@ fn load_entries(sets: &[u8], table: &mut [u64]) -> NodeSet
     let mut entries = NodeSet::empty();
     let mut i = 0;
     while i < sets.len() {
-        let u = sets[i];
+        let u = sets[i] as usize;
         let start = i + ENTRY_HEAD_BYTES;
         let end = start + sets[i + 1] as usize;
         let members = set_of(&sets[start..end]);
@@ -104,7 +97,7 @@ fn load_entries(sets: &[u8], table: &mut [u64]) -> NodeSet
 }
 
 // Bytes that are no entries have no set.
-pub(crate) fn load_sets(sets: &[u8], table: &mut [u64]) -> NodeSet
+fn load_sets(sets: &[u8], table: &mut [u64]) -> NodeSet
     requires { ⌜ (length (now table) ≡ tableWords) × (allEntries (entryBelow capacity) (listed (entriesOf (now sets))) ≡ true) ⌝ }
     ensures { λ r. ⌜ ((u v : ℕ) → setAt (now (table .exit)) u v ≡ setIn (listed (entriesOf (now (sets .entry)))) u v) ⌝ }
     ensures { λ r. ⌜ ((u : ℕ) → member r u ≡ entryIn (listed (entriesOf (now (sets .entry)))) u) ⌝ }
@@ -114,4 +107,82 @@ pub(crate) fn load_sets(sets: &[u8], table: &mut [u64]) -> NodeSet
         return NodeSet::empty();
     }
     load_entries(sets, table)
+}
+
+// ---- Numbers of the nodes, a byte each in the file; past the bytes the buffer stays 0.
+
+fn load_bytes(bytes: &[u8], to: &mut [u8])
+    requires { ⌜ (length (now bytes) ≤ length (now to)) × (now to ≡ zeros (length (now to))) ⌝ }
+    ensures { λ _. ⌜ ((u : ℕ) → getD (now (to .exit)) u 0 ≡ getD (now (bytes .entry)) u 0) ⌝ }
+{
+    let mut i = 0;
+    while i < bytes.len() {
+        to[i] = bytes[i];
+        i += 1;
+    }
+}
+
+// The layers of 0011, as numbers that are wider than its bytes.
+fn load_layers(bytes: &[u8], to: &mut [u16])
+    requires { ⌜ (length (now bytes) ≤ length (now to)) × (now to ≡ zeros (length (now to))) ⌝ }
+    ensures { λ _. ⌜ ((u : ℕ) → getD (now (to .exit)) u 0 ≡ getD (now (bytes .entry)) u 0) ⌝ }
+{
+    let mut i = 0;
+    while i < bytes.len() {
+        to[i] = bytes[i] as u16;
+        i += 1;
+    }
+}
+
+// ---- Job and flow, for every call.
+
+// What is loaded of a job: mode is the mode to work with. Its graph and the measurements to work with lie in lent buffers.
+pub(crate) struct Loaded {
+    pub(crate) n: usize,
+    pub(crate) mode: u8,
+    pub(crate) inputs: NodeSet,
+    pub(crate) outputs: NodeSet,
+}
+
+// The mode and the measurements to work with are today those of the file; nothing behind this reads them there.
+pub(crate) fn load_job(
+    file: &[u8],
+    job: JobPlaces,
+    graph: &mut [u64],
+    measured: &mut [u8],
+) -> Loaded
+    requires { ⌜ ValidJob (fileAt (now file) job) × JobLies (now file) job ⌝ }
+    requires { ⌜ (length (now graph) ≡ tableWords) × (now measured ≡ zeros capacity) ⌝ }
+    ensures { λ r. ⌜ jobLoaded r (now (graph .exit)) (now (measured .exit)) ≡ jobOf (fileAt (now (file .entry)) job) ⌝ }
+    ensures { λ r. ⌜ r .mode ≡ measuredOf (fileAt (now (file .entry)) job) .mode ⌝ }
+{
+    let edges = job.edges;
+    load_graph(payload(file, edges), graph);
+    let measurements = job.measurements;
+    load_bytes(payload(file, measurements), measured);
+    let inputs = job.inputs;
+    let outputs = job.outputs;
+    Loaded {
+        n: job.n,
+        mode: job.mode,
+        inputs: set_of(payload(file, inputs)),
+        outputs: set_of(payload(file, outputs)),
+    }
+}
+
+// Layers and sets go into the lent buffers; the answer is the nodes that have an entry.
+pub(crate) fn load_flow(
+    file: &[u8],
+    flow: FlowPlaces,
+    layers: &mut [u16],
+    sets: &mut [u64],
+) -> NodeSet
+    requires { ⌜ (length (bytesAt (flow .layers) (now file)) ≤ capacity) × (allEntries (entryBelow capacity) (flowAt (now file) flow .sets) ≡ true) ⌝ }
+    requires { ⌜ Lies (now file) (flow .layers) × Lies (now file) (flow .sets) × (now layers ≡ zeros capacity) × (length (now sets) ≡ tableWords) ⌝ }
+    ensures { λ r. ⌜ flowIn (now (layers .exit)) r (now (sets .exit)) ≡ flowOf (flowAt (now (file .entry)) flow) ⌝ }
+{
+    let first = flow.layers;
+    load_layers(payload(file, first), layers);
+    let second = flow.sets;
+    load_sets(payload(file, second), sets)
 }

@@ -2,15 +2,14 @@
 ghost use mathlib.Core.Path.{_≡_};
 ghost use mathlib.Core.List.{[]};
 ghost use Rattle.solver.specs.Solver.{MatrixAfter, solvedOf, solveAsks, solveCall};
-ghost use Rattle.records.specs.Refusals.{refusalOf};
+ghost use Rattle.answers.specs.Refusals.{refusalOf};
 ghost use Rattle.demands.specs.Calls.{findCall, verifyCall};
 ghost use Rattle.calls.specs.Replies.{replyOf};
 ghost use Rattle.capi.specs.Codes.{refusalCode, answerCode, coded, counted, codedBits};
+use answers::Refusal;
 use calls::Reply;
 use calls::find::find;
-use calls::verify;
-use records::common::Refused;
-use records::common::numbers_of;
+use calls::verify::verify;
 use solver::gf2_linalg::Solved;
 use solver::gf2_linalg::solve_in_place;
 
@@ -20,17 +19,10 @@ const NUMBER_UNIT: u64 = 4294967296;
 const A_UNIT: u64 = 65536;
 
 // A refusal as one number.
-fn code(number: u8, a: u8, b: u8) -> u64
-    ensures { λ r. ⌜ r ≡ refusalCode (record { number = number; a = a; b = b }) ⌝ }
-{
-    number as u64 * NUMBER_UNIT + a as u64 * A_UNIT + b as u64
-}
-
-fn refusal_code(q: Refused) -> u64
+fn refusal_code(q: Refusal) -> u64
     ensures { λ r. ⌜ r ≡ refusalCode (refusalOf q) ⌝ }
 {
-    let m = numbers_of(q);
-    code(m.number, m.a, m.b)
+    q.0 as u64 * NUMBER_UNIT + q.1 as u64 * A_UNIT + q.2 as u64
 }
 
 fn reply_code(reply: Reply) -> u64
@@ -48,8 +40,7 @@ fn solved_code(solved: Solved) -> u64
     match solved {
         Solved::Solvable => 1,
         Solved::Unsolvable => 0,
-        Solved::WrongShape => code(11, 0, 0),
-        Solved::NoSuchEquation => code(12, 0, 0),
+        Solved::Refused(q) => refusal_code(q),
     }
 }
 

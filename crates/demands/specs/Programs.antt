@@ -1,5 +1,5 @@
 -- The two programs: what each writes for the bytes of its standard input.
-use Prim.Native.Nat.{ℕ}
+use Prim.Native.Nat.{ℕ, _%_}
 use mathlib.Core.List.{List, [], _∷_}
 use lib.ListN.{take}
 use Rattle.answers.specs.Answer.{Refusal, Answer, gives, refuses}
@@ -13,9 +13,9 @@ use Rattle.demands.specs.Calls.{foundBytes, findAsks, verifyAsks}
 abbrev pub judgedBytes : ℕ
 judgedBytes = 65536
 
--- 001F: refusal number, a, b
+-- 001F: refusal number, a, b, a byte each; no refusal has a larger b (verify-numbered)
 abbrev pub refusalBytes : Refusal → List ℕ
-refusalBytes r = written kindRefusal (r .number ∷ r .a ∷ r .b ∷ [])
+refusalBytes r = written kindRefusal (r .number ∷ r .a ∷ r .b % 256 ∷ [])
 
 abbrev pub findOutput : Answer JobFile → List ℕ
 findOutput (gives f) = foundBytes f

@@ -4,6 +4,7 @@ ghost use Prim.Native.Nat.{_≤_, _<_};
 ghost use mathlib.Core.Path.{_≡_};
 ghost use lib.ListN.{length, getD};
 ghost use Rattle.messages.specs.Message.{line, putWhole};
+use answers::Refusal;
 use libc::STDOUT_FILENO;
 use messages::LINE_ROOM;
 use messages::message;
@@ -15,7 +16,6 @@ use records::common::KIND_LAYERS;
 use records::common::KIND_NO_FLOW;
 use records::common::KIND_REFUSAL;
 use records::common::MOST_NODES;
-use records::common::Refused;
 use records::common::read_flow;
 use streams::Input;
 use streams::only_usage;
@@ -28,6 +28,9 @@ const MOST_BYTES: usize = 65536;
 
 // The payload of 001F.
 const REFUSAL_PAYLOAD: usize = 3;
+
+// The question whether the whole payload is there.
+const CUT_PAYLOAD: u8 = 2;
 
 // What a file is, judged by the heads of its records, its length and the entries of its sets.
 enum Judged {
@@ -86,7 +89,7 @@ fn judge_single(file: &[u8], payload: usize, whole: Judged) -> Judged
 
 // A flow file: layers and sets as the verifier reads them, and nothing behind them.
 fn judge_flow(file: &[u8], n: usize) -> Judged {
-    if n > wide(MOST_NODES) {
+    if n > MOST_NODES {
         return Judged::Other;
     }
     if file.len() < 2 * HEAD_BYTES + n {
@@ -101,7 +104,7 @@ fn judge_flow(file: &[u8], n: usize) -> Judged {
             Judged::Other
         }
         FlowRead::Refused(q) => {
-            if let Refused::CutPayload = q {
+            if q.0 == CUT_PAYLOAD {
                 return Judged::Cut;
             }
             Judged::Other
@@ -199,12 +202,12 @@ fn show_flow(file: &[u8]) -> bool
 
 // The line of 001F at the front of the buffer; how many bytes it takes.
 fn put_refusal(file: &[u8], out: &mut [u8]) -> usize
-    ensures { λ r. ⌜ record { count = r; out = now (out .exit) } ≡ putWhole (line (getD (now (file .entry)) 6 0) (getD (now (file .entry)) 7 0) (getD (now (file .entry)) 8 0)) (now (out .entry)) ⌝ }
+    ensures { λ r. ⌜ record { count = r; out = now (out .exit) } ≡ putWhole (line (record { number = getD (now (file .entry)) 6 0; a = getD (now (file .entry)) 7 0; b = getD (now (file .entry)) 8 0 })) (now (out .entry)) ⌝ }
 {
     let number = byte(file, HEAD_BYTES);
     let a = byte(file, HEAD_BYTES + 1);
     let b = byte(file, HEAD_BYTES + 2);
-    message(number, a, b, out)
+    message(Refusal(number, a, b as u16), out)
 }
 
 fn show_refusal(file: &[u8]) -> bool {

@@ -14,7 +14,7 @@ pub record Both : Type 0 where
 -- a result has no line
 abbrev pub errorOf : Option Refusal → List ℕ
 errorOf none = []
-errorOf (some r) = line (r .number) (r .a) (r .b)
+errorOf (some r) = line r
 
 abbrev pub both : Printed → (error : List ℕ) → Both
 both p error = record { output = record { count = p .count; out = p .out }; error = putWhole (errorOf (p .refused)) error }

@@ -8,12 +8,12 @@ use lib.ListN.{length, take, drop}
 use Rattle.nodes.specs.Lists.{zeros}
 use Rattle.solver.specs.Solver.{workBytes}
 use Rattle.answers.specs.Answer.{Refusal, Answer, gives, refuses, refusal}
-use Rattle.records.specs.Refusals.{numbersIn}
+use Rattle.answers.specs.Refusals.{refusalOf}
 use Rattle.demands.specs.Calls.{findAsks, verifyAsks}
 use Rattle.demands.specs.Programs.{judgedBytes, findProgram, verifyProgram}
 use Rattle.programs.specs.declared.output.Output.{Output}
 use Rattle.programs.specs.declared.output.Told.{Told}
-use Rattle.programs.specs.declared.output.Told.the-variants.{Result, Refusal as Refused}
+use Rattle.programs.specs.declared.output.Told.the-variants.{Result, Refused}
 
 -- the refusal, none for a result; how many bytes were written; the buffer
 pub record Printed : Type 0 where
@@ -45,7 +45,7 @@ verifyPrinted input out = printed (refusalIn (verifyAsks (take judgedBytes input
 -- ---- what the code answers
 abbrev pub refusedOf : Told → Option Refusal
 refusedOf Result = none
-refusedOf (Refused m) = some (numbersIn m)
+refusedOf (Refused q) = some (refusalOf q)
 
 -- with the buffer as it is then
 abbrev pub outputOf : Output → (out : List ℕ) → Printed

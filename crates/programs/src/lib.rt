@@ -22,7 +22,7 @@ fn report(told: Told, error: &mut [u8]) -> usize
 {
     match told {
         Told::Result => 0,
-        Told::Refusal(m) => message(m.number, m.a, m.b, error),
+        Told::Refused(q) => message(q, error),
     }
 }
 

@@ -2,19 +2,17 @@
 ghost use mathlib.Core.Path.{_≡_};
 ghost use mathlib.Core.Option.{some};
 ghost use Prim.Native.Nat.{min};
-ghost use Rattle.records.specs.Refusals.{numbersIn};
+ghost use Rattle.answers.specs.Refusals.{refusalOf};
 ghost use Rattle.demands.specs.Programs.{judgedBytes, refusalBytes};
 ghost use Rattle.programs.specs.Printing.{printed, findPrinted, verifyPrinted, outputOf};
+use answers::Refusal;
 use calls::Reply;
 use calls::find::find;
-use calls::verify;
-use finder::WORK_BYTES;
+use calls::verify::verify;
 use records::common::KIND_REFUSAL;
-use records::common::Numbers;
-use records::common::Refused;
-use records::common::numbers_of;
 use records::writer::Put;
 use records::writer::write_record;
+use solver::gf2_linalg::WORK_BYTES;
 
 // Each judges the first 65,536 bytes.
 pub const JUDGED_BYTES: usize = 65536;
@@ -28,7 +26,7 @@ const TOO_LONG: u8 = 20;
 // What a call ends with: a result, or a refusal with document 01's number, a and b.
 pub enum Told {
     Result,
-    Refusal(Numbers),
+    Refused(Refusal),
 }
 
 // How many bytes were written at the front of the buffer: of a result, or of 001F. With 20 nothing is written.
@@ -48,23 +46,23 @@ fn wrote(count: usize) -> Output
 }
 
 // A refusal, of which so many bytes were written.
-fn refused(count: usize, m: Numbers) -> Output
-    ensures { λ r. ⌜ r ≡ record { count = count; told = Told.Refusal m } ⌝ }
+fn refused(count: usize, q: Refusal) -> Output
+    ensures { λ r. ⌜ r ≡ record { count = count; told = Told.Refused q } ⌝ }
 {
     Output {
         count,
-        told: Told::Refusal(m),
+        told: Told::Refused(q),
     }
 }
 
 // 001F at the front of the buffer, or 20 where it does not fit.
-fn write_refusal(out: &mut [u8], m: Numbers) -> Output
-    ensures { λ r. ⌜ outputOf r (now (out .exit)) ≡ printed (some (numbersIn m)) (refusalBytes (numbersIn m)) (now (out .entry)) ⌝ }
+fn write_refusal(out: &mut [u8], q: Refusal) -> Output
+    ensures { λ r. ⌜ outputOf r (now (out .exit)) ≡ printed (some (refusalOf q)) (refusalBytes (refusalOf q)) (now (out .entry)) ⌝ }
 {
-    let payload = [m.number, m.a, m.b];
+    let payload = [q.0, q.1, (q.2 % 256) as u8];
     match write_record(out, KIND_REFUSAL, &payload) {
-        Put::Bytes(k) => refused(k, m),
-        Put::TooLong => refused(0, numbers_of(Refused::ResultTooLong)),
+        Put::Bytes(k) => refused(k, q),
+        Put::TooLong => refused(0, Refusal::RESULT_TOO_LONG),
     }
 }
 
@@ -87,11 +85,10 @@ pub fn find_bytes(input: &[u8], out: &mut [u8]) -> Output
     match find(&input[0..n], &mut work, out) {
         Reply::Wrote(k) => wrote(k),
         Reply::Refused(q) => {
-            let m = numbers_of(q);
-            if m.number == TOO_LONG {
-                return refused(0, m);
+            if q.0 == TOO_LONG {
+                return refused(0, q);
             }
-            write_refusal(out, m)
+            write_refusal(out, q)
         }
     }
 }
@@ -103,6 +100,6 @@ pub fn verify_bytes(input: &[u8], out: &mut [u8]) -> Output
     let n = judged(input.len());
     match verify(&input[0..n], out) {
         Reply::Wrote(k) => wrote(k),
-        Reply::Refused(q) => write_refusal(out, numbers_of(q)),
+        Reply::Refused(q) => write_refusal(out, q),
     }
 }

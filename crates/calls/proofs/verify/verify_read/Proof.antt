@@ -6,8 +6,8 @@ use Rattle.demands.specs.Calls.{verdict}
 use Rattle.records.specs.Views.{fileAt, flowAt}
 use Rattle.calls.proofs.LoadingFiles.{some-left, not-one, all-one}
 use borrow.Author.Needs.{needs}
-use Rattle.calls.proofs.verify_read.Statement.{statement}
-use Rattle.calls.proofs.verify_read.Tie as tie
+use Rattle.calls.proofs.verify.verify_read.Statement.{statement}
+use Rattle.calls.proofs.verify.verify_read.Tie as tie
 
 returns : tie.Need-returns
 returns c = let s = c .before .before .before in

@@ -6,8 +6,8 @@ use Rattle.verdicts.specs.Verdict.{nodeAsk, causalAsk, checkDefinition, verify}
 use Rattle.calls.specs.Loaded.{flowIn, askedOf}
 use Rattle.calls.proofs.AskingDefinition.{verify-domain, verify-initial, verify-definition, planes-mode}
 use borrow.Author.Needs.{needs}
-use Rattle.calls.proofs.verify_loaded.Statement.{statement}
-use Rattle.calls.proofs.verify_loaded.Tie as tie
+use Rattle.calls.proofs.verify.verify_loaded.Statement.{statement}
+use Rattle.calls.proofs.verify.verify_loaded.Tie as tie
 
 abbrev G : tie.Start → Job
 G s = jobIn (s .args .n) (s .args .graph .now) (s .args .inputs) (s .args .outputs) (s .args .measured .now)

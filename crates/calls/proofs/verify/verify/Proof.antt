@@ -4,8 +4,8 @@ use Rattle.records.specs.Records.{written, kindAccepted}
 use Rattle.calls.proofs.Finding.{put-is}
 use Rattle.calls.proofs.LoadingFiles.{call-passed, call-stopped}
 use borrow.Author.Needs.{needs}
-use Rattle.calls.proofs.verify.Statement.{statement}
-use Rattle.calls.proofs.verify.Tie as tie
+use Rattle.calls.proofs.verify.verify.Statement.{statement}
+use Rattle.calls.proofs.verify.verify.Tie as tie
 
 verify-file-requires : tie.Need-verify-file-requires
 verify-file-requires c κs = search needs

@@ -9,8 +9,8 @@ use Rattle.answers.specs.Answer.{gives}
 use Rattle.records.specs.JobFile.{readJob}
 use Rattle.records.specs.FlowFile.{readFlow}
 use borrow.Author.Needs.{needs}
-use Rattle.calls.proofs.verify_file.Statement.{statement}
-use Rattle.calls.proofs.verify_file.Tie as tie
+use Rattle.calls.proofs.verify.verify_file.Statement.{statement}
+use Rattle.calls.proofs.verify.verify_file.Tie as tie
 
 abbrev S : tie.After-known-told2 → List ℕ
 S c = c .before .before .before .before .before .args .file .now

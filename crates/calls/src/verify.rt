@@ -1,0 +1,157 @@
+// The verifier: a job and the flow file behind it are read and judged, and 0014 is written.
+ghost use mathlib.Core.Path.{_≡_};
+ghost use mathlib.Core.Bool.{not, _||_};
+ghost use mathlib.Core.List.{[]};
+ghost use Prim.Native.Nat.{_≤_};
+ghost use lib.Dec.{eqb};
+ghost use lib.ListN.{length};
+ghost use Rattle.nodes.specs.NodeSet.{capacity};
+ghost use Rattle.records.specs.JobFile.{modeCausal, measuredOf, jobOf};
+ghost use Rattle.records.specs.FlowFile.{entriesOf, listed, allEntries, flowOf};
+ghost use Rattle.records.specs.Encoding.{ValidJob, ValidFlow};
+ghost use Rattle.verdicts.specs.Verdict.{checkDefinition, verify as verifyOf};
+ghost use Rattle.demands.specs.Calls.{verdict, verifyAsks, verifyCall};
+ghost use Rattle.records.specs.Views.{fileAt, JobLies, flowAt, FlowLies};
+ghost use Rattle.calls.specs.Loaded.{jobLoaded, flowIn, askedOf, flowAsks};
+ghost use Rattle.calls.specs.Replies.{replyOf};
+use crate::Reply;
+use crate::flow;
+use crate::load::Loaded;
+use crate::load::load_flow;
+use crate::load::load_job;
+use crate::load::payload;
+use crate::pflow;
+use crate::validate::Asked;
+use crate::validate::check_domain;
+use crate::validate::check_initial;
+use crate::write_bare;
+use answers::Refusal;
+use nodes::utils::CAPACITY;
+use nodes::utils::NodeSet;
+use nodes::utils::TABLE_WORDS;
+use records::common::FlowPlaces;
+use records::common::FlowRead;
+use records::common::JobPlaces;
+use records::common::JobRead;
+use records::common::KIND_ACCEPTED;
+use records::common::MODE_CAUSAL;
+use records::common::one_member;
+use records::common::read_flow;
+use records::common::read_job;
+
+// Questions 17 to 19: mode 1 has its own, and one rule serves the others.
+fn check_definition(
+    job: Loaded,
+    graph: &[u64],
+    measured: &[u8],
+    layers: &[u16],
+    entries: NodeSet,
+    sets: &[u64],
+) -> Asked
+    requires { ⌜ job .n ≤ capacity ⌝ }
+    ensures { λ r. ⌜ askedOf r ≡ checkDefinition (jobLoaded job (now (graph .entry)) (now (measured .entry))) (flowIn (now (layers .entry)) entries (now (sets .entry))) (job .mode) ⌝ }
+{
+    let n = job.n;
+    let mode = job.mode;
+    let outputs = job.outputs;
+    if mode == MODE_CAUSAL {
+        return flow::check_definition(n, graph, outputs, measured, layers, entries, sets);
+    }
+    pflow::check_definition(n, mode, graph, outputs, measured, layers, entries, sets)
+}
+
+// Questions 13 to 19 in their order.
+fn verify_loaded(
+    job: Loaded,
+    graph: &[u64],
+    measured: &[u8],
+    layers: &[u16],
+    entries: NodeSet,
+    sets: &[u64],
+) -> Asked
+    requires { ⌜ job .n ≤ capacity ⌝ }
+    ensures { λ r. ⌜ askedOf r ≡ verifyOf (jobLoaded job (now (graph .entry)) (now (measured .entry))) (flowIn (now (layers .entry)) entries (now (sets .entry))) (job .mode) ⌝ }
+{
+    let n = job.n;
+    let outputs = job.outputs;
+    let a = check_domain(n, job.inputs, outputs, sets);
+    let Asked::Passed = a else {
+        return a;
+    };
+    let b = check_initial(n, job.mode, outputs, layers);
+    let Asked::Passed = b else {
+        return b;
+    };
+    check_definition(job, graph, measured, layers, entries, sets)
+}
+
+// Job and flow are loaded from the places of their payloads.
+fn verify_places(file: &[u8], job: JobPlaces, flow: FlowPlaces) -> Asked
+    requires { ⌜ JobLies (now file) job × FlowLies (now file) (job .measurements .end) flow ⌝ }
+    requires { ⌜ ValidJob (fileAt (now file) job) × ValidFlow (job .n) (flowAt (now file) flow) ⌝ }
+    ensures { λ r. ⌜ askedOf r ≡ verifyOf (jobOf (fileAt (now (file .entry)) job)) (flowOf (flowAt (now (file .entry)) flow)) (measuredOf (fileAt (now (file .entry)) job) .mode) ⌝ }
+{
+    let mut graph = [0u64; TABLE_WORDS];
+    let mut measured = [0u8; CAPACITY];
+    let loaded = load_job(file, job, &mut graph, &mut measured);
+    let mut layers = [0u16; CAPACITY];
+    let mut sets = [0u64; TABLE_WORDS];
+    let entries = load_flow(file, flow, &mut layers, &mut sets);
+    verify_loaded(loaded, &graph, &measured, &layers, entries, &sets)
+}
+
+// Has each causal entry one member (9)? Rightly asked of the file's own mode: it is a question of reading.
+fn one_each(mode: u8, sets: &[u8]) -> bool
+    ensures { λ r. ⌜ r ≡ (not (eqb mode modeCausal) || allEntries (λ e. eqb (length (e .set)) 1) (listed (entriesOf (now (sets .entry))))) ⌝ }
+{
+    if mode != MODE_CAUSAL {
+        return true;
+    }
+    one_member(sets)
+}
+
+// Is nothing left (8)? Then 9, and the questions on the flow.
+fn verify_read(file: &[u8], job: JobPlaces, flow: FlowPlaces) -> Asked
+    requires { ⌜ JobLies (now file) job × FlowLies (now file) (job .measurements .end) flow ⌝ }
+    requires { ⌜ ValidJob (fileAt (now file) job) × ValidFlow (job .n) (flowAt (now file) flow) ⌝ }
+    ensures { λ r. ⌜ verdict (askedOf r) ≡ flowAsks (fileAt (now (file .entry)) job) (flowAt (now (file .entry)) flow) ⌝ }
+{
+    let sets = flow.sets;
+    let end = sets.end;
+    if end != file.len() {
+        return Asked::Refused(Refusal::BYTES_LEFT);
+    }
+    if !one_each(job.mode, payload(file, sets)) {
+        return Asked::Refused(Refusal::NOT_ONE_MEMBER);
+    }
+    verify_places(file, job, flow)
+}
+
+// All questions but the writer's: first reading, 1 to 7.
+fn verify_file(file: &[u8]) -> Asked
+    ensures { λ r. ⌜ verdict (askedOf r) ≡ verifyAsks (now (file .entry)) ⌝ }
+{
+    match read_job(file) {
+        JobRead::Refused(q) => Asked::Refused(q),
+        JobRead::Job(job) => {
+            let n = job.n;
+            let place = job.measurements;
+            let end = place.end;
+            match read_flow(file, end, n) {
+                FlowRead::Refused(q) => Asked::Refused(q),
+                FlowRead::Flow(flow) => verify_read(file, job, flow),
+            }
+        }
+    }
+}
+
+// Does the flow file behind the job satisfy the job's mode? The answer 0014 goes to the lent buffer; a refusal
+// leaves it untouched.
+pub fn verify(file: &[u8], out: &mut [u8]) -> Reply
+    ensures { λ r. ⌜ record { answer = replyOf r; work = []; out = now (out .exit) } ≡ verifyCall (now (file .entry)) (now (out .entry)) ⌝ }
+{
+    match verify_file(file) {
+        Asked::Passed => write_bare(out, KIND_ACCEPTED),
+        Asked::Refused(q) => Reply::Refused(q),
+    }
+}
