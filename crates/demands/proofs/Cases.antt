@@ -17,17 +17,17 @@ use Rattle.flows.specs.Search.{rounds}
 use Rattle.answers.specs.Answer.{gives}
 use Rattle.records.specs.Records.{lengthField, part, checked, written}
 use Rattle.nodes.specs.Lists.{has, listOf, all}
-use Rattle.records.specs.JobFile.{JobFile, modeCausal, modePlanes, modePauli, rises, pairsRise, allows, allAllowed, openNo, edgesNo, nodesNo, measurementsNo, readJob, readEdges, readInputs, readOutputs, readMeasurements, joined, jobOf}
-use Rattle.records.specs.FlowFile.{FlowFile, entriesIn, allEntries, entriesRise, layersNo, setsNo, readFlow, readSets, setIn, entryIn, flowOf}
+use Rattle.records.specs.JobFile.{JobFile, modeCausal, modePlanes, modePauli, rises, pairsRise, allows, allAllowed, openingAsks, edgesAsks, nodesAsks, measurementsAsks, readJob, joined, jobOf}
+use Rattle.records.specs.FlowFile.{FlowFile, entriesIn, allEntries, entriesRise, entryBytes, layersAsks, setsAsks, readFlow, setIn, entryIn, flowOf}
 use Rattle.verdicts.specs.Verdict.{ask, eachFrom, nodeAsk, causalAsk, verify}
 use Rattle.demands.specs.Calls.{findAsks, verifyAsks}
-use Rattle.records.specs.Writing.{setBytes}
+use Rattle.records.specs.Encoding.{entriesFor}
 use Rattle.demands.specs.Programs.{findProgram, verifyProgram}
 use Rattle.verdicts.specs.Published.{StrictOrder, Measured, NoInputs, PublishedFlow, byLayer}
 use Rattle.nodes.specs.Lists.{equal}
 use Rattle.demands.specs.Cases.{AllHold, IsFlow, IsNoFlow, Of, alone, aloneFlow, isolated, isolatedFlow, cases, differences}
 use Rattle.demands.specs.Demand.{Accepted, FlowBytes}
-use Rattle.records.proofs.JobFile.{behind, job-append}
+use Rattle.records.proofs.Encoding.{behind, job-append}
 use Rattle.verdicts.proofs.Published.{by-layer}
 use Rattle.demands.proofs.Judging.{accepted-published}
 
@@ -170,8 +170,8 @@ accepted-flow job flow f g reads ends inputs r a = (
 all-hold : AllHold cases × AllHold differences
 unfolding
     bit parity anyBelow allBelow count lowestFrom membersFrom solve entryOf digits listOf fits bothFit wellShaped solveAsks own branches firstSolvable rounds
-    lengthField part checked written all has rises pairsRise allows allAllowed openNo edgesNo nodesNo measurementsNo readJob readEdges readInputs readOutputs readMeasurements joined
-    entriesIn allEntries entriesRise layersNo setsNo readFlow readSets setIn entryIn ask eachFrom nodeAsk causalAsk verify setBytes findAsks verifyAsks findProgram verifyProgram equal
+    lengthField part checked written all has rises pairsRise allows allAllowed openingAsks edgesAsks nodesAsks measurementsAsks readJob joined
+    entriesIn allEntries entriesRise entryBytes layersAsks setsAsks readFlow setIn entryIn ask eachFrom nodeAsk causalAsk verify entriesFor findAsks verifyAsks findProgram verifyProgram equal
 all-hold = (
   (record { lower = tt }, ((fileF 2, itself (1 ∷ 0 ∷ []), refl, (refl, refl), forbidden 2), record { lower = tt })),
   (

@@ -31,8 +31,9 @@ use Rattle.verdicts.specs.Published.{Measured, LayerRule}
 use Rattle.verdicts.specs.Rule.{FlowRule}
 use Rattle.demands.specs.Demand.{premise, Accepted, FlowBytes, layerIn, DemandHolds, Demand3}
 use Rattle.answers.proofs.Answer.{give-inj, never, bind-out, asks-out}
-use Rattle.records.proofs.JobFile.{job-asked, measured-most, output-zero, measured-plane, edge-loop}
-use Rattle.records.proofs.FlowFile.{flow-asked, nothing-left, one-member-other}
+use Rattle.records.proofs.Encoding.{job-asked, flow-asked}
+use Rattle.records.proofs.JobFile.{measured-most, output-zero, measured-plane, edge-loop}
+use Rattle.records.proofs.FlowFile.{nothing-left, one-member-other}
 use Rattle.records.proofs.Records.{written-length}
 use Rattle.records.proofs.Writing.{found-most, found-reads, found-valid, found-layer, found-entry, found-set, no-flow-unread}
 use Rattle.verdicts.proofs.Verdict.{domain-asked, initial-asked, definition-asked}

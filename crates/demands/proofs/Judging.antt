@@ -21,8 +21,9 @@ use Rattle.demands.specs.Calls.{modeOf, verdict, verifyAsks}
 use Rattle.verdicts.specs.Published.{Measured, NoInputs, PublishedFlow, byLayer, LayerRule, Domain, CausalAccepted, AcceptedFlow}
 use Rattle.answers.proofs.Answer.{never, bind-out}
 use Rattle.records.proofs.Records.{and-out}
-use Rattle.records.proofs.JobFile.{job-asked, job-append, measured-range, output-zero, measured-most, measured-plane}
-use Rattle.records.proofs.FlowFile.{flow-asked, set-entry, place-entry, set-at, nodes-below, members-below, nothing-left, one-member-asked, one-member-other, one-member}
+use Rattle.records.proofs.Encoding.{job-asked, job-append, flow-asked}
+use Rattle.records.proofs.JobFile.{measured-range, output-zero, measured-most, measured-plane}
+use Rattle.records.proofs.FlowFile.{set-entry, place-entry, set-at, nodes-below, members-below, nothing-left, one-member-asked, one-member-other, one-member}
 use Rattle.verdicts.proofs.Rule.{Readable}
 use Rattle.verdicts.proofs.Published.{one-to-three, planes-accepts, accepts-planes, paulis-accepts, accepts-paulis, causal-accepts, accepts-causal, published-conditions, conditions-published}
 

@@ -8,15 +8,15 @@ use mathlib.Core.List.{List, _++_}
 use native.Mathlib.Omega.{arith}
 use lib.Dec.{eqb, leb, ltb}
 use lib.ListN.{length, getD, length-append, List·getD-append}
-use Rattle.answers.specs.Answer.{Refusal, Answer, gives, refuses, refusal, asks, no, passed, _>>=_, _>>_}
-use Rattle.records.specs.Records.{headBytes, lengthField, kindField, part, checked, written, kindLayers}
-use Rattle.nodes.specs.Lists.{all}
-use Rattle.records.specs.JobFile.{JobFile, rises, pairsRise, allAllowed, openNo, edgesNo, nodesNo, measurementsNo, mostNodes, readJob, readEdges, readInputs, readOutputs, readMeasurements, jobOf, modeCausal, modePlanes, modePauli}
+use Rattle.answers.specs.Answer.{Refusal, Answer, gives, refuses, refusal, asks, _>>=_, _>>_}
+use Rattle.records.specs.Records.{headBytes, lengthField, part, checked, written, kindOpen, kindEdges, kindInputs, kindOutputs, kindMeasurements, kindLayers, kindSets}
+use Rattle.nodes.specs.Lists.{has, all}
+use Rattle.records.specs.JobFile.{JobFile, wholePairs, nodesBelow, rises, pairsRise, allAllowed, openingAllowed, openingAsks, edgesAsks, nodesAsks, measurementsAsks, mostNodes, opening, job, readJob, jobOf, modeCausal, modePlanes, modePauli}
 use Rattle.records.specs.Encoding.{Bytes, jobBytes}
-use Rattle.records.specs.FlowFile.{FlowFile, Flow, allEntries, entriesOf, framed, listed, entryBelow, entriesRise, layersNo, setsNo, readFlow, readSets, flowOf}
-use Rattle.records.proofs.Records.{below-at, all-right, record-bytes}
-use Rattle.records.proofs.JobFile.{job-asked, job-encodes}
-use Rattle.records.proofs.FlowFile.{flow-parts, flow-asked}
+use Rattle.records.specs.Format.{carries, Format, PayloadFormat, plain, recordOf, then}
+use Rattle.records.specs.FlowFile.{FlowFile, Flow, entriesOf, framed, listed, allEntries, entryBelow, entriesRise, entryBytes, layersAsks, setsAsks, sets, flow, readFlow, flowOf}
+use Rattle.records.proofs.Records.{below-at, all-left, all-right}
+use Rattle.records.proofs.Encoding.{job-exact, job-asked, flow-exact}
 use Rattle.flows.specs.Job.{Job}
 use Rattle.solver.specs.Solver.{workBytes}
 use Rattle.verdicts.specs.Verdict as Q
@@ -29,39 +29,6 @@ pub record Numbered (bytes : Type 0) (r : Refusal) : Type 0 where
   pub a : r .a < 256
   pub b : bytes → r .b < 256
 
--- ---- the questions of each payload
-no-before : (q : ℕ) (c : Bool) (rest : ℕ) → q < 20 → rest < 20 → no q c rest < 20
-no-before q true rest h g = g
-no-before q false rest h g = h
-
-open-before : (p : List ℕ) → openNo p < 20
-unfolding openNo
-open-before p =
-    no-before 3 (eqb (length p) 2) _ (omega arith) (no-before 4 (leb (getD p 0 0) mostNodes && leb modeCausal (getD p 1 0) && leb (getD p 1 0) modePauli) 0 (omega arith) (omega arith))
-
-nodes-before : (n : ℕ) (p : List ℕ) → nodesNo n p < 20
-unfolding nodesNo
-nodes-before n p = no-before 5 (all (λ v. ltb v n) p) _ (omega arith) (no-before 6 (rises 0 p) 0 (omega arith) (omega arith))
-
-edges-before : (n : ℕ) (p : List ℕ) → edgesNo n p < 20
-unfolding edgesNo
-edges-before n p =
-    no-before 3 (eqb (length p % 2) 0) _ (omega arith) (no-before 5 (all (λ v. ltb v n) p) _ (omega arith) (no-before 6 (pairsRise 0 p) 0 (omega arith) (omega arith)))
-
-measurements-before : (n mode : ℕ) (output : ℕ → Bool) (p : List ℕ) → measurementsNo n mode output p < 20
-unfolding measurementsNo
-measurements-before n mode output p = no-before 3 (eqb (length p) n) _ (omega arith) (no-before 7 (allAllowed mode output 0 p) 0 (omega arith) (omega arith))
-
-layers-before : (n : ℕ) (p : List ℕ) → layersNo n p < 20
-unfolding layersNo
-layers-before n p = no-before 3 (eqb (length p) n) 0 (omega arith) (omega arith)
-
-sets-before : (n : ℕ) (p : List ℕ) → setsNo n p < 20
-unfolding setsNo
-sets-before n p =
-    no-before 3 (framed (entriesOf p)) _ (omega arith)
-    (no-before 5 (allEntries (entryBelow n) (listed (entriesOf p))) _ (omega arith) (no-before 6 (entriesRise 0 (listed (entriesOf p))) 0 (omega arith) (omega arith)))
-
 -- ---- the calls
 module _ (bytes : Type 0) where
   -- an answer that gives something, or such a refusal
@@ -69,50 +36,97 @@ module _ (bytes : Type 0) where
   AllNumbered (gives a) = Unit
   AllNumbered (refuses r) = Numbered bytes r
 
-  plain : (q : ℕ) → 1 ≤ q → q < 20 → Numbered bytes (refusal q)
-  plain q h g = record { number = h; before = g; a = omega arith; b = λ x. omega arith }
+  unused : (q : ℕ) → 1 ≤ q → q < 20 → Numbered bytes (refusal q)
+  unused q h g = record { number = h; before = g; a = omega arith; b = λ x. omega arith }
 
   pub given : {A : Type 0} (a : A) → AllNumbered (gives a)
   unfolding AllNumbered
   given a = tt
 
-  passed-numbered : {A : Type 0} (q : ℕ) (a : A) → q < 20 → AllNumbered (passed q a)
-  unfolding AllNumbered
-  passed-numbered zero a h = tt
-  passed-numbered (suc q) a h = plain (suc q) (omega arith) h
-
   pub asks-then : {A : Type 0} (q : ℕ) (c : Bool) (k : Answer A) → 1 ≤ q → q < 20 → AllNumbered k → AllNumbered (asks q c >> k)
   unfolding AllNumbered
   asks-then q true k h g t = t
-  asks-then q false k h g t = plain q h g
+  asks-then q false k h g t = unused q h g
 
   bind-numbered : {A B : Type 0} (m : Answer A) (k : A → Answer B) → AllNumbered m → ((a : A) → m ≡ gives a → AllNumbered (k a)) → AllNumbered (m >>= k)
   unfolding AllNumbered
   bind-numbered (gives a) k t h = h a refl
   bind-numbered (refuses r) k t h = t
 
-  -- ---- reading
-  checked-numbered : (kind : ℕ) (test : List ℕ → ℕ) (s : List ℕ) → ((p : List ℕ) → test p < 20) → AllNumbered (checked kind test s)
+  -- ---- the questions of each payload
+  pub asks-last : (q : ℕ) (c : Bool) → 1 ≤ q → q < 20 → AllNumbered (asks q c)
+  unfolding AllNumbered
+  asks-last q true h g = tt
+  asks-last q false h g = unused q h g
+
+  opening-numbered : (p : List ℕ) → AllNumbered (openingAsks p)
+  unfolding openingAsks
+  opening-numbered p = asks-then 3 (eqb (length p) 2) _ (omega arith) (omega arith) (asks-last 4 (openingAllowed (getD p 0 0) (getD p 1 0)) (omega arith) (omega arith))
+
+  nodes-numbered : (n : ℕ) (p : List ℕ) → AllNumbered (nodesAsks n p)
+  unfolding nodesAsks
+  nodes-numbered n p = asks-then 5 (nodesBelow n p) _ (omega arith) (omega arith) (asks-last 6 (rises 0 p) (omega arith) (omega arith))
+
+  edges-numbered : (n : ℕ) (p : List ℕ) → AllNumbered (edgesAsks n p)
+  unfolding edgesAsks
+  edges-numbered n p = asks-then 3 (wholePairs p) _ (omega arith) (omega arith) (asks-then 5 (nodesBelow n p) _ (omega arith) (omega arith) (asks-last 6 (pairsRise 0 p) (omega arith) (omega arith)))
+
+  measurements-numbered : (n mode : ℕ) (output : ℕ → Bool) (p : List ℕ) → AllNumbered (measurementsAsks n mode output p)
+  unfolding measurementsAsks
+  measurements-numbered n mode output p = asks-then 3 (eqb (length p) n) _ (omega arith) (omega arith) (asks-last 7 (allAllowed mode output 0 p) (omega arith) (omega arith))
+
+  layers-numbered : (n : ℕ) (p : List ℕ) → AllNumbered (layersAsks n p)
+  unfolding layersAsks
+  layers-numbered n p = asks-last 3 (eqb (length p) n) (omega arith) (omega arith)
+
+  sets-numbered : (n : ℕ) (p : List ℕ) → AllNumbered (setsAsks n p)
+  unfolding setsAsks
+  sets-numbered n p =
+      asks-then 3 (framed (entriesOf p)) _ (omega arith) (omega arith)
+      (asks-then 5 (allEntries (entryBelow n) (listed (entriesOf p))) _ (omega arith) (omega arith) (asks-last 6 (entriesRise 0 (listed (entriesOf p))) (omega arith) (omega arith)))
+
+  -- ---- reading: a format put together from such records
+  pub record ReadsNumbered {A : Type 0} (f : Format A) : Type 0 where
+    pub reads : (s : List ℕ) → AllNumbered (f .decode s)
+
+  then-given : {A : Type 0} (m : Answer Bool) (a : A) → AllNumbered m → AllNumbered (m >> gives a)
+  unfolding AllNumbered
+  then-given (gives b) a t = tt
+  then-given (refuses r) a t = t
+
+  record-numbered : {A : Type 0} (kind : ℕ) (p : PayloadFormat A) → ((l : List ℕ) → AllNumbered (p .questions l)) → ReadsNumbered (recordOf kind p)
   unfolding checked part
-  checked-numbered kind test s h =
-      bind-numbered (part kind s) (λ p. passed (test (p .payload)) p)
-      (asks-then 1 (leb headBytes (length s) && eqb (kindField s) kind) _ (omega arith) (omega arith)
-      (asks-then 2 (leb (headBytes + lengthField s) (length s)) _ (omega arith) (omega arith) (given _)))
-      (λ p e. passed-numbered (test (p .payload)) p (h (p .payload)))
+  record-numbered kind p h = record {
+    reads = λ s.
+        bind-numbered (checked kind (p .questions) s) _
+        (bind-numbered (part kind s) (λ r. p .questions (r .payload) >> gives r)
+        (asks-then 1 (carries kind s) _ (omega arith) (omega arith) (asks-then 2 (leb (headBytes + lengthField s) (length s)) _ (omega arith) (omega arith) (given _)))
+        (λ r e. then-given (p .questions (r .payload)) r (h (r .payload)))) (λ r e. given _);
+  }
+
+  then-numbered : {A B : Type 0} (f : Format A) (g : A → Format B) → ReadsNumbered f → ((a : A) → ReadsNumbered (g a)) → ReadsNumbered (then f g)
+  then-numbered f g h k = record {
+    reads = λ s. bind-numbered (f .decode s) _ (h .reads s) (λ p e. bind-numbered (g (p .value) .decode (p .rest)) _ (k (p .value) .reads (p .rest)) (λ q d. given _));
+  }
 
   job-numbered : (s : List ℕ) → AllNumbered (readJob s)
-  unfolding readJob readEdges readInputs readOutputs readMeasurements
-  job-numbered s =
-      bind-numbered _ _ (checked-numbered _ _ s open-before)
-      (λ p e. bind-numbered _ _ (checked-numbered _ _ (p .rest) (edges-before _))
-      (λ q f. bind-numbered _ _ (checked-numbered _ _ (q .rest) (nodes-before _))
-      (λ i g. bind-numbered _ _ (checked-numbered _ _ (i .rest) (nodes-before _))
-      (λ o h. bind-numbered _ _ (checked-numbered _ _ (o .rest) (measurements-before _ _ _)) (λ m k. given _)))))
+  unfolding readJob
+  job-numbered s = bind-numbered (job .decode s) _ (format .reads s) (λ p e. given _)
+    where
+      format : ReadsNumbered job
+      format =
+          then-numbered _ _ (record-numbered kindOpen opening opening-numbered) (λ o.
+          then-numbered _ _ (record-numbered kindEdges (plain (edgesAsks (o .n))) (edges-numbered (o .n))) (λ e.
+          then-numbered _ _ (record-numbered kindInputs (plain (nodesAsks (o .n))) (nodes-numbered (o .n))) (λ i.
+          then-numbered _ _ (record-numbered kindOutputs (plain (nodesAsks (o .n))) (nodes-numbered (o .n))) (λ u.
+          record-numbered kindMeasurements (plain (measurementsAsks (o .n) (o .mode) (has u))) (measurements-numbered (o .n) (o .mode) (has u))))))
 
   flow-numbered : (n : ℕ) (s : List ℕ) → AllNumbered (readFlow n s)
-  unfolding readFlow readSets
-  flow-numbered n s =
-      bind-numbered _ _ (checked-numbered _ _ s (layers-before n)) (λ p e. bind-numbered _ _ (checked-numbered _ _ (p .rest) (sets-before n)) (λ q f. given _))
+  unfolding readFlow
+  flow-numbered n s = bind-numbered (flow n .decode s) _ (format .reads s) (λ p e. given _)
+    where
+      format : ReadsNumbered (flow n)
+      format = then-numbered _ _ (record-numbered kindLayers (plain (layersAsks n)) (layers-numbered n)) (λ l. record-numbered kindSets (sets n) (sets-numbered n))
 
   pub find-numbered : (file work : List ℕ) → AllNumbered (findAsks file work)
   unfolding findAsks
@@ -206,14 +220,15 @@ module _ (bytes : Type 0) where
 layer-small : (file : List ℕ) (f : JobFile) (g : FlowFile) → readJob file ≡ gives f → readFlow (f .n) (f .after) ≡ gives g → Bytes file → (u : ℕ) → u < f .n → flowOf g .layer u < 256
 unfolding written
 layer-small file f g e h b u l =
-    let parts = flow-parts (f .n) (f .after) g h in
-    let behind : Bytes (f .after) = all-right (λ b. ltb b 256) (jobBytes f) (f .after) (sym (ap (all (λ b. ltb b 256)) (job-encodes file f b e)) ∙ b) in
-    let (same, rest) = record-bytes kindLayers (layersNo (f .n)) (f .after) _ behind (parts .layers) in
-    let long : length (g .layers) ≡ f .n = flow-asked (f .n) (f .after) g h .count in
-    at (g .layers) (parts .afterLayers) (sym (ap (all (λ b. ltb b 256)) same) ∙ behind) (omega arith)
+    let (same, valid) = job-exact file f b .0 e in
+    let behind : Bytes (f .after) = all-right (λ b. ltb b 256) (jobBytes f) (f .after) (sym (ap (all (λ b. ltb b 256)) same) ∙ b) in
+    let (wrote, right) = flow-exact (f .n) (f .after) g (valid .few) behind .0 h in
+    let bytes = sym (ap (all (λ b. ltb b 256)) wrote) ∙ behind in
+    let long : length (g .layers) ≡ f .n = right .count in
+    at (g .layers) (written kindSets (entryBytes (g .sets))) (g .after) bytes (omega arith)
   where
-    at : (p r : List ℕ) → Bytes (written kindLayers p ++ r) → u < length p → getD p u 0 < 256
-    at p r t h = rw (List·getD-append p r 0 u h) at (below-at 256 (written kindLayers p ++ r) (suc (suc (suc (suc (suc (suc u)))))) t (omega (arith, length-append p r)))
+    at : (p q r : List ℕ) → Bytes ((written kindLayers p ++ q) ++ r) → u < length p → getD p u 0 < 256
+    at p q r t h = rw (List·getD-append p q 0 u h) at (below-at 256 (written kindLayers p ++ q) (suc (suc (suc (suc (suc (suc u)))))) (all-left (λ b. ltb b 256) (written kindLayers p ++ q) r t) (omega (arith, length-append p q)))
 
 pub verify-numbered : (file : List ℕ) → AllNumbered (Bytes file) (verifyAsks file)
 unfolding verifyAsks
