@@ -1,54 +1,49 @@
--- The finder's call: the job that its tables hold is the job of the file, and what is written of the search is what the
--- definition says.
+-- The finder's call: what is written of the search of a job that was loaded is what the definition says.
 use Prim.Native.Nat.{ℕ, zero, suc, _≤_, _<_}
-use mathlib.Core.Path.{_≡_, refl, sym, ap, ap₂, _∙_, fun-ext}
+use mathlib.Core.Path.{_≡_, refl, sym, _∙_}
 use mathlib.Core.Bool.{Bool, true, false, cond, not, _&&_, _||_}
-use mathlib.Core.Option.{none, some}
-use mathlib.Core.List.{List, [], _++_}
+use mathlib.Core.Option.{some}
+use mathlib.Core.List.{List, []}
 use native.Mathlib.Omega.{arith}
 use borrow.Author.Tests.{le-leb, eq-eqb, eqb-true}
 use lib.Dec.{T, eqb, leb, ltb}
-use lib.ListN.{length, getD, drop}
-use Rattle.nodes.specs.Row.{allBelow}
+use lib.ListN.{length}
+use Rattle.nodes.specs.Row.{allBelow, count}
 use Rattle.nodes.specs.NodeSet.{member, highest, capacity}
-use Rattle.nodes.specs.SetTable.{setAt, tableWords}
+use Rattle.nodes.specs.SetTable.{tableWords}
 use Rattle.nodes.specs.declared.utils.NodeSet.{NodeSet}
 use Rattle.nodes.proofs.Logic.{is-true}
 use Rattle.nodes.proofs.Row.{all-in}
+use Rattle.nodes.proofs.Count.{count-le}
 use Rattle.flows.specs.Job.{Job}
 use Rattle.flows.specs.Search.{Progress}
 use Rattle.flows.specs.Planes as Planes
 use Rattle.flows.specs.Paulis as Paulis
 use Rattle.finder.specs.Finder.{jobIn, sizesFit, layerBytes, setTable, progressAt}
-use Rattle.finder.specs.Finding.{isPlane, planesGiven, searchOf, searched, refused, searchCall}
+use Rattle.finder.specs.Finding.{isPlane, planesGiven, searchOf, searched, searchCall}
 use Rattle.finder.specs.declared.gflow.Search.{Search}
 use Rattle.finder.specs.declared.gflow.Search.the-variants.{Flow, NoFlow, WrongArguments}
 use Rattle.finder.proofs.Below.{progress-below}
 use Rattle.answers.specs.Answer.{Refusal, Answer, gives, refuses, refusal}
 use Rattle.answers.proofs.Answer.{give-inj, never}
 use Rattle.records.specs.Records.{written, kindNoFlow}
-use Rattle.nodes.specs.Lists.{has, zeros}
-use Rattle.records.specs.JobFile.{JobFile, joined, readJob, modePlanes, modePauli, measuredOf, jobOf}
+use Rattle.nodes.specs.Lists.{zeros}
+use Rattle.records.specs.JobFile.{JobFile, readJob, modePlanes, modePauli, jobOf}
 use Rattle.records.specs.Encoding.{ValidJob}
 use Rattle.records.specs.Writing.{flowBytes}
-use Rattle.records.specs.Splice.{putFirst, putCount}
-use Rattle.records.proofs.JobFile.{job-asked, measured-plane}
-use Rattle.records.proofs.ReadingRecords.{has-small}
+use Rattle.records.specs.Splice.{putFront, putAnswer}
+use Rattle.records.proofs.JobFile.{measured-plane}
+use Rattle.flows.proofs.Flows.{paulis-most-layer, planes-most-layer}
 use Rattle.calls.proofs.Found.{found-written}
 use Rattle.solver.specs.Solver.{workBytes}
-use Rattle.demands.specs.Calls.{foundBytes, Outcome, put, findAsks, findCall}
-use Rattle.calls.specs.Replies.{putReply, recordsFor}
+use Rattle.demands.specs.Calls.{modeOf, search, foundBytes, Outcome, put, findAsks, findCall}
+use Rattle.calls.specs.Replies.{recordsFor}
 
 -- ---- the buffers
-pub put-is : (b out : List ℕ) (answer : Answer ℕ) (o w work : List ℕ) → answer ≡ putReply (putCount b out) → o ≡ putFirst b out → work ≡ w
+pub put-is : (b out : List ℕ) (answer : Answer ℕ) (o w work : List ℕ) → answer ≡ putAnswer b out → o ≡ putFront b out → work ≡ w
     → _≡_ {A = Outcome} (record { answer = answer; work = work; out = o }) (put w b out)
 unfolding put
-put-is b out answer o w work p q e = rw (p, q, e) (by (leb (length b) (length out)))
-  where
-    by : (f : Bool) → _≡_ {A = Outcome} (record { answer = putReply (cond f (some (length b)) none); work = w; out = cond f (b ++ drop (length b) out) out })
-        (cond f (record { answer = gives (length b); work = w; out = b ++ drop (length b) out }) (record { answer = refuses (refusal 20); work = w; out = out }))
-    by true = refl
-    by false = refl
+put-is b out answer o w work p q e = rw (p, q, e)
 
 -- what a search's answer says
 module _ (b : Bool) (r : Search) (e : searchOf r ≡ gives b) where
@@ -62,22 +57,10 @@ module _ (b : Bool) (r : Search) (e : searchOf r ≡ gives b) where
   told-right h = never (rw h at e)
 
 -- ---- a job that was read
-module _ (s : List ℕ) (f : JobFile) (read : readJob s ≡ gives f) where
-  pub valid : ValidJob f
-  valid = job-asked s f read
-
-  abbrev pauli : Bool
-  pauli = not (eqb (f .mode) modePlanes)
-
-  abbrev progress : Progress
-  progress = progressAt pauli (jobOf f)
-
-  outputs-same : (outputs : NodeSet) → member outputs ≡ (λ u. has (f .outputs) u && leb u highest) → member outputs ≡ jobOf f .output
-  outputs-same outputs outs = outs ∙ fun-ext (has-small (f .n) (f .outputs) (valid .few) (valid .outputsBelow))
-
+module _ (f : JobFile) (valid : ValidJob f) where
   -- each node of a job for planes is measured in a plane
-  given : (pauli || planesGiven (jobOf f)) ≡ true
-  given = by (eqb (f .mode) modePlanes) refl
+  pub planes-read : (not (eqb (modeOf f) modePlanes) || planesGiven (jobOf f)) ≡ true
+  planes-read = by (eqb (f .mode) modePlanes) refl
     where
       plane : (k : ℕ) → 1 ≤ k → k ≤ 3 → T (isPlane k)
       plane zero a b = absurd (none-of a)
@@ -100,59 +83,57 @@ module _ (s : List ℕ) (f : JobFile) (read : readJob s ≡ gives f) where
       by true e = is-true (planesGiven (jobOf f)) (all-in (f .n) (λ u. jobOf f .output u || isPlane (jobOf f .measured u)) (λ u l. node (eqb-true (f .mode) modePlanes (sym e)) u l (jobOf f .output u) refl))
       by false e = refl
 
-  -- the search of the tables that were loaded of it
-  module _ (graph measured work layers sets : List ℕ) (inputs outputs : NodeSet)
-      (sizes : (length graph ≡ tableWords) × (length work ≡ workBytes) × (length layers ≡ capacity) × (length sets ≡ tableWords))
-      (edges : (u v : ℕ) → setAt graph u v ≡ joined (f .edges) u v)
-      (ins : member inputs ≡ (λ u. has (f .inputs) u && leb u highest))
-      (outs : member outputs ≡ (λ u. has (f .outputs) u && leb u highest))
-      (m : measured ≡ measuredOf f .measurements)
+-- ---- the search of a job that was loaded, and what is written of it
+module _ (n mode : ℕ) (graph measured : List ℕ) (inputs outputs : NodeSet) where
+  abbrev j : Job
+  j = jobIn n graph inputs outputs measured
+
+  abbrev pauli : Bool
+  pauli = not (eqb mode modePlanes)
+
+  abbrev pub progressOf : Progress
+  progressOf = progressAt pauli j
+
+  pub search-goes : (work layers sets : List ℕ) → n ≤ capacity → n ≤ length measured
+      → (length graph ≡ tableWords) × (length work ≡ workBytes) × (length layers ≡ capacity) × (length sets ≡ tableWords) → (pauli || planesGiven j) ≡ true
+      → searchCall pauli n graph inputs outputs measured work layers sets ≡ searched n progressOf
+  unfolding searchCall sizesFit
+  search-goes work layers sets few given sizes planes =
+      rw (
+        le-leb n capacity few,
+        eq-eqb (length graph) tableWords (sizes .0),
+        le-leb n (length measured) given,
+        eq-eqb (length work) workBytes (sizes .1),
+        eq-eqb (length layers) capacity (sizes .2),
+        eq-eqb (length sets) tableWords (sizes .3),
+        planes,
+      )
+
+  -- no layer needs more than a byte
+  layer-small : n ≤ capacity → (u : ℕ) → progressOf .layer u < 256
+  layer-small few u = by (eqb mode modePlanes)
     where
-      job-same : jobIn (f .n) graph inputs outputs measured ≡ jobOf f
-      job-same =
-          make (fun-ext (λ u. fun-ext (λ v. edges u v)))
-          (ins ∙ fun-ext (has-small (f .n) (f .inputs) (valid .few) (valid .inputsBelow))) (outputs-same outputs outs) m
-        where
-          make : {e e′ : ℕ → ℕ → Bool} {i i′ o o′ : ℕ → Bool} {l l′ : List ℕ} → e ≡ e′ → i ≡ i′ → o ≡ o′ → l ≡ l′
-              → _≡_ {A = Job} (record { nodes = f .n; edge = e; input = i; output = o; measured = λ u. getD l u 0 }) (record { nodes = f .n; edge = e′; input = i′; output = o′; measured = λ u. getD l′ u 0 })
-          make a b c d = rw (a, b, c, d)
+      under : (k : ℕ) → k ≤ count n (λ u. not (member outputs u)) → k < 256
+      under k h = omega (arith, count-le n (λ u. not (member outputs u)))
 
-      fits : sizesFit (f .n) graph measured work layers sets ≡ true
-      unfolding sizesFit
-      fits =
-          let k : f .n ≤ length measured = omega (arith, ap length m, valid .count) in
-          rw (
-            le-leb (f .n) capacity (valid .few),
-            eq-eqb (length graph) tableWords (sizes .0),
-            le-leb (f .n) (length measured) k,
-            eq-eqb (length work) workBytes (sizes .1),
-            eq-eqb (length layers) capacity (sizes .2),
-            eq-eqb (length sets) tableWords (sizes .3),
-          )
+      by : (b : Bool) → progressAt (not b) j .layer u < 256
+      by true = under (Planes.progress j .layer u) (planes-most-layer j u)
+      by false = under (Paulis.progress j .layer u) (paulis-most-layer j u)
 
-      pub search-same : searchCall pauli (f .n) graph inputs outputs measured work layers sets ≡ searched (f .n) progress
-      unfolding searchCall
-      search-same =
-          ap₂ (λ (b : Bool) (j : Job). cond (b && (pauli || planesGiven j)) (searched (f .n) (progressAt pauli j)) (refused work layers sets)) fits job-same
-          ∙ ap (λ (b : Bool). cond b (searched (f .n) progress) (refused work layers sets)) given
-
-  -- what is written of what it found
-  pub flow-written : (outputs : NodeSet) → member outputs ≡ (λ u. has (f .outputs) u && leb u highest) → allBelow (f .n) (progress .solved) ≡ true
-      → recordsFor (f .n) (member outputs) (layerBytes (f .n) progress) (setTable (f .n) progress) ≡ foundBytes f
-  flow-written outputs outs a =
-      found-written (f .n) (valid .few) progress (jobOf f) refl (progress-below pauli (jobOf f)) (λ u. (ltb u (f .n) && leb u highest) && not (member outputs u))
-      (ap {B = ℕ → Bool} (λ (o : ℕ → Bool) (u : ℕ). (ltb u (f .n) && leb u highest) && not (o u)) (outputs-same outputs outs))
-      ∙ by (eqb (f .mode) modePlanes) a
+  pub flow-written : n ≤ capacity → allBelow n (progressOf .solved) ≡ true
+      → recordsFor n (member outputs) (layerBytes n progressOf) (setTable n progressOf) ≡ flowBytes j (search mode j)
+  flow-written few a =
+      found-written n few progressOf j refl (λ u l. layer-small few u) (progress-below pauli j) (λ u. (ltb u n && leb u highest) && not (member outputs u)) refl
+      ∙ by (eqb mode modePlanes) a
     where
-      by : (b : Bool) → allBelow (f .n) (progressAt (not b) (jobOf f) .solved) ≡ true
-          → flowBytes (jobOf f) (some (progressAt (not b) (jobOf f))) ≡ flowBytes (jobOf f) (cond b (Planes.find (jobOf f)) (Paulis.find (jobOf f)))
+      by : (b : Bool) → allBelow n (progressAt (not b) j .solved) ≡ true → flowBytes j (some (progressAt (not b) j)) ≡ flowBytes j (cond b (Planes.find j) (Paulis.find j))
       by true a = rw a
       by false a = rw a
 
-  pub none-written : allBelow (f .n) (progress .solved) ≡ false → written kindNoFlow [] ≡ foundBytes f
-  none-written a = by (eqb (f .mode) modePlanes) a
+  pub none-written : allBelow n (progressOf .solved) ≡ false → written kindNoFlow [] ≡ flowBytes j (search mode j)
+  none-written a = by (eqb mode modePlanes) a
     where
-      by : (b : Bool) → allBelow (f .n) (progressAt (not b) (jobOf f) .solved) ≡ false → written kindNoFlow [] ≡ flowBytes (jobOf f) (cond b (Planes.find (jobOf f)) (Paulis.find (jobOf f)))
+      by : (b : Bool) → allBelow n (progressAt (not b) j .solved) ≡ false → written kindNoFlow [] ≡ flowBytes j (cond b (Planes.find j) (Paulis.find j))
       by true a = rw a
       by false a = rw a
 

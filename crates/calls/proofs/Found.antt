@@ -6,7 +6,7 @@ use mathlib.Core.Logic.{_⊎_, inl, inr}
 use mathlib.Core.Option.{some}
 use mathlib.Core.List.{List, [], _∷_, _++_}
 use native.Mathlib.Omega.{arith}
-use borrow.Author.Tests.{ltb-true}
+use borrow.Author.Tests.{ltb-true, lt-ltb}
 use lib.Dec.{leb, ltb}
 use lib.ListN.{length, take}
 use lib.Seq.{length-take-le, getD-take}
@@ -26,10 +26,12 @@ use Rattle.flows.specs.Job.{Job}
 use Rattle.flows.specs.Search.{Progress}
 use Rattle.finder.specs.Finder.{layerBytes, setTable}
 use Rattle.finder.proofs.Below.{Below}
-use Rattle.records.specs.Records.{written, kindLayers, kindSets}
-use Rattle.records.specs.Writing.{setBytes, flowRecords, flowBytes}
+use Rattle.records.specs.FlowFile.{SetEntry}
+use Rattle.records.specs.Encoding.{flowFileBytes, entriesFor}
+use Rattle.records.specs.Writing.{flowRecords, flowBytes}
+use Rattle.records.specs.Writing.{layerBytes as byteEach}
 use Rattle.records.proofs.Records.{and-out}
-use Rattle.records.proofs.Writing.{members-under}
+use Rattle.records.proofs.Writing.{list-all, layers-same, members-under}
 
 module _ (n : ℕ) (few : n ≤ capacity) (p : Progress) where
   layers-found : take n (layerBytes n p) ≡ listOf n (p .layer)
@@ -62,13 +64,13 @@ module _ (n : ℕ) (few : n ≤ capacity) (p : Progress) where
       past : (k : ℕ) → n ≤ k → k < n → ⊥
       past k g m = omega arith
 
-  sets-found : ((u : ℕ) → u < n → Below n (p .set u)) → (us : List ℕ) → all (λ v. ltb v n) us ≡ true → setBytes capacity (setAt (setTable n p)) us ≡ setBytes n (p .set) us
-  unfolding all setBytes
+  sets-found : ((u : ℕ) → u < n → Below n (p .set u)) → (us : List ℕ) → all (λ v. ltb v n) us ≡ true → entriesFor capacity (setAt (setTable n p)) us ≡ entriesFor n (p .set) us
+  unfolding all entriesFor
   sets-found h [] a = refl
   sets-found h (u ∷ us) a =
       let (b, r) = and-out (ltb u n) (all (λ v. ltb v n) us) a in
       let l : u < n = ltb-true u n b in
-      ap₂ (λ (m s : List ℕ). u ∷ length m ∷ m ++ s) (members-found u l (h u l)) (sets-found h us r)
+      ap₂ (λ (m : List ℕ) (s : List SetEntry). record { node = u; set = m } ∷ s) (members-found u l (h u l)) (sets-found h us r)
 
   -- an entry for each node that is no output
   nodes-found : (s output : ℕ → Bool) → s ≡ (λ u. (ltb u n && leb u highest) && not (output u)) → members capacity s ≡ members n (λ u. not (output u))
@@ -76,9 +78,14 @@ module _ (n : ℕ) (few : n ≤ capacity) (p : Progress) where
       ap (members capacity) e ∙ members-past n capacity (λ u. (ltb u n && leb u highest) && not (output u)) few (λ k g. rw (ltb-no k n g))
       ∙ members-ext n (λ u. (ltb u n && leb u highest) && not (output u)) (λ u. not (output u)) (λ k g. ap (λ (b : Bool). b && not (output k)) (sym (below-within k n highest few) ∙ ltb-yes k n g))
 
-  pub found-written : (j : Job) → j .nodes ≡ n → ((u : ℕ) → u < n → Below n (p .set u)) → (s : ℕ → Bool) → s ≡ (λ u. (ltb u n && leb u highest) && not (j .output u))
-      → flowRecords (take n (layerBytes n p)) capacity (setAt (setTable n p)) (members capacity s) ≡ flowBytes j (some p)
-  found-written j e h s q =
-      ap₂ (λ (l us : List ℕ). flowRecords l capacity (setAt (setTable n p)) us) layers-found (nodes-found s (j .output) q)
-      ∙ ap (λ (b : List ℕ). written kindLayers (listOf n (p .layer)) ++ written kindSets b) (sets-found h (members n (λ u. not (j .output u))) (members-under n (λ u. not (j .output u))))
+  -- today's record of layers has a byte for each, and no layer needs more
+  layers-written : ((u : ℕ) → u < n → p .layer u < 256) → byteEach (take n (layerBytes n p)) ≡ listOf n (p .layer)
+  layers-written small = ap byteEach layers-found ∙ layers-same (listOf n (p .layer)) (list-all n (p .layer) (λ b. ltb b 256) (λ k l. lt-ltb (p .layer k) 256 (small k l)))
+
+  pub found-written : (j : Job) → j .nodes ≡ n → ((u : ℕ) → u < n → p .layer u < 256) → ((u : ℕ) → u < n → Below n (p .set u))
+      → (s : ℕ → Bool) → s ≡ (λ u. (ltb u n && leb u highest) && not (j .output u))
+      → flowRecords (byteEach (take n (layerBytes n p))) capacity (setAt (setTable n p)) (members capacity s) ≡ flowBytes j (some p)
+  found-written j e small h s q =
+      ap₂ (λ (l us : List ℕ). flowRecords l capacity (setAt (setTable n p)) us) (layers-written small) (nodes-found s (j .output) q)
+      ∙ ap (λ (es : List SetEntry). flowFileBytes (record { layers = listOf n (p .layer); sets = es; after = [] })) (sets-found h (members n (λ u. not (j .output u))) (members-under n (λ u. not (j .output u))))
       ∙ ap (λ (m : ℕ). flowRecords (listOf m (p .layer)) m (p .set) (members m (λ u. not (j .output u)))) (sym e)

@@ -1,3 +1,4 @@
+pub mod Loaded
 pub mod Asking
 pub mod AskingDefinition
 pub mod AskingNodes

@@ -19,7 +19,7 @@ use Rattle.flows.specs.Job.{Job}
 use Rattle.records.specs.JobFile.{JobFile, joined, measuredOf, jobOf}
 use Rattle.records.specs.FlowFile.{FlowFile, Flow, entryIn, setIn, flowOf}
 use Rattle.records.specs.Encoding.{ValidJob}
-use Rattle.records.proofs.ReadingRecords.{has-small}
+use Rattle.records.proofs.JobFile.{has-small}
 use Rattle.calls.specs.Loaded.{jobLoaded, flowIn}
 use Rattle.calls.specs.declared.load.Loaded.{Loaded}
 

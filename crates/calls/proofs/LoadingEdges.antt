@@ -20,7 +20,7 @@ use Rattle.nodes.proofs.Logic.{is-false, and-l, and-r, and-all, and-none, or-no
 use Rattle.nodes.proofs.Bit.{bit-or, bit-pow}
 use Rattle.nodes.proofs.SetTable.{set-in, set-past, put-each, put-out, zeros-empty}
 use Rattle.records.specs.JobFile.{joined}
-use Rattle.calls.specs.Loading.{hasSet}
+use Rattle.calls.specs.Loaded.{hasSet}
 use Rattle.records.proofs.Records.{all-more}
 use Rattle.records.proofs.ReadingLoops.{rest-none, rest-cons, rest-two}
 

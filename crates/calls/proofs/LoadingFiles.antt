@@ -17,10 +17,10 @@ use Rattle.records.specs.JobFile.{JobFile, mostNodes, modeCausal, measuredOf, j
 use Rattle.records.specs.FlowFile.{SetEntry, FlowFile, Flow, framed, listed, allEntries, entryBelow, readFlow, setIn, entryIn, flowOf}
 use Rattle.verdicts.specs.Verdict.{verify}
 use Rattle.demands.specs.Calls.{verdict, verifyAsks, put, verifyCall}
-use Rattle.records.specs.Refusals.{refusalOf}
-use Rattle.records.specs.Views.{fileAt, jobOfRead, JobLies, JobInside, flowAt, flowOfRead, FlowLies, FlowInside}
+use Rattle.answers.specs.Refusals.{refusalOf}
+use Rattle.records.specs.Views.{jobAt, jobOfRead, JobInFile, JobReadInFile, flowAt, flowOfRead, FlowInFile, FlowReadInFile}
 use Rattle.calls.specs.Loaded.{askedOf, flowAsks}
-use Rattle.records.specs.declared.common.Refused.{Refused}
+use Rattle.answers.specs.declared.Refusal.{Refusal as Refused}
 use Rattle.records.specs.declared.common.JobPlaces.{JobPlaces}
 use Rattle.records.specs.declared.common.JobRead.{JobRead}
 use Rattle.records.specs.declared.common.JobRead.the-variants.{Job as AJob, Refused as NoJob}
@@ -33,13 +33,13 @@ use Rattle.records.proofs.Records.{and-out, all-more}
 
 -- ---- what was read, by the code's answer
 module _ (s : List ℕ) (r : JobRead) (e : jobOfRead s r ≡ readJob s) where
-  pub job-read : (p : JobPlaces) → r ≡ AJob p → readJob s ≡ gives (fileAt s p)
+  pub job-read : (p : JobPlaces) → r ≡ AJob p → readJob s ≡ gives (jobAt s p)
   job-read p t = sym e ∙ ap (jobOfRead s) t
 
   pub job-not : (q : Refused) → r ≡ NoJob q → readJob s ≡ refuses (refusalOf q)
   job-not q t = sym e ∙ ap (jobOfRead s) t
 
-pub job-inside : (s : List ℕ) (r : JobRead) → JobInside s r → (p : JobPlaces) → r ≡ AJob p → JobLies s p
+pub job-inside : (s : List ℕ) (r : JobRead) → JobReadInFile s r → (p : JobPlaces) → r ≡ AJob p → JobInFile s p
 job-inside s r h p t = rw t at h
 
 module _ (s t : List ℕ) (n : ℕ) (r : FlowRead) (e : flowOfRead s r ≡ readFlow n t) where
@@ -49,7 +49,7 @@ module _ (s t : List ℕ) (n : ℕ) (r : FlowRead) (e : flowOfRead s r ≡ readF
   pub flow-not : (q : Refused) → r ≡ NoFlow q → readFlow n t ≡ refuses (refusalOf q)
   flow-not q h = sym e ∙ ap (flowOfRead s) h
 
-pub flow-inside : (s : List ℕ) (at : ℕ) (r : FlowRead) → FlowInside s at r → (p : FlowPlaces) → r ≡ AFlow p → FlowLies s at p
+pub flow-inside : (s : List ℕ) (at : ℕ) (r : FlowRead) → FlowReadInFile s at r → (p : FlowPlaces) → r ≡ AFlow p → FlowInFile s at p
 flow-inside s at r h p t = rw t at h
 
 -- ---- every node that was read fits a set

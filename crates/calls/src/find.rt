@@ -10,13 +10,13 @@ ghost use Rattle.nodes.specs.Lists.{zeros};
 ghost use Rattle.finder.specs.Finding.{planesGiven, searchOf, searchCall};
 ghost use Rattle.answers.specs.Answer.{gives};
 ghost use Rattle.records.specs.JobFile.{readJob, modePlanes, modePauli};
-ghost use Rattle.records.specs.Views.{fileAt, JobLies};
-ghost use Rattle.records.specs.Splice.{putFirst, putCount};
+ghost use Rattle.records.specs.Views.{jobAt, JobInFile};
+ghost use Rattle.records.specs.Splice.{putFront, putAnswer};
 ghost use Rattle.records.specs.Writing.{flowBytes};
 ghost use Rattle.solver.specs.Solver.{workBytes};
 ghost use Rattle.demands.specs.Calls.{search as searchOfMode, foundBytes, put, findCall};
 ghost use Rattle.calls.specs.Loaded.{jobLoaded};
-ghost use Rattle.calls.specs.Replies.{replyOf, putReply, recordsFor};
+ghost use Rattle.calls.specs.Replies.{replyOf, recordsFor};
 use crate::Reply;
 use crate::answered;
 use crate::load::Loaded;
@@ -34,15 +34,15 @@ use records::common::JobRead;
 use records::common::KIND_NO_FLOW;
 use records::common::MODE_PAULI;
 use records::common::MODE_PLANES;
-use records::common::read_job;
+use records::reader::read_job;
 use records::writer::write_flow;
 use solver::gf2_linalg::WORK_BYTES;
 
 // The flow file of a finished search: an entry for each node that is no output.
 fn write_found(n: usize, outputs: NodeSet, layers: &[u16], sets: &[u64], out: &mut [u8]) -> Reply
     requires { ⌜ n ≤ length (now layers) ⌝ }
-    ensures { λ r. ⌜ replyOf r ≡ putReply (putCount (recordsFor n (member outputs) (now (layers .entry)) (now (sets .entry))) (now (out .entry))) ⌝ }
-    ensures { λ _. ⌜ now (out .exit) ≡ putFirst (recordsFor n (member outputs) (now (layers .entry)) (now (sets .entry))) (now (out .entry)) ⌝ }
+    ensures { λ r. ⌜ replyOf r ≡ putAnswer (recordsFor n (member outputs) (now (layers .entry)) (now (sets .entry))) (now (out .entry)) ⌝ }
+    ensures { λ _. ⌜ now (out .exit) ≡ putFront (recordsFor n (member outputs) (now (layers .entry)) (now (sets .entry))) (now (out .entry)) ⌝ }
 {
     let nodes = NodeSet::below(n).difference(outputs);
     answered(write_flow(out, &layers[0..n], sets, nodes))
@@ -104,9 +104,9 @@ fn find_loaded(
 
 // The search on a job that passed all questions before it.
 fn find_job(file: &[u8], job: JobPlaces, work: &mut [u8], out: &mut [u8]) -> Reply
-    requires { ⌜ (readJob (now file) ≡ gives (fileAt (now file) job)) × JobLies (now file) job ⌝ }
+    requires { ⌜ (readJob (now file) ≡ gives (jobAt (now file) job)) × JobInFile (now file) job ⌝ }
     requires { ⌜ length (now work) ≡ workBytes ⌝ }
-    ensures { λ r. ⌜ record { answer = replyOf r; work = now (work .exit); out = now (out .exit) } ≡ put (zeros workBytes) (foundBytes (fileAt (now (file .entry)) job)) (now (out .entry)) ⌝ }
+    ensures { λ r. ⌜ record { answer = replyOf r; work = now (work .exit); out = now (out .exit) } ≡ put (zeros workBytes) (foundBytes (jobAt (now (file .entry)) job)) (now (out .entry)) ⌝ }
 {
     let mut graph = [0u64; TABLE_WORDS];
     let mut measured = [0u8; CAPACITY];
@@ -126,7 +126,7 @@ fn has_search(mode: u8) -> bool
 
 // Is nothing left (8)? Is the mode 2 or 3 (10)? Is the work buffer right (11)?
 fn find_read(file: &[u8], job: JobPlaces, work: &mut [u8], out: &mut [u8]) -> Reply
-    requires { ⌜ (readJob (now file) ≡ gives (fileAt (now file) job)) × JobLies (now file) job ⌝ }
+    requires { ⌜ (readJob (now file) ≡ gives (jobAt (now file) job)) × JobInFile (now file) job ⌝ }
     ensures { λ r. ⌜ record { answer = replyOf r; work = now (work .exit); out = now (out .exit) } ≡ findCall (now (file .entry)) (now (work .entry)) (now (out .entry)) ⌝ }
 {
     let measurements = job.measurements;

@@ -9,8 +9,8 @@ pub mod verify; // verify.rt: the verifier, from a job and a flow to a verdict
 ghost use mathlib.Core.Path.{_≡_};
 ghost use mathlib.Core.List.{[]};
 ghost use Rattle.records.specs.Records.{written};
-ghost use Rattle.records.specs.Splice.{putFirst, putCount, putOf};
-ghost use Rattle.calls.specs.Replies.{replyOf, putReply};
+ghost use Rattle.records.specs.Splice.{putFront, putAnswer, putOf};
+ghost use Rattle.calls.specs.Replies.{replyOf};
 use answers::Refusal;
 use records::writer::Put;
 use records::writer::write_record;
@@ -23,7 +23,7 @@ pub enum Reply {
 
 // Does the result fit the lent buffer (20)?
 fn answered(put: Put) -> Reply
-    ensures { λ r. ⌜ replyOf r ≡ putReply (putOf put) ⌝ }
+    ensures { λ r. ⌜ replyOf r ≡ putOf put ⌝ }
 {
     match put {
         Put::Bytes(k) => Reply::Wrote(k),
@@ -33,8 +33,8 @@ fn answered(put: Put) -> Reply
 
 // A record that is its kind alone.
 fn write_bare(out: &mut [u8], kind: u16) -> Reply
-    ensures { λ r. ⌜ replyOf r ≡ putReply (putCount (written kind []) (now (out .entry))) ⌝ }
-    ensures { λ _. ⌜ now (out .exit) ≡ putFirst (written kind []) (now (out .entry)) ⌝ }
+    ensures { λ r. ⌜ replyOf r ≡ putAnswer (written kind []) (now (out .entry)) ⌝ }
+    ensures { λ _. ⌜ now (out .exit) ≡ putFront (written kind []) (now (out .entry)) ⌝ }
 {
     answered(write_record(out, kind, b""))
 }

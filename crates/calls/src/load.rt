@@ -10,7 +10,7 @@ ghost use Rattle.nodes.specs.Lists.{all, zeros};
 ghost use Rattle.records.specs.JobFile.{measuredOf, joined, jobOf};
 ghost use Rattle.records.specs.FlowFile.{entriesOf, framed, listed, allEntries, entryBelow, setIn, entryIn, flowOf};
 ghost use Rattle.records.specs.Encoding.{ValidJob};
-ghost use Rattle.records.specs.Views.{bytesAt, Lies, fileAt, JobLies, flowAt};
+ghost use Rattle.records.specs.Views.{bytesAt, InFile, jobAt, JobInFile, flowAt};
 ghost use Rattle.calls.specs.Loaded.{hasSet, jobLoaded, flowIn};
 use nodes::utils::CAPACITY;
 use nodes::utils::NodeSet;
@@ -22,24 +22,14 @@ use nodes::utils::set_at;
 use records::common::ENTRY_HEAD_BYTES;
 use records::common::FlowPlaces;
 use records::common::JobPlaces;
-use records::common::Place;
-use records::common::entries_end;
-use records::common::set_of;
+use records::common::payload;
+use records::questions::entries_end;
+use records::reader::set_of;
 
 // The words of a set in a table, and the nodes of a word.
 const SET_WORDS: usize = TABLE_WORDS / CAPACITY;
 
 const WORD_NODES: usize = CAPACITY / SET_WORDS;
-
-// The bytes at a place.
-pub(crate) fn payload(file: &[u8], place: Place) -> &[u8]
-    requires { ⌜ Lies (now file) place ⌝ }
-    ensures { λ r. ⌜ now r ≡ bytesAt place (now (file .entry)) ⌝ }
-{
-    let start = place.start;
-    let end = place.end;
-    &file[start..end]
-}
 
 // The nodes of more join set u, where the table has it.
 fn add_set(table: &mut [u64], u: usize, more: NodeSet)
@@ -151,10 +141,10 @@ pub(crate) fn load_job(
     graph: &mut [u64],
     measured: &mut [u8],
 ) -> Loaded
-    requires { ⌜ ValidJob (fileAt (now file) job) × JobLies (now file) job ⌝ }
+    requires { ⌜ ValidJob (jobAt (now file) job) × JobInFile (now file) job ⌝ }
     requires { ⌜ (length (now graph) ≡ tableWords) × (now measured ≡ zeros capacity) ⌝ }
-    ensures { λ r. ⌜ jobLoaded r (now (graph .exit)) (now (measured .exit)) ≡ jobOf (fileAt (now (file .entry)) job) ⌝ }
-    ensures { λ r. ⌜ r .mode ≡ measuredOf (fileAt (now (file .entry)) job) .mode ⌝ }
+    ensures { λ r. ⌜ jobLoaded r (now (graph .exit)) (now (measured .exit)) ≡ jobOf (jobAt (now (file .entry)) job) ⌝ }
+    ensures { λ r. ⌜ r .mode ≡ measuredOf (jobAt (now (file .entry)) job) .mode ⌝ }
 {
     let edges = job.edges;
     load_graph(payload(file, edges), graph);
@@ -178,7 +168,7 @@ pub(crate) fn load_flow(
     sets: &mut [u64],
 ) -> NodeSet
     requires { ⌜ (length (bytesAt (flow .layers) (now file)) ≤ capacity) × (allEntries (entryBelow capacity) (flowAt (now file) flow .sets) ≡ true) ⌝ }
-    requires { ⌜ Lies (now file) (flow .layers) × Lies (now file) (flow .sets) × (now layers ≡ zeros capacity) × (length (now sets) ≡ tableWords) ⌝ }
+    requires { ⌜ InFile (now file) (flow .layers) × InFile (now file) (flow .sets) × (now layers ≡ zeros capacity) × (length (now sets) ≡ tableWords) ⌝ }
     ensures { λ r. ⌜ flowIn (now (layers .exit)) r (now (sets .exit)) ≡ flowOf (flowAt (now (file .entry)) flow) ⌝ }
 {
     let first = flow.layers;

@@ -10,7 +10,6 @@ ghost use Rattle.records.specs.JobFile.{modeCausal};
 ghost use Rattle.verdicts.specs.Verdict.{ask, _next_, each, definitionAsk, checkDefinition};
 ghost use Rattle.calls.specs.Loaded.{flowIn, noNodes, askedOf, firstIn, ExcusedBy};
 use crate::validate::Asked;
-use crate::validate::byte_at;
 use crate::validate::check_measured;
 use crate::validate::in_order;
 use crate::validate::nodes_from;
@@ -25,6 +24,7 @@ use flows::PAULI_Z;
 use nodes::utils::NodeSet;
 use nodes::utils::set_at;
 use records::common::MODE_PAULI;
+use records::common::byte_at;
 
 // The nodes that need not be later: as members those measured X or Y, in Odd those measured Y or Z. Of the Y nodes question 19
 // asks instead. In mode 2 there are none of them.

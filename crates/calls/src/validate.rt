@@ -30,6 +30,7 @@ use nodes::utils::NodeSet;
 use nodes::utils::odd_neighbors;
 use nodes::utils::set_at;
 use records::common::MODE_PAULI;
+use records::common::byte_at;
 
 pub(crate) enum Asked {
     Passed,
@@ -37,16 +38,6 @@ pub(crate) enum Asked {
 }
 
 // ---- Sets of nodes by what the flow and the measurements say of them.
-
-// The node's byte; a byte past the end is 0.
-pub(crate) fn byte_at(bytes: &[u8], u: usize) -> u8
-    ensures { λ r. ⌜ r ≡ getD (now (bytes .entry)) u 0 ⌝ }
-{
-    if u < bytes.len() {
-        return bytes[u];
-    }
-    0
-}
 
 // The node's layer; past the end it is 0.
 pub(crate) fn layer_at(layers: &[u16], u: usize) -> u16

@@ -11,7 +11,7 @@ ghost use Rattle.records.specs.FlowFile.{entriesOf, listed, allEntries, flowOf}
 ghost use Rattle.records.specs.Encoding.{ValidJob, ValidFlow};
 ghost use Rattle.verdicts.specs.Verdict.{checkDefinition, verify as verifyOf};
 ghost use Rattle.demands.specs.Calls.{verdict, verifyAsks, verifyCall};
-ghost use Rattle.records.specs.Views.{fileAt, JobLies, flowAt, FlowLies};
+ghost use Rattle.records.specs.Views.{jobAt, JobInFile, flowAt, FlowInFile};
 ghost use Rattle.calls.specs.Loaded.{jobLoaded, flowIn, askedOf, flowAsks};
 ghost use Rattle.calls.specs.Replies.{replyOf};
 use crate::Reply;
@@ -19,7 +19,6 @@ use crate::flow;
 use crate::load::Loaded;
 use crate::load::load_flow;
 use crate::load::load_job;
-use crate::load::payload;
 use crate::pflow;
 use crate::validate::Asked;
 use crate::validate::check_domain;
@@ -35,9 +34,10 @@ use records::common::JobPlaces;
 use records::common::JobRead;
 use records::common::KIND_ACCEPTED;
 use records::common::MODE_CAUSAL;
-use records::common::one_member;
-use records::common::read_flow;
-use records::common::read_job;
+use records::common::payload;
+use records::questions::one_member;
+use records::reader::read_flow;
+use records::reader::read_job;
 
 // Questions 17 to 19: mode 1 has its own, and one rule serves the others.
 fn check_definition(
@@ -87,9 +87,9 @@ fn verify_loaded(
 
 // Job and flow are loaded from the places of their payloads.
 fn verify_places(file: &[u8], job: JobPlaces, flow: FlowPlaces) -> Asked
-    requires { ⌜ JobLies (now file) job × FlowLies (now file) (job .measurements .end) flow ⌝ }
-    requires { ⌜ ValidJob (fileAt (now file) job) × ValidFlow (job .n) (flowAt (now file) flow) ⌝ }
-    ensures { λ r. ⌜ askedOf r ≡ verifyOf (jobOf (fileAt (now (file .entry)) job)) (flowOf (flowAt (now (file .entry)) flow)) (measuredOf (fileAt (now (file .entry)) job) .mode) ⌝ }
+    requires { ⌜ JobInFile (now file) job × FlowInFile (now file) (job .measurements .end) flow ⌝ }
+    requires { ⌜ ValidJob (jobAt (now file) job) × ValidFlow (job .n) (flowAt (now file) flow) ⌝ }
+    ensures { λ r. ⌜ askedOf r ≡ verifyOf (jobOf (jobAt (now (file .entry)) job)) (flowOf (flowAt (now (file .entry)) flow)) (measuredOf (jobAt (now (file .entry)) job) .mode) ⌝ }
 {
     let mut graph = [0u64; TABLE_WORDS];
     let mut measured = [0u8; CAPACITY];
@@ -112,9 +112,9 @@ fn one_each(mode: u8, sets: &[u8]) -> bool
 
 // Is nothing left (8)? Then 9, and the questions on the flow.
 fn verify_read(file: &[u8], job: JobPlaces, flow: FlowPlaces) -> Asked
-    requires { ⌜ JobLies (now file) job × FlowLies (now file) (job .measurements .end) flow ⌝ }
-    requires { ⌜ ValidJob (fileAt (now file) job) × ValidFlow (job .n) (flowAt (now file) flow) ⌝ }
-    ensures { λ r. ⌜ verdict (askedOf r) ≡ flowAsks (fileAt (now (file .entry)) job) (flowAt (now (file .entry)) flow) ⌝ }
+    requires { ⌜ JobInFile (now file) job × FlowInFile (now file) (job .measurements .end) flow ⌝ }
+    requires { ⌜ ValidJob (jobAt (now file) job) × ValidFlow (job .n) (flowAt (now file) flow) ⌝ }
+    ensures { λ r. ⌜ verdict (askedOf r) ≡ flowAsks (jobAt (now (file .entry)) job) (flowAt (now (file .entry)) flow) ⌝ }
 {
     let sets = flow.sets;
     let end = sets.end;

@@ -26,6 +26,7 @@ use Rattle.verdicts.specs.Verdict.{verify, checkDomain, checkInitial, checkDefi
 use Rattle.nodes.specs.Lists.{zeros}
 use Rattle.solver.specs.Solver.{workBytes}
 use Rattle.demands.specs.Calls.{modeOf, Outcome, put, findOutcome, findAsks, findCall, foundBytes, search}
+use Rattle.records.specs.Splice.{fitsIn}
 use Rattle.records.specs.Writing.{flowBytes, mostOutput}
 use Rattle.verdicts.specs.Published.{Measured, LayerRule}
 use Rattle.verdicts.specs.Rule.{FlowRule}
@@ -225,12 +226,9 @@ found-fits f h = go (search (modeOf f) (jobOf f))
 
 pub put-fits : (work result out : List ℕ) (k : ℕ) → put work result out .answer ≡ gives k → take k (put work result out .out) ≡ result
 unfolding put
-put-fits work result out k e = go (leb (length result) (length out)) e
+put-fits work result out k e = go (fitsIn result out) e
   where
-    either : Bool → Outcome
-    either c = cond c (record { answer = gives (length result); work = work; out = result ++ drop (length result) out }) (record { answer = refuses (refusal 20); work = work; out = out })
-
-    go : (c : Bool) → either c .answer ≡ gives k → take k (either c .out) ≡ result
+    go : (c : Bool) → (asks 20 c >> gives (length result)) ≡ gives k → take k (cond c (result ++ drop (length result) out) out) ≡ result
     go true e = let q : length result ≡ k = give-inj e in rw (← q) (take-append-seam result (drop (length result) out))
     go false e = absurd (never e)
 

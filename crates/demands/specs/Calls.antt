@@ -1,18 +1,19 @@
 -- The calls of finder and verifier, for every argument: the answer and what each lent buffer then holds.
-use Prim.Native.Nat.{ℕ, _+_}
+use Prim.Native.Nat.{ℕ}
 use mathlib.Core.Bool.{Bool, true, cond, _||_}
 use mathlib.Core.Option.{Option, none, some}
-use mathlib.Core.List.{List, [], _++_}
-use lib.Dec.{eqb, leb}
-use lib.ListN.{length, drop}
+use mathlib.Core.List.{List, []}
+use lib.Dec.{eqb}
+use lib.ListN.{length}
 use Rattle.nodes.specs.Lists.{zeros}
 use Rattle.solver.specs.Solver.{workBytes}
 use Rattle.flows.specs.Job.{Job}
 use Rattle.flows.specs.Search.{Progress}
 use Rattle.flows.specs.Planes as Planes
 use Rattle.flows.specs.Paulis as Paulis
-use Rattle.answers.specs.Answer.{Refusal, Answer, gives, refuses, refusal, asks, _>>=_, _>>_}
+use Rattle.answers.specs.Answer.{Refusal, Answer, gives, refuses, asks, _>>=_, _>>_}
 use Rattle.records.specs.Records.{written, kindAccepted}
+use Rattle.records.specs.Splice.{putAnswer, putFront}
 use Rattle.records.specs.Writing.{flowBytes}
 use Rattle.records.specs.JobFile.{JobFile, readJob, jobOf, measuredOf, modePlanes, modePauli}
 use Rattle.records.specs.FlowFile.{readFlow, flowOf, nothingLeft, oneMember}
@@ -62,10 +63,7 @@ pub record Outcome : Type 0 where
 
 -- does the result fit the lent buffer (20)? Bytes after it stay as they were.
 unfoldable pub put : (work result out : List ℕ) → Outcome
-put work result out =
-    cond (leb (length result) (length out))
-    (record { answer = gives (length result); work = work; out = result ++ drop (length result) out })
-    (record { answer = refuses (refusal 20); work = work; out = out })
+put work result out = record { answer = putAnswer result out; work = work; out = putFront result out }
 
 -- a refusal touches nothing, but 20 leaves the work buffer zero; so does an answer
 abbrev pub findOutcome : Answer JobFile → (work out : List ℕ) → Outcome

@@ -1,8 +1,8 @@
 use Prim.Native.Nat.{_-_}
 use mathlib.Core.Path.{sym, ap, _∙_, subst}
 use borrow.Author.Needs.{needs}
-use Rattle.records.specs.Views.{jobOfRead, JobInside}
-use Rattle.records.specs.Refusals.{refusalOf}
+use Rattle.records.specs.Views.{jobOfRead, JobReadInFile}
+use Rattle.answers.specs.Refusals.{refusalOf}
 use Rattle.calls.proofs.Finding.{find-unread}
 use Rattle.calls.proofs.find.find.Statement.{statement}
 use Rattle.calls.proofs.find.find.Tie as tie
@@ -17,7 +17,7 @@ find-read-requires : tie.Need-find-read-requires
 find-read-requires c κs = let s = c .before .before .before .before .before .before .before .before .before .args .file .now in
     let r = c .before .before .before .before .before .read-job in
     let e = c .before .before .before .job .given .1 in
-    (sym (r .ensures .0) ∙ ap (jobOfRead s) e, subst (JobInside s) e (r .ensures .1))
+    (sym (r .ensures .0) ∙ ap (jobOfRead s) e, subst (JobReadInFile s) e (r .ensures .1))
 
 enum-known-q : tie.Need-enum-known-q
 enum-known-q c = search needs

@@ -13,8 +13,8 @@ use Rattle.flows.specs.Search.{Progress}
 use Rattle.finder.specs.Finder.{progressAt}
 use Rattle.finder.specs.Finding.{Outcome, searchOf, searched, searchCall}
 use Rattle.records.specs.JobFile.{JobFile, Measured, modePlanes, jobOf}
-use Rattle.records.specs.Views.{bytesAt, fileAt}
-use Rattle.records.specs.Splice.{putFirst, putCount}
+use Rattle.records.specs.Views.{bytesAt, jobAt}
+use Rattle.records.specs.Splice.{putFront, putAnswer}
 use Rattle.nodes.specs.Lists.{zeros}
 use Rattle.nodes.specs.SetTable.{tableWords}
 use Rattle.solver.specs.Solver.{workBytes}
@@ -27,7 +27,7 @@ use Rattle.calls.proofs.find.find_job.Tie as tie
 
 -- the job that was read
 abbrev jobAt : tie.After-sets2 → JobFile
-jobAt c = fileAt (c .before .before .before .before .before .before .before .before .before .before .before .before .before .before .before .before .before .before .before .before .before .before .before .before .args .file .now) (c .before .before .before .before .before .before .before .before .before .before .before .before .before .before .before .before .before .before .before .before .before .before .before .before .args .job)
+jobAt c = jobAt (c .before .before .before .before .before .before .before .before .before .before .before .before .before .before .before .before .before .before .before .before .before .before .before .before .args .file .now) (c .before .before .before .before .before .before .before .before .before .before .before .before .before .before .before .before .before .before .before .before .before .before .before .before .args .job)
 
 abbrev progressOf : JobFile → Progress
 progressOf f = progressAt (not (eqb (f .mode) modePlanes)) (jobOf f)
@@ -67,7 +67,7 @@ slice-aggregate-load-graph c = search needs
 load-graph-requires : tie.Need-load-graph-requires
 load-graph-requires c κs =
     let s = c .before .before .before .before .before .before in
-    let f = fileAt (s .args .file .now) (s .args .job) in
+    let f = jobAt (s .args .file .now) (s .args .job) in
     let v = valid (s .args .file .now) f (s .pre .0 .0) in
     (search needs, edges-fit (f .n) (f .edges) (v .few) (v .edgesBelow))
 
@@ -112,7 +112,7 @@ slice-aggregate-write-found-2 c = search needs
 
 write-found-requires : tie.Need-write-found-requires
 write-found-requires c κs = let t = c .before .before .before .before .before .before .before .before .before .before .before .before .before .before .before .before .before .before .before .before .before .before .before .before .before .before .before .before .before in
-    let few = valid (t .args .file .now) (fileAt (t .args .file .now) (t .args .job)) (t .pre .0 .0) .few in
+    let few = valid (t .args .file .now) (jobAt (t .args .file .now) (t .args .job)) (t .pre .0 .0) .few in
     let size : length (c .before .before .before .before .before .before .before .before .before .search .last .1 .1 .1 .1 .1 .1 .1 .0) ≡ capacity = search needs in
     omega arith
 
@@ -147,7 +147,7 @@ returns c = let a = c .before .before .before .before .before .before .before .b
     let bytes =
     ap₂ (λ (l t : List ℕ). recordsFor (f .n) (member (outputs .result)) l t) (ap (λ (o : Outcome). o .layers) e) (ap (λ (o : Outcome). o .sets) e)
     ∙ flow-written s f (c .before .before .before .before .before .before .before .before .before .before .before .before .before .before .before .before .before .before .before .before .before .before .before .before .before .before .before .before .before .before .before .before .pre .0 .0) (outputs .result) (outputs .ensures) told in
-    put-is (foundBytes f) (a .out .now) _ _ (zeros workBytes) _ (wrote .ensures .0 ∙ ap (λ (b : List ℕ). putReply (putCount b (a .out .now))) bytes) (wrote .ensures .1 ∙ ap (λ (b : List ℕ). putFirst b (a .out .now)) bytes) zero
+    put-is (foundBytes f) (a .out .now) _ _ (zeros workBytes) _ (wrote .ensures .0 ∙ ap (λ (b : List ℕ). putReply (putAnswer b (a .out .now))) bytes) (wrote .ensures .1 ∙ ap (λ (b : List ℕ). putFront b (a .out .now)) bytes) zero
 
 same-length-3 : tie.Need-same-length-3
 same-length-3 c = search needs
@@ -165,7 +165,7 @@ returns-2 c = let a = c .before .before .before .before .before .before .before 
     let zero = ap (λ (o : Outcome). o .work) e in
     let wrote = c .before .before .write-bare in
     let bytes = none-written s f (c .before .before .before .before .before .before .before .before .before .before .before .before .before .before .before .before .before .before .before .before .before .before .before .before .before .before .before .before .before .before .pre .0 .0) told in
-    put-is (foundBytes f) (a .out .now) _ _ (zeros workBytes) _ (wrote .ensures .0 ∙ ap (λ (b : List ℕ). putReply (putCount b (a .out .now))) bytes) (wrote .ensures .1 ∙ ap (λ (b : List ℕ). putFirst b (a .out .now)) bytes) zero
+    put-is (foundBytes f) (a .out .now) _ _ (zeros workBytes) _ (wrote .ensures .0 ∙ ap (λ (b : List ℕ). putReply (putAnswer b (a .out .now))) bytes) (wrote .ensures .1 ∙ ap (λ (b : List ℕ). putFront b (a .out .now)) bytes) zero
 
 same-length-5 : tie.Need-same-length-5
 same-length-5 c = search needs

@@ -4,7 +4,7 @@ use native.Mathlib.Omega.{arith}
 use borrow.Author.Tests.{eq-eqb, ne-eqb, not-true, not-false}
 use borrow.Author.Needs.{needs}
 use lib.ListN.{length, length-drop}
-use Rattle.records.specs.Views.{fileAt}
+use Rattle.records.specs.Views.{jobAt}
 use Rattle.calls.proofs.Finding.{find-left, find-mode, find-size, find-goes}
 use Rattle.calls.proofs.find.find_read.Statement.{statement}
 use Rattle.calls.proofs.find.find_read.Tie as tie
@@ -12,7 +12,7 @@ use Rattle.calls.proofs.find.find_read.Tie as tie
 returns : tie.Need-returns
 returns c = let a = c .before .before .before .before .before .args in
     let s = a .file .now in
-    let f = fileAt s (a .job) in
+    let f = jobAt s (a .job) in
     let read = c .before .before .before .before .before .pre .0 in
     let inside = c .before .before .before .before .before .pre .1 .measurements .1 in
     let left = length-drop (a .job .measurements .end) s in
@@ -24,7 +24,7 @@ has-search-requires c κs = search needs
 returns-2 : tie.Need-returns-2
 returns-2 c = let a = c .before .before .before .before .before .before .before .args in
     let s = a .file .now in
-    let f = fileAt s (a .job) in
+    let f = jobAt s (a .job) in
     let read = c .before .before .before .before .before .before .before .pre .0 in
     let inside = c .before .before .before .before .before .before .before .pre .1 .measurements .1 in
     let left = length-drop (a .job .measurements .end) s in
@@ -34,7 +34,7 @@ returns-2 c = let a = c .before .before .before .before .before .before .before 
 returns-3 : tie.Need-returns-3
 returns-3 c = let a = c .before .before .before .before .before .before .before .before .args in
     let s = a .file .now in
-    let f = fileAt s (a .job) in
+    let f = jobAt s (a .job) in
     let read = c .before .before .before .before .before .before .before .before .pre .0 in
     let inside = c .before .before .before .before .before .before .before .before .pre .1 .measurements .1 in
     let left = length-drop (a .job .measurements .end) s in
@@ -53,7 +53,7 @@ same-length-2 c = search needs
 returns-4 : tie.Need-returns-4
 returns-4 c = let a = c .before .before .before .before .before .before .before .before .before .before .before .before .before .before .before .args in
     let s = a .file .now in
-    let f = fileAt s (a .job) in
+    let f = jobAt s (a .job) in
     let read = c .before .before .before .before .before .before .before .before .before .before .before .before .before .before .before .pre .0 in
     let inside = c .before .before .before .before .before .before .before .before .before .before .before .before .before .before .before .pre .1 .measurements .1 in
     let left = length-drop (a .job .measurements .end) s in

@@ -12,7 +12,7 @@ use Rattle.nodes.specs.Lists.{has}
 use Rattle.records.specs.FlowFile.{entriesOf, framed, listed, allEntries, entryBelow, setIn, entryIn}
 use Rattle.records.specs.Views.{between}
 use Rattle.records.proofs.ReadingEntries.{two-more, fits, framed-next}
-use Rattle.records.proofs.ReadingRecords.{has-small}
+use Rattle.records.proofs.JobFile.{has-small}
 use Rattle.calls.proofs.LoadingEdges.{cleared}
 use Rattle.calls.proofs.LoadingTables.{set-end, entry-end, set-more, entry-more, below-out}
 use borrow.Author.Needs.{needs}
@@ -46,6 +46,9 @@ loop-holds c = let t = c .before .before .before in
 
 shared-slice-read-u : tie.Need-shared-slice-read-u Inv-loop μ-loop
 shared-slice-read-u c = search needs
+
+cast-u : tie.Need-cast-u Inv-loop μ-loop
+cast-u c = omega (arith, c .shared-slice-known2 .given (c .before .before .loop .i))
 
 add-start : tie.Need-add-start Inv-loop μ-loop
 add-start c = let l = c .before .before .loop in
@@ -162,6 +165,7 @@ load-entries-spec =
     empty-requires
     loop-holds
     shared-slice-read-u
+    cast-u
     add-start
     add-end
     shared-slice-read-end

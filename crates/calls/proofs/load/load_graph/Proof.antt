@@ -35,11 +35,17 @@ add-loop c = search needs
 shared-slice-read-a : tie.Need-shared-slice-read-a Inv-loop μ-loop
 shared-slice-read-a c = search needs
 
+cast-a : tie.Need-cast-a Inv-loop μ-loop
+cast-a c = omega (arith, c .shared-slice-known2 .given (c .before .before .loop .i))
+
 add-b : tie.Need-add-b Inv-loop μ-loop
 add-b c = search needs
 
 shared-slice-read-b : tie.Need-shared-slice-read-b Inv-loop μ-loop
 shared-slice-read-b c = search needs
+
+cast-b : tie.Need-cast-b Inv-loop μ-loop
+cast-b c = omega (arith, c .shared-slice-known3 .given (c .before .before .before .loop .i + 1))
 
 join-requires : tie.Need-join-requires Inv-loop μ-loop
 join-requires c κs =
@@ -89,8 +95,10 @@ load-graph-spec =
     loop-holds
     add-loop
     shared-slice-read-a
+    cast-a
     add-b
     shared-slice-read-b
+    cast-b
     join-requires
     join-requires-2
     add-i

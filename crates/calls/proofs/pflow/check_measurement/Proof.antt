@@ -13,6 +13,9 @@ use Rattle.calls.proofs.pflow.check_measurement.Tie as tie
 is-empty-requires : tie.Need-is-empty-requires
 is-empty-requires c κs = search needs
 
+cast-t8 : tie.Need-cast-t8
+cast-t8 c = search needs
+
 returns : tie.Need-returns
 returns c = let e = c .before in
     let a = e .before .args in
@@ -26,6 +29,9 @@ has-requires-2 c κs = search needs
 
 own-holds-requires : tie.Need-own-holds-requires
 own-holds-requires c κs = search needs
+
+cast-t12 : tie.Need-cast-t12
+cast-t12 c = search needs
 
 returns-2 : tie.Need-returns-2
 returns-2 c = let o = c .before in
@@ -50,9 +56,11 @@ check-measurement-spec =
     tie.close
     (tie.spec
     is-empty-requires
+    cast-t8
     returns
     has-requires
     has-requires-2
     own-holds-requires
+    cast-t12
     returns-2
     returns-3)

@@ -27,9 +27,6 @@ abbrev μ-loop : tie.MeasureT-loop
 loop-holds : tie.Need-loop-holds Inv-loop μ-loop
 loop-holds c = (search needs, each-start _ _)
 
-cast-loop : tie.Need-cast-loop Inv-loop μ-loop
-cast-loop c = search needs
-
 below-requires : tie.Need-below-requires Inv-loop μ-loop
 below-requires c κs = search needs
 
@@ -47,6 +44,9 @@ without-requires c κs = search needs
 
 is-empty-requires : tie.Need-is-empty-requires Inv-loop μ-loop
 is-empty-requires c κs = search needs
+
+cast-t12 : tie.Need-cast-t12 Inv-loop μ-loop
+cast-t12 c = search needs
 
 returns : tie.Need-returns Inv-loop μ-loop
 returns c = let e = c .before in
@@ -97,13 +97,13 @@ check-codomain-spec =
     Inv-loop
     μ-loop
     loop-holds
-    cast-loop
     below-requires
     set-at-requires
     intersection-requires
     intersection-requires-2
     without-requires
     is-empty-requires
+    cast-t12
     returns
     add-u
     loop-less

@@ -19,11 +19,8 @@ abbrev μ-loop : tie.MeasureT-loop
 loop-holds : tie.Need-loop-holds Inv-loop μ-loop
 loop-holds c = (search needs, each-start _ _)
 
-cast-loop : tie.Need-cast-loop Inv-loop μ-loop
-cast-loop c = search needs
-
-byte-at-requires : tie.Need-byte-at-requires Inv-loop μ-loop
-byte-at-requires c κs = search needs
+layer-at-requires : tie.Need-layer-at-requires Inv-loop μ-loop
+layer-at-requires c κs = search needs
 
 has-requires : tie.Need-has-requires Inv-loop μ-loop
 has-requires c κs = search needs
@@ -77,8 +74,7 @@ check-initial-spec =
     Inv-loop
     μ-loop
     loop-holds
-    cast-loop
-    byte-at-requires
+    layer-at-requires
     has-requires
     check-layer-requires
     enum-told

@@ -50,6 +50,9 @@ returns c = let e = c .before in
 lowest-requires : tie.Need-lowest-requires
 lowest-requires c κs = search needs
 
+cast-t10 : tie.Need-cast-t10
+cast-t10 c = search needs
+
 returns-2 : tie.Need-returns-2
 returns-2 c = let e = c .before .before in
     ap (λ (u : ℕ). some (record { number = 17; a = u; b = 0 })) (c .lowest .ensures)
@@ -67,4 +70,5 @@ check-measured-spec =
     is-empty-requires
     returns
     lowest-requires
+    cast-t10
     returns-2)

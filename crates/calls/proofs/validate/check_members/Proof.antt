@@ -26,9 +26,6 @@ abbrev μ-loop : tie.MeasureT-loop
 loop-holds : tie.Need-loop-holds Inv-loop μ-loop
 loop-holds c = (search needs, each-start _ _)
 
-cast-loop : tie.Need-cast-loop Inv-loop μ-loop
-cast-loop c = search needs
-
 below-requires : tie.Need-below-requires Inv-loop μ-loop
 below-requires c κs = search needs
 
@@ -43,6 +40,9 @@ is-empty-requires c κs = search needs
 
 has-requires : tie.Need-has-requires Inv-loop μ-loop
 has-requires c κs = search needs
+
+cast-t11 : tie.Need-cast-t11 Inv-loop μ-loop
+cast-t11 c = search needs
 
 returns : tie.Need-returns Inv-loop μ-loop
 returns c = let h = c .before in
@@ -91,12 +91,12 @@ check-members-spec =
     Inv-loop
     μ-loop
     loop-holds
-    cast-loop
     below-requires
     set-at-requires
     intersection-requires
     is-empty-requires
     has-requires
+    cast-t11
     returns
     add-u
     loop-less

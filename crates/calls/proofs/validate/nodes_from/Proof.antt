@@ -23,9 +23,6 @@ empty-requires c κs = search needs
 loop-holds : tie.Need-loop-holds Inv-loop μ-loop
 loop-holds c = let a = c .before .before .args in (search needs, λ u. ap (λ (f : ℕ → Bool). f u) (c .empty .ensures) ∙ from-none (λ k. getD (a .bytes .now) k 0) (a .low) u)
 
-cast-loop : tie.Need-cast-loop Inv-loop μ-loop
-cast-loop c = search needs
-
 byte-at-requires : tie.Need-byte-at-requires Inv-loop μ-loop
 byte-at-requires c κs = search needs
 
@@ -62,7 +59,6 @@ nodes-from-spec =
     μ-loop
     empty-requires
     loop-holds
-    cast-loop
     byte-at-requires
     with-if-requires
     add-v

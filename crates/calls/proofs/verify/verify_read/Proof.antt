@@ -3,7 +3,7 @@ use native.Mathlib.Omega.{arith}
 use lib.ListN.{length, length-drop}
 use borrow.Author.Tests.{not-true, not-false}
 use Rattle.demands.specs.Calls.{verdict}
-use Rattle.records.specs.Views.{fileAt, flowAt}
+use Rattle.records.specs.Views.{jobAt, flowAt}
 use Rattle.calls.proofs.LoadingFiles.{some-left, not-one, all-one}
 use borrow.Author.Needs.{needs}
 use Rattle.calls.proofs.verify.verify_read.Statement.{statement}
@@ -11,7 +11,7 @@ use Rattle.calls.proofs.verify.verify_read.Tie as tie
 
 returns : tie.Need-returns
 returns c = let s = c .before .before .before in
-    let f = fileAt (s .args .file .now) (s .args .job) in
+    let f = jobAt (s .args .file .now) (s .args .job) in
     let g = flowAt (s .args .file .now) (s .args .flow) in
     let lies = s .pre .0 .1 .sets .1 in
     let rest = length-drop (s .args .flow .sets .end) (s .args .file .now) in
@@ -31,7 +31,7 @@ one-each-requires c κs = search needs
 
 returns-2 : tie.Need-returns-2
 returns-2 c = let s = c .before .before .before .before .before .before in
-    let f = fileAt (s .args .file .now) (s .args .job) in
+    let f = jobAt (s .args .file .now) (s .args .job) in
     let g = flowAt (s .args .file .now) (s .args .flow) in
     let lies = s .pre .0 .1 .sets .1 in
     let rest = length-drop (s .args .flow .sets .end) (s .args .file .now) in
@@ -44,7 +44,7 @@ verify-job-requires c κs = search needs
 
 returns-3 : tie.Need-returns-3
 returns-3 c = let s = c .before .before .before .before .before .before .before in
-    let f = fileAt (s .args .file .now) (s .args .job) in
+    let f = jobAt (s .args .file .now) (s .args .job) in
     let g = flowAt (s .args .file .now) (s .args .flow) in
     let lies = s .pre .0 .1 .sets .1 in
     let rest = length-drop (s .args .flow .sets .end) (s .args .file .now) in

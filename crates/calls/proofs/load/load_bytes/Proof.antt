@@ -1,0 +1,58 @@
+use Rattle.calls.proofs.load.load_bytes.Statement.{statement}
+use Rattle.calls.proofs.load.load_bytes.Tie as tie
+use Rattle.calls.proofs.load.load_bytes.Reads as reads
+use Rattle.calls.proofs.load.load_bytes.Lts as lts
+use borrow.Author.Needs.{needs}
+
+abbrev Inv-loop : tie.InvT-loop
+Inv-loop bytes to₀ i₀ to i = ?
+
+abbrev μ-loop : tie.MeasureT-loop
+μ-loop bytes to₀ i₀ to i = ?
+
+-- src/load.rt:109:5
+loop-holds : tie.Need-loop-holds Inv-loop μ-loop
+loop-holds c = ?
+
+-- src/load.rt:110:17
+shared-slice-read-to : tie.Need-shared-slice-read-to Inv-loop μ-loop
+shared-slice-read-to c = ?
+
+-- src/load.rt:110:9
+slice-write-to : tie.Need-slice-write-to Inv-loop μ-loop
+slice-write-to c = ?
+
+-- src/load.rt:111:9
+add-i : tie.Need-add-i Inv-loop μ-loop
+add-i c = ?
+
+-- src/load.rt:109:5
+loop-less : tie.Need-loop-less Inv-loop μ-loop
+loop-less c = ?
+
+-- src/load.rt:109:5
+loop-again : tie.Need-loop-again Inv-loop μ-loop
+loop-again c = ?
+
+-- src/load.rt:104:1
+same-length : tie.Need-same-length Inv-loop μ-loop
+same-length c = ?
+
+-- src/load.rt:104:1
+returns : tie.Need-returns Inv-loop μ-loop
+returns c = ?
+
+pub load-bytes-spec : {M : Type 1} → statement M
+load-bytes-spec =
+    tie.close
+    (tie.spec
+    Inv-loop
+    μ-loop
+    loop-holds
+    shared-slice-read-to
+    slice-write-to
+    add-i
+    loop-less
+    loop-again
+    same-length
+    returns)

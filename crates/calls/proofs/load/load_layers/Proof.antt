@@ -1,0 +1,68 @@
+use Rattle.calls.proofs.load.load_layers.Statement.{statement}
+use Rattle.calls.proofs.load.load_layers.Tie as tie
+use Rattle.calls.proofs.load.load_layers.Reads as reads
+use Rattle.calls.proofs.load.load_layers.Lts as lts
+use borrow.Author.Needs.{needs}
+
+abbrev Inv-loop : tie.InvT-loop
+Inv-loop bytes to₀ i₀ to i = ?
+
+abbrev μ-loop : tie.MeasureT-loop
+μ-loop bytes to₀ i₀ to i = ?
+
+-- src/load.rt:121:5
+loop-holds : tie.Need-loop-holds Inv-loop μ-loop
+loop-holds c = ?
+
+-- src/load.rt:122:17
+shared-slice-read-to : tie.Need-shared-slice-read-to Inv-loop μ-loop
+shared-slice-read-to c = ?
+
+-- src/load.rt:122:17
+cast-to : tie.Need-cast-to Inv-loop μ-loop
+cast-to c = ?
+
+-- src/load.rt:122:9
+mul-to : tie.Need-mul-to Inv-loop μ-loop
+mul-to c = ?
+
+-- src/load.rt:122:9
+slice-write-to : tie.Need-slice-write-to Inv-loop μ-loop
+slice-write-to c = ?
+
+-- src/load.rt:123:9
+add-i : tie.Need-add-i Inv-loop μ-loop
+add-i c = ?
+
+-- src/load.rt:121:5
+loop-less : tie.Need-loop-less Inv-loop μ-loop
+loop-less c = ?
+
+-- src/load.rt:121:5
+loop-again : tie.Need-loop-again Inv-loop μ-loop
+loop-again c = ?
+
+-- src/load.rt:116:1
+same-length : tie.Need-same-length Inv-loop μ-loop
+same-length c = ?
+
+-- src/load.rt:116:1
+returns : tie.Need-returns Inv-loop μ-loop
+returns c = ?
+
+pub load-layers-spec : {M : Type 1} → statement M
+load-layers-spec =
+    tie.close
+    (tie.spec
+    Inv-loop
+    μ-loop
+    loop-holds
+    shared-slice-read-to
+    cast-to
+    mul-to
+    slice-write-to
+    add-i
+    loop-less
+    loop-again
+    same-length
+    returns)
