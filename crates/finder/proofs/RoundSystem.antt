@@ -25,7 +25,7 @@ use Rattle.solver.specs.Asked.{asking, askedSide}
 use Rattle.solver.specs.WorkMatrix.{entryOf}
 use Rattle.solver.specs.Solver.{rowBytes, mostRows}
 use Rattle.solver.specs.Basis.{Form, answerFrom}
-use Rattle.solver.specs.BasisCalls.{formOf, formFits, formedOf, namedEntry, namedSystem, Answering, FormAfter}
+use Rattle.solver.specs.BasisCalls.{formOf, formFits, formedOf, namedEntry, namedSystem, BasisFormed, FormAfter}
 use Rattle.solver.specs.declared.column_basis.Formed.{Formed}
 use Rattle.solver.specs.declared.column_basis.Formed.the-variants as formed
 use Rattle.solver.specs.declared.column_basis.Echelon.{Echelon}
@@ -69,7 +69,7 @@ module _ (turned work : List ℕ) (s : Sets) (upper reached : NodeSet) (up : mem
       seen true false true h = absurd (h tt)
       seen true false false h = refl
 
-  pub laid-answers : (e : Echelon) (kernel reduced preimage : List ℕ) → Answering work (member upper) (member (s .lower)) (member (s .columns)) kernel reduced preimage e
+  pub laid-answers : (e : Echelon) (kernel reduced preimage : List ℕ) → BasisFormed work (member upper) (member (s .lower)) (member (s .columns)) kernel reduced preimage e
       → Answers (roundSystem turned s) e kernel reduced preimage
   laid-answers e kernel reduced preimage a b r odd ends =
       a .answers b r odd ends
@@ -287,7 +287,7 @@ answer-same f {b = b} {c = c} {r = r} {q = q} {x = x} {y = y} d e h =
     ap (λ (z : ℕ → Bool). answerFrom capacity f z r x) d ∙ ap₂ (λ (z : ℕ → Bool) (w : Bool). answerFrom capacity f c z w) e h
 
 pub form-ready : (r : Formed) (e : Echelon) (matrix : List ℕ) (upper lower column : ℕ → Bool) (k₀ r₀ p₀ kernel reduced preimage : List ℕ) → r ≡ formed.Ready e
-    → FormAfter r matrix upper lower column k₀ r₀ p₀ kernel reduced preimage → Answering matrix upper lower column kernel reduced preimage e
+    → FormAfter r matrix upper lower column k₀ r₀ p₀ kernel reduced preimage → BasisFormed matrix upper lower column kernel reduced preimage e
 form-ready r e matrix upper lower column k₀ r₀ p₀ kernel reduced preimage h a = subst (λ (x : Formed). FormAfter x matrix upper lower column k₀ r₀ p₀ kernel reduced preimage) h a
 
 -- the solver never refuses a round

@@ -6,8 +6,8 @@ use lib.Count.{trailing-le}
 use Rattle.solver.specs.Solver.{rowBytes}
 use Rattle.solver.proofs.WorkMatrix.{NoneBefore, none-start, none-more, lead-none, lead-inside, lead-outside}
 use borrow.Author.Needs.{needs}
-use Rattle.solver.proofs.gf2_linalg.first_column.Statement.{statement}
-use Rattle.solver.proofs.gf2_linalg.first_column.Tie as tie
+use Rattle.solver.proofs.gf2_linalg.lead.Statement.{statement}
+use Rattle.solver.proofs.gf2_linalg.lead.Tie as tie
 
 abbrev Inv-loop : tie.InvT-loop
 Inv-loop matrix row cols start q₀ q = (q ≤ rowBytes) × NoneBefore rowBytes matrix row (8 * q)
@@ -75,8 +75,8 @@ returns-3 c =
     let e : l .q ≡ rowBytes = omega arith in
     lead-none rowBytes (a .matrix .now) (a .row) (a .cols) (rw e at (l .inv .1)) (c .before .before .pre .1)
 
-pub first-column-spec : {M : Type 1} → statement M
-first-column-spec =
+pub lead-spec : {M : Type 1} → statement M
+lead-spec =
     tie.close
     (tie.spec
     Inv-loop

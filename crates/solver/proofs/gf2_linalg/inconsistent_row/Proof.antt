@@ -6,8 +6,8 @@ use lib.Dec.{eqb}
 use Rattle.solver.specs.WorkMatrix.{entryOf}
 use Rattle.solver.specs.Solver.{rowBytes}
 use borrow.Author.Needs.{needs}
-use Rattle.solver.proofs.gf2_linalg.asks_in_vain.Statement.{statement}
-use Rattle.solver.proofs.gf2_linalg.asks_in_vain.Tie as tie
+use Rattle.solver.proofs.gf2_linalg.inconsistent_row.Statement.{statement}
+use Rattle.solver.proofs.gf2_linalg.inconsistent_row.Tie as tie
 
 has-requires : tie.Need-has-requires
 has-requires c κs = search needs
@@ -18,14 +18,14 @@ returns c =
     let no-bit : entryOf rowBytes (a .matrix .now) (a .row) (a .asked) ≡ false = sym (c .before .has .ensures) ∙ not-true _ (c .if1 .taken) in
     simp no-bit
 
-first-column-requires : tie.Need-first-column-requires
-first-column-requires c κs = search needs
+lead-requires : tie.Need-lead-requires
+lead-requires c κs = search needs
 
 returns-2 : tie.Need-returns-2
 returns-2 c =
     let a = c .before .before .before .before .args in
     let bit : entryOf rowBytes (a .matrix .now) (a .row) (a .asked) ≡ true = sym (c .before .before .has .ensures) ∙ not-false _ (c .before .if1 .left) in
-    simp bit (ap (λ (k : ℕ). eqb k (a .cols)) (c .first-column .ensures))
+    simp bit (ap (λ (k : ℕ). eqb k (a .cols)) (c .lead .ensures))
 
-pub asks-in-vain-spec : {M : Type 1} → statement M
-asks-in-vain-spec = tie.close (tie.spec has-requires returns first-column-requires returns-2)
+pub inconsistent-row-spec : {M : Type 1} → statement M
+inconsistent-row-spec = tie.close (tie.spec has-requires returns lead-requires returns-2)

@@ -8,8 +8,8 @@ use Rattle.nodes.proofs.Row.{all-in}
 use Rattle.solver.specs.Solver.{rowBytes}
 use Rattle.solver.proofs.WorkMatrix.{within, EndsBefore, ends-start, ends-more, ends-not}
 use borrow.Author.Needs.{needs}
-use Rattle.solver.proofs.gf2_linalg.row_ends.Statement.{statement}
-use Rattle.solver.proofs.gf2_linalg.row_ends.Tie as tie
+use Rattle.solver.proofs.gf2_linalg.row_within_width.Statement.{statement}
+use Rattle.solver.proofs.gf2_linalg.row_within_width.Tie as tie
 
 abbrev Inv-loop : tie.InvT-loop
 Inv-loop matrix row width start q₀ inside₀ q inside = (q ≤ rowBytes) × (width / 8 ≤ q) × (inside ≡ width - 8 * q) × EndsBefore rowBytes matrix row width (8 * q)
@@ -62,8 +62,8 @@ returns-2 c =
     let f : EndsBefore rowBytes (a .matrix .now) (a .row) (a .width) (8 * rowBytes) = rw e at (l .inv .3) in
     sym (is-true (allBelow (8 * rowBytes) (within rowBytes (a .matrix .now) (a .row) (a .width))) (all-in (8 * rowBytes) (within rowBytes (a .matrix .now) (a .row) (a .width)) f))
 
-pub row-ends-spec : {M : Type 1} → statement M
-row-ends-spec =
+pub row-within-width-spec : {M : Type 1} → statement M
+row-within-width-spec =
     tie.close
     (tie.spec
     Inv-loop

@@ -1,11 +1,11 @@
 use borrow.Author.Tests.{eq-eqb, ne-eqb}
-use Rattle.solver.specs.Steps.{brought}
+use Rattle.solver.specs.Steps.{addPivotRow}
 use borrow.Author.Needs.{needs}
-use Rattle.solver.proofs.gf2_linalg.bring.Statement.{statement}
-use Rattle.solver.proofs.gf2_linalg.bring.Tie as tie
+use Rattle.solver.proofs.gf2_linalg.add_pivot_row.Statement.{statement}
+use Rattle.solver.proofs.gf2_linalg.add_pivot_row.Tie as tie
 
 returns : tie.Need-returns
-unfolding brought
+unfolding addPivotRow
 returns c = simp (eq-eqb _ _ (c .if1 .taken))
 
 xor-row-requires : tie.Need-xor-row-requires
@@ -15,8 +15,8 @@ same-length : tie.Need-same-length
 same-length c = search needs
 
 returns-2 : tie.Need-returns-2
-unfolding brought
+unfolding addPivotRow
 returns-2 c = simp (ne-eqb _ _ (c .before .before .before .before .if1 .left)) (c .before .before .xor-row .ensures)
 
-pub bring-spec : {M : Type 1} → statement M
-bring-spec = tie.close (tie.spec returns xor-row-requires same-length returns-2)
+pub add-pivot-row-spec : {M : Type 1} → statement M
+add-pivot-row-spec = tie.close (tie.spec returns xor-row-requires same-length returns-2)
