@@ -12,7 +12,7 @@ use Rattle.flows.specs.Branch.{Context, inSet, branches, tryNode}
 use Rattle.flows.specs.Search.{Progress, start, solvedNow, orNone, round, rounds, noNode}
 use Rattle.flows.specs.Planes as Planes
 use Rattle.flows.specs.Paulis as Paulis
-use Rattle.finder.specs.Finder.{progressAt}
+use Rattle.finder.specs.Searches.{progressAt}
 use Rattle.flows.proofs.Search.{rounds-step, Ended}
 use Rattle.flows.proofs.Tries.{first-of, branch-answer}
 

@@ -13,8 +13,7 @@ use Rattle.nodes.proofs.Logic.{and-l, and-r}
 use Rattle.nodes.proofs.Row.{all-out}
 use Rattle.nodes.specs.Options.{firstOf}
 use Rattle.flows.specs.Branch.{Context, branchTable, branches, tryBranch, firstSolvable}
-use Rattle.finder.specs.Views.{graphJob}
-use Rattle.finder.specs.Finding.{tryListed, tryIn}
+use Rattle.finder.specs.Tries.{graphJob, tryListed, tryIn}
 use Rattle.flows.proofs.Table.{keep}
 
 -- the constant as it stands in the code

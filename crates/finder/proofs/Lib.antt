@@ -1,7 +1,7 @@
 pub mod Below
+pub mod Tries
 pub mod BranchTable
-pub mod Filling
-pub mod Finding
-pub mod RoundSystem
+pub mod WorkMatrix
+pub mod Visits
 pub mod Rounds
-pub mod Visiting
+pub mod Searches

@@ -1,3 +1,4 @@
-pub mod Finder
-pub mod Finding
-pub mod Views
+pub mod Tries
+pub mod WorkMatrix
+pub mod Visits
+pub mod Searches

@@ -1,17 +1,17 @@
--- What adding one row of bytes to another does to the matrix.
+-- What adding one row of bytes to another does to the matrix. Serves Steps.
 use mathlib.Core.Path.{_≡_, refl, sym, ap, ap₂, _∙_}
 use mathlib.Core.Logic.{_≢_, _⊎_, inl, inr, ⊎-elim}
 use mathlib.Core.Bool.{Bool, cond}
 use mathlib.Core.List.{List}
 use Prim.Native.Nat.{ℕ, zero, suc, _+_, _-_, _*_, _/_, _%_, _<_, _≤_}
-use native.Mathlib.Nat.{mul-le-mul-right, suc-mul, not-suc-le-zero, le-of-suc-le-suc}
+use native.Mathlib.Nat.{mul-le-mul-right, suc-mul}
 use native.Mathlib.Decide.{ℕ-discrete, decLt}
 use native.Mathlib.Omega.{arith, ne-cases}
 use borrow.Author.Tests.{eq-eqb, ne-eqb, le-leb, lt-leb, lt-ltb, le-ltb}
 use lib.Bits.{bitXor}
 use lib.Dec.{eqb}
 use lib.ListN.{getD, length, set, length-set, List·getD-eq-default}
-use lib.Seq.{getD-set-same, getD-set-other, ext-getD}
+use lib.Seq.{getD-set-same, getD-set-other}
 use Rattle.nodes.specs.Bit.{bit, _⊕_}
 use Rattle.nodes.proofs.Bit.{bit-xor}
 use Rattle.nodes.specs.Lists.{listOf}
@@ -127,11 +127,3 @@ entry-xor w l d s hd hs n i k g = by (ℕ-discrete i d)
         (at (i * w + k / 8)
         ∙ ⊎-elim (λ q. before l (d * w) (s * w) w hd hs a (i * w + k / 8) (omega arith)) (λ q. beyond l (d * w) (s * w) w hd hs a (i * w + k / 8) (omega arith)) (either-apart w i d ne))
         ∙ ap (λ (b : Bool). cond b (entryOf w l d k ⊕ entryOf w l s k) (entryOf w l i k)) (sym (ne-eqb i d ne))
-
--- ---- one zero more at the front
-pub zeros-more : (l : List ℕ) (j : ℕ) → j < length l → ((q : ℕ) → q < j → getD l q 0 ≡ 0) → (q : ℕ) → q < j + 1 → getD (set l j 0) q 0 ≡ 0
-zeros-more l j h f q g = by (ℕ-discrete q j)
-  where
-    by : Dec (q ≡ j) → getD (set l j 0) q 0 ≡ 0
-    by (yes e) = ap (λ (i : ℕ). getD (set l j 0) i 0) e ∙ getD-set-same l j 0 0 h
-    by (no n) = getD-set-other l j q 0 0 n ∙ f q (omega (arith, n))

@@ -1,4 +1,4 @@
--- What adding rows to each other keeps, and the state of an elimination after some of the columns.
+-- What adding rows to each other keeps, and the state of an elimination after some of the columns. Serves Steps.
 use Prim.Native.Nat.{ℕ, _+_, _≤_, _<_}
 use mathlib.Core.Path.{_≡_, refl, sym, ap, _∙_}
 use mathlib.Core.Bool.{Bool, true, false, cond, not, _&&_}
@@ -10,7 +10,7 @@ use lib.Dec.{T, eqb, eqb→eq, ltb}
 use Rattle.nodes.specs.Bit.{_⊕_}
 use Rattle.nodes.specs.Row.{dot, anyBelow}
 use Rattle.nodes.specs.Options.{isSome}
-use Rattle.solver.specs.System.{Solves, Dependent, IsAnswer, solve, pivot}
+use Rattle.solver.specs.System.{Solves, Dependent, BasicSolution, solve, pivot}
 use Rattle.solver.specs.Reduced.{lead, Reduced}
 use Rattle.nodes.proofs.Logic.{is-false, both-ways, dec, eqb-no, eqb-yes, lt-or-ge, and-none, and-all, ⊕-none, ⊕-self, ⊕-eq}
 use Rattle.nodes.proofs.Row.{parity-and, dot-⊕, dot-rows, dot-ext, dot-prefix, dot-one}
@@ -60,7 +60,7 @@ pub dependent-kept : (r w : ℕ) (m m′ : ℕ → ℕ → Bool) → Same r w m 
 dependent-kept r w m m′ s k l (y, q) = (y, solutions-kept r w m m′ s k k (omega arith) l y q)
 
 pub answer-kept : (r w : ℕ) (m m′ : ℕ → ℕ → Bool) → Same r w m m′ → (n c : ℕ) → n ≤ w → c < w → (x : ℕ → Bool)
-    → IsAnswer (plain r m) n (λ i. m i c) x → IsAnswer (plain r m′) n (λ i. m′ i c) x
+    → BasicSolution (plain r m) n (λ i. m i c) x → BasicSolution (plain r m′) n (λ i. m′ i c) x
 answer-kept r w m m′ s n c h l x a = record {
   solves = solutions-kept r w m m′ s n c h l x (a .solves);
   avoids = λ j g t d. a .avoids j g t (dependent-kept r w m′ m (same-sym s) j (omega arith) d);
@@ -200,18 +200,18 @@ module _ (r c rank w : ℕ) (m m′ : ℕ → ℕ → Bool) (inside : c < w) (p 
 module _ (r c rank w j : ℕ) (m m′ : ℕ → ℕ → Bool) (inside : c < w) (p : Partly r c rank m) (after : rank < j) (room : j < r)
     (none-there : m rank c ≡ false) (one : m j c ≡ true)
     (added : (v k : ℕ) → v < r → k < w → m′ v k ≡ addRow j rank m v k) where
-  pub bring-same : Same r w m m′
-  bring-same = same-trans (add-same r w j rank m room (omega arith) (omega arith)) (same-ext r w (addRow j rank m) m′ (λ v k l g. sym (added v k l g)))
+  pub pivot-row-same : Same r w m m′
+  pivot-row-same = same-trans (add-same r w j rank m room (omega arith) (omega arith)) (same-ext r w (addRow j rank m) m′ (λ v k l g. sym (added v k l g)))
 
-  pub bring-keeps : Partly r c rank m′
-  bring-keeps = partly-ext r c rank m m′ (λ v k l g. sym (added v k l (omega arith) ∙ at v k g (dec (eqb v rank)))) p
+  pub pivot-row-keeps : Partly r c rank m′
+  pivot-row-keeps = partly-ext r c rank m m′ (λ v k l g. sym (added v k l (omega arith) ∙ at v k g (dec (eqb v rank)))) p
     where
       at : (v k : ℕ) → k < c → T (eqb v rank) ⊎ (T (eqb v rank) → ⊥) → addRow j rank m v k ≡ m v k
       at v k g (inl t) = rw (eqb→eq v rank t, eqb-yes rank, p .rest j k (omega arith) room g) (⊕-none (m rank k))
       at v k g (inr f) = rw (is-false (eqb v rank) f)
 
-  pub bring-one : m′ rank c ≡ true
-  bring-one = added rank c (omega arith) inside ∙ rw (eqb-yes rank, none-there, one)
+  pub pivot-row-one : m′ rank c ≡ true
+  pivot-row-one = added rank c (omega arith) inside ∙ rw (eqb-yes rank, none-there, one)
 
 -- ---- after all columns
 pub partly-reduced : (r n rank : ℕ) (m : ℕ → ℕ → Bool) → Partly r n rank m → Reduced r n m

@@ -1,4 +1,4 @@
--- One row more among those that begin at a column.
+-- One row more among those that begin at a column. Serves Steps.
 use mathlib.Core.Path.{_≡_, refl, sym, ap, _∙_, fun-ext}
 use mathlib.Core.Bool.{Bool, true, false, cond, _&&_, _||_}
 use mathlib.Core.List.{List}
@@ -15,7 +15,7 @@ use Rattle.nodes.proofs.Logic.{and-none, and-all, or-none, or-comm, eqb-no}
 use Rattle.nodes.proofs.Row.{ltb-yes, ltb-no}
 use Rattle.solver.specs.Reduced.{lead, leads}
 use Rattle.solver.specs.WorkMatrix.{entryOf, bytesOf}
-use Rattle.solver.specs.Steps.{noSolution, readColumn, leadBytes, withBit}
+use Rattle.solver.specs.Steps.{noSolution, readColumn, leadBytes, setBit}
 use Rattle.solver.proofs.WorkMatrix.{bytes-ext, bytes-with}
 
 -- a column p, among those below n
@@ -85,7 +85,7 @@ module _ (w : ℕ) (l : List ℕ) (cols asked : ℕ) where
   bytes-past i h = same i (i + 1) (λ k. leads-past m cols d i k h)
 
   pub bytes-take : (i : ℕ) → entryOf w l i asked ≡ true → lead (entryOf w l) cols i < cols → cols ≤ 8 * w
-      → withBit (leadBytes w l cols asked i) (lead (entryOf w l) cols i) ≡ leadBytes w l cols asked (i + 1)
+      → setBit (leadBytes w l cols asked i) (lead (entryOf w l) cols i) ≡ leadBytes w l cols asked (i + 1)
   unfolding m d
   bytes-take i e g h =
       bytes-with w (leads i cols m d) (lead m cols i) (omega arith)

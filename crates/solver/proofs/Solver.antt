@@ -1,6 +1,6 @@
 -- What the solver's calls promise, from the laws of the elimination: here the bytes of a row become rowBytes.
-use mathlib.Core.Path.{_≡_, refl, sym, ap, _∙_, fun-ext}
-use mathlib.Core.Bool.{Bool, true, false, not, _&&_, _||_, false≢true}
+use mathlib.Core.Path.{_≡_, sym, ap, _∙_, fun-ext}
+use mathlib.Core.Bool.{Bool, true, false, not, _&&_, _||_}
 use mathlib.Core.List.{List}
 use mathlib.Core.Logic.{_⊎_, inl, inr}
 use Prim.Native.Nat.{ℕ, _+_, _*_, _<_, _≤_}
@@ -10,13 +10,13 @@ use borrow.Author.Tests.{leb-true, eqb-true}
 use lib.Dec.{T, eqb, leb, ltb}
 use lib.ListN.{length}
 use Rattle.nodes.specs.Row.{allBelow}
-use Rattle.nodes.proofs.Logic.{is-false, or-l, or-r, or-out, not-in, not-out, from-false, dec}
+use Rattle.nodes.proofs.Logic.{is-false, and-out, or-l, or-r, or-out, not-in, not-out, from-false, dec}
 use Rattle.nodes.proofs.Row.{all-in, all-out, dot-one, ltb-no}
 use Rattle.solver.specs.System.{solve, pivot}
 use Rattle.solver.specs.Reduced.{leads, readOff}
-use Rattle.solver.specs.WorkMatrix.{entryOf, systemOf, sideOf, nothingBeyond}
-use Rattle.solver.specs.Steps.{eliminated}
-use Rattle.solver.specs.Solver.{rowBytes, mostRows, mostColumns, fits, bothFit, columnExists, wellShaped, Eliminated}
+use Rattle.solver.specs.WorkMatrix.{entryOf, systemOf, sideOf, withinWidth}
+use Rattle.solver.specs.Steps.{eliminateColumns}
+use Rattle.solver.specs.Solver.{rowBytes, mostRows, mostColumns, matrixFits, bothFit, columnExists, wellShaped, Eliminated}
 use Rattle.solver.proofs.Reduced.{read-off}
 use Rattle.solver.proofs.Elimination.{Same, same-sym, solutions-kept, solve-kept, partly-reduced, eliminated-pivots}
 use Rattle.solver.proofs.Steps.{Good, good-eliminated}
@@ -25,7 +25,7 @@ use Rattle.solver.proofs.Steps.{Good, good-eliminated}
 column-stays : (r w : ℕ) (m m′ : ℕ → ℕ → Bool) → Same r w m m′ → (k : ℕ) → k < w → ((i : ℕ) → i < r → m i k ≡ false) → (i : ℕ) → i < r → m′ i k ≡ false
 column-stays r w m m′ s k l h i g = sym (dot-one w k (m′ i) l) ∙ s .there (λ j. eqb j k) (λ v u. dot-one w k (m v) l ∙ h v u) i g
 
-beyond-stays : (w r width : ℕ) (l l′ : List ℕ) → Same r (8 * w) (entryOf w l) (entryOf w l′) → T (nothingBeyond w l r width) → T (nothingBeyond w l′ r width)
+beyond-stays : (w r width : ℕ) (l l′ : List ℕ) → Same r (8 * w) (entryOf w l) (entryOf w l′) → T (withinWidth w l r width) → T (withinWidth w l′ r width)
 beyond-stays w r width l l′ s t =
     all-in r (λ i. allBelow (8 * w) (λ k. ltb k width || not (entryOf w l′ i k)))
     (λ i g. all-in (8 * w) (λ k. ltb k width || not (entryOf w l′ i k)) (λ k u. at i k g u (dec (ltb k width))))
@@ -49,64 +49,60 @@ beyond-stays w r width l l′ s t =
         (not-in (entryOf w l′ i k) (from-false (entryOf w l′ i k) (column-stays r (8 * w) (entryOf w l) (entryOf w l′) s k u (clear k u f) i g)))
 
 -- ---- what the elimination leaves
-pub is-eliminated : (rows cols sides : ℕ) (l : List ℕ) → rows * rowBytes ≤ length l → cols + sides ≤ mostColumns → Eliminated rows cols sides l (eliminated rowBytes l rows cols .rows)
+pub is-eliminated : (rows cols sides : ℕ) (l : List ℕ) → rows * rowBytes ≤ length l → cols + sides ≤ mostColumns → Eliminated rows cols sides l (eliminateColumns rowBytes l rows cols .rows)
 is-eliminated rows cols sides l h g =
     let good = good-eliminated rowBytes rows l h cols (omega arith) in
     let m = entryOf rowBytes l in
-    let m′ = entryOf rowBytes (eliminated rowBytes l rows cols .rows) in
+    let m′ = entryOf rowBytes (eliminateColumns rowBytes l rows cols .rows) in
     record {
       size = good .size;
-      beyond = beyond-stays rowBytes rows (cols + sides) l (eliminated rowBytes l rows cols .rows) (good .same);
+      beyond = beyond-stays rowBytes rows (cols + sides) l (eliminateColumns rowBytes l rows cols .rows) (good .same);
       solutions = λ side s x. (
         solutions-kept rows mostColumns m m′ (good .same) cols (cols + side) (omega arith) (omega arith) x,
         solutions-kept rows mostColumns m′ m (same-sym (good .same)) cols (cols + side) (omega arith) (omega arith) x,
       );
       answers = λ side s. sym (solve-kept rows mostColumns m m′ (good .same) cols (cols + side) (omega arith) (omega arith));
-      reduced = partly-reduced rows cols (eliminated rowBytes l rows cols .rank) m′ (good .partly);
+      reduced = partly-reduced rows cols (eliminateColumns rowBytes l rows cols .rank) m′ (good .partly);
     }
 
 -- ---- what the questions' answers tell
-both-true : (a b : Bool) → (a && b) ≡ true → (a ≡ true) × (b ≡ true)
-both-true true b e = (refl, e)
-both-true false b e = absurd (false≢true e)
-
-pub fits-out : (matrix : List ℕ) (rows cols sides : ℕ) → fits matrix rows cols sides ≡ true
+pub fits-out : (matrix : List ℕ) (rows cols sides : ℕ) → matrixFits matrix rows cols sides ≡ true
     → (rows ≤ mostRows) × (cols + sides ≤ mostColumns) × (length matrix ≡ rows * rowBytes)
-unfolding fits
+unfolding matrixFits
 fits-out matrix rows cols sides e =
-    let a = both-true (leb rows mostRows) (leb (cols + sides) mostColumns && eqb (length matrix) (rows * rowBytes)) e in
-    let b = both-true (leb (cols + sides) mostColumns) (eqb (length matrix) (rows * rowBytes)) (a .1) in
+    let a = and-out (leb rows mostRows) (leb (cols + sides) mostColumns && eqb (length matrix) (rows * rowBytes)) e in
+    let b = and-out (leb (cols + sides) mostColumns) (eqb (length matrix) (rows * rowBytes)) (a .1) in
     (leb-true _ _ (a .0), leb-true _ _ (b .0), eqb-true _ _ (b .1))
 
 pub both-fit-out : (matrix out : List ℕ) (rows cols sides : ℕ) → bothFit matrix out rows cols sides ≡ true
-    → (fits matrix rows cols sides ≡ true) × (length out ≡ rowBytes)
+    → (matrixFits matrix rows cols sides ≡ true) × (length out ≡ rowBytes)
 unfolding bothFit
 both-fit-out matrix out rows cols sides e =
-    let a = both-true (fits matrix rows cols sides) (eqb (length out) rowBytes) e in
+    let a = and-out (matrixFits matrix rows cols sides) (eqb (length out) rowBytes) e in
     (a .0, eqb-true _ _ (a .1))
 
 pub well-shaped-out : (matrix out : List ℕ) (rows cols sides : ℕ) → wellShaped matrix out rows cols sides ≡ true → bothFit matrix out rows cols sides ≡ true
 unfolding wellShaped
 well-shaped-out matrix out rows cols sides e =
-    let rest = bothFit matrix out rows cols sides && nothingBeyond rowBytes matrix rows (cols + sides) in
-    both-true (bothFit matrix out rows cols sides) (nothingBeyond rowBytes matrix rows (cols + sides))
-    (both-true (columnExists cols) rest (both-true (ltb 0 sides) (columnExists cols && rest) (both-true (ltb 0 rows) (ltb 0 sides && (columnExists cols && rest)) e .1) .1) .1) .0
+    let rest = bothFit matrix out rows cols sides && withinWidth rowBytes matrix rows (cols + sides) in
+    and-out (bothFit matrix out rows cols sides) (withinWidth rowBytes matrix rows (cols + sides))
+    (and-out (columnExists cols) rest (and-out (ltb 0 sides) (columnExists cols && rest) (and-out (ltb 0 rows) (ltb 0 sides && (columnExists cols && rest)) e .1) .1) .1) .0
 
 -- ---- what is read off the eliminated matrix
 pub pivots-read : (rows cols sides : ℕ) (l : List ℕ) → rows * rowBytes ≤ length l → cols + sides ≤ mostColumns
-    → _≡_ {A = ℕ → Bool} (λ k. leads rows cols (entryOf rowBytes (eliminated rowBytes l rows cols .rows)) (λ i. true) k) (λ k. ltb k cols && pivot (systemOf rowBytes l rows) k)
+    → _≡_ {A = ℕ → Bool} (λ k. leads rows cols (entryOf rowBytes (eliminateColumns rowBytes l rows cols .rows)) (λ i. true) k) (λ k. ltb k cols && pivot (systemOf rowBytes l rows) k)
 pivots-read rows cols sides l h g = fun-ext (λ k. by k (decLt k cols))
   where
     m′ : ℕ → ℕ → Bool
-    m′ = entryOf rowBytes (eliminated rowBytes l rows cols .rows)
+    m′ = entryOf rowBytes (eliminateColumns rowBytes l rows cols .rows)
 
-    good : Good rowBytes rows cols l (eliminated rowBytes l rows cols)
+    good : Good rowBytes rows cols l (eliminateColumns rowBytes l rows cols)
     good = good-eliminated rowBytes rows l h cols (omega arith)
 
     by : (k : ℕ) → Dec (k < cols) → leads rows cols m′ (λ i. true) k ≡ ltb k cols && pivot (systemOf rowBytes l rows) k
     by k (yes u) =
         ap (λ (b : Bool). ltb k cols && b)
-        (eliminated-pivots rows mostColumns cols (eliminated rowBytes l rows cols .rank) (entryOf rowBytes l) m′ (good .same) (good .partly) (omega arith) k u)
+        (eliminated-pivots rows mostColumns cols (eliminateColumns rowBytes l rows cols .rank) (entryOf rowBytes l) m′ (good .same) (good .partly) (omega arith) k u)
     by k (no u) = rw (ltb-no k cols (omega arith))
 
 -- what is read off an eliminated matrix is the answer of the matrix as it was

@@ -15,9 +15,9 @@ use Rattle.nodes.proofs.Logic.{eqb-no, eqb-yes, and-none, ⊕-none}
 use Rattle.nodes.proofs.Row.{ltb-yes, ltb-no}
 use Rattle.nodes.proofs.Members.{from-ge, from-none, from-here}
 use Rattle.solver.specs.WorkMatrix.{entryOf}
-use Rattle.solver.specs.Steps.{turns, xorRow, brought, clearOne, clearColumn, State, pivotTo, column, eliminated}
+use Rattle.solver.specs.Steps.{turns, xorRow, addPivotRow, clearOne, clearColumn, State, pivotTo, eliminateColumn, eliminateColumns}
 use Rattle.solver.proofs.Bytes.{rows-apart, length-xor, entry-xor}
-use Rattle.solver.proofs.Elimination.{Same, same-refl, same-trans, Partly, partly-start, partly-skip, pivot-same, partly-pivot, addRow, bring-same, bring-keeps, bring-one}
+use Rattle.solver.proofs.Elimination.{Same, same-refl, same-trans, Partly, partly-start, partly-skip, pivot-same, partly-pivot, addRow, pivot-row-same, pivot-row-keeps, pivot-row-one}
 
 -- a row is there
 row-fits : (w i n : ℕ) (l : List ℕ) → n * w ≤ length l → i < n → i * w + w ≤ length l
@@ -118,17 +118,17 @@ module _ (w n c rank : ℕ) (l : List ℕ) (inside : c < 8 * w) (h : n * w ≤ l
   added p later room free one =
       let bits : (v k : ℕ) → v < n → k < 8 * w → entryOf w (xorRow w l rank p) v k ≡ addRow p rank (entryOf w l) v k =
       λ v k a g. entry-xor w l rank p (row-fits w rank n l h (omega arith)) (row-fits w p n l h room) (omega arith) v k g in
-      let keeps = bring-keeps n c rank (8 * w) p (entryOf w l) (entryOf w (xorRow w l rank p)) inside part later room free one bits in
-      let has = bring-one n c rank (8 * w) p (entryOf w l) (entryOf w (xorRow w l rank p)) inside part later room free one bits in
+      let keeps = pivot-row-keeps n c rank (8 * w) p (entryOf w l) (entryOf w (xorRow w l rank p)) inside part later room free one bits in
+      let has = pivot-row-one n c rank (8 * w) p (entryOf w l) (entryOf w (xorRow w l rank p)) inside part later room free one bits in
       let then = cleared w n c rank (xorRow w l rank p) inside (omega (arith, length-xor w l rank p)) keeps (omega arith) has in
       record {
         size = then .size ∙ length-xor w l rank p;
-        same = same-trans (bring-same n c rank (8 * w) p (entryOf w l) (entryOf w (xorRow w l rank p)) inside part later room free one bits) (then .same);
+        same = same-trans (pivot-row-same n c rank (8 * w) p (entryOf w l) (entryOf w (xorRow w l rank p)) inside part later room free one bits) (then .same);
         partly = then .partly;
       }
 
-  pub good-column : Good w n (c + 1) l (column w n c (record { rank = rank; rows = l }))
-  unfolding column pivotTo brought
+  pub good-column : Good w n (c + 1) l (eliminateColumn w n c (record { rank = rank; rows = l }))
+  unfolding eliminateColumn pivotTo addPivotRow
   good-column = by (decLt found n)
     where
       found : ℕ
@@ -158,11 +158,11 @@ module _ (w n c rank : ℕ) (l : List ℕ) (inside : c < 8 * w) (h : n * w ≤ l
           (record { size = refl; same = same-refl n (8 * w) (entryOf w l); partly = partly-skip n c rank (entryOf w l) part (λ i lo hi. earlier i lo (omega arith)) })
 
 -- ---- all columns
-pub good-eliminated : (w n : ℕ) (l : List ℕ) → n * w ≤ length l → (c : ℕ) → c ≤ 8 * w → Good w n c l (eliminated w l n c)
-unfolding eliminated turns
+pub good-eliminated : (w n : ℕ) (l : List ℕ) → n * w ≤ length l → (c : ℕ) → c ≤ 8 * w → Good w n c l (eliminateColumns w l n c)
+unfolding eliminateColumns turns
 good-eliminated w n l h zero g = record { size = refl; same = same-refl n (8 * w) (entryOf w l); partly = partly-start n (entryOf w l) }
 good-eliminated w n l h (suc c) g =
     let b = good-eliminated w n l h c (omega arith) in
-    let s = turns (column w n) c (record { rank = 0; rows = l }) in
+    let s = turns (eliminateColumn w n) c (record { rank = 0; rows = l }) in
     let d = good-column w n c (s .rank) (s .rows) (omega arith) (omega (arith, b .size)) (b .partly) in
     record { size = d .size ∙ b .size; same = same-trans (b .same) (d .same); partly = rw (← add-one c) (d .partly) }

@@ -10,7 +10,7 @@ use lib.Dec.{T, eqb, eqb→eq}
 use Rattle.nodes.specs.Bit.{_⊕_}
 use Rattle.nodes.specs.Row.{parity, allBelow}
 use Rattle.nodes.specs.Options.{isSome, firstOf}
-use Rattle.solver.specs.System.{System, sum, Solves, Dependent, Avoids, IsAnswer, taking, solve, pivot}
+use Rattle.solver.specs.System.{System, sum, Solves, Dependent, Avoids, BasicSolution, taking, solve, pivot}
 use Rattle.nodes.proofs.Logic.{is-true, is-false, from-true, dec, and-l, and-r, and-in, not-in, not-out, eqb-no, eqb-yes, beq-eq, and-none, ⊕-none, ⊕-self, ⊕-eq, ⊕-comm, ⊕-assoc}
 use Rattle.nodes.proofs.Row.{parity-ext, parity-⊕, all-in, all-out}
 
@@ -92,13 +92,13 @@ module _ (s : System) where
           (λ i g r. sum-⊕ n i x y ∙ rw (sx i g r, sy i g r) (⊕-self (b i)))
           (λ j g u d. rw (ax j g u d, ay j g u d)) k l t)
 
-  pub answer-unique : (n : ℕ) (b x y : ℕ → Bool) → IsAnswer s n b x → IsAnswer s n b y → x ≡ y
+  pub answer-unique : (n : ℕ) (b x y : ℕ → Bool) → BasicSolution s n b x → BasicSolution s n b y → x ≡ y
   answer-unique n b x y a c = unique n b x y (a .solves) (c .solves) (a .avoids) (c .avoids) (a .within) (c .within)
 
   -- ---- what `solve` gives is right: none where there is no solution, and else the answer
   abbrev pub Right : ℕ → (ℕ → Bool) → Option (ℕ → Bool) → Type 0
   Right n b none = (x : ℕ → Bool) → Solves s n b x → ⊥
-  Right n b (some x) = IsAnswer s n b x
+  Right n b (some x) = BasicSolution s n b x
 
   empty-right : (b : ℕ → Bool) (c : Bool) → allBelow (s .rows) (λ i. not (s .row i && b i)) ≡ c → Right zero b (cond c (some (λ k. false)) none)
   unfolding parity
@@ -118,7 +118,7 @@ module _ (s : System) where
       false-out e t = rw (← e) at t
 
   -- the last column is not taken
-  one-more : (n : ℕ) (b x : ℕ → Bool) → IsAnswer s n b x → IsAnswer s (suc n) b x
+  one-more : (n : ℕ) (b x : ℕ → Bool) → BasicSolution s n b x → BasicSolution s (suc n) b x
   one-more n b x h = record {
     solves = λ i l r. sum-skip n i x (λ u. outside (dec (x n))) ∙ h .solves i l r;
     avoids = λ j l u d. by (eq-or-lt-of-le (le-of-suc-le-suc l)) u d;
@@ -137,7 +137,7 @@ module _ (s : System) where
       by (inr l) u d = h .avoids _ l u d
 
   -- the last column is taken
-  needed : (n : ℕ) (b x : ℕ → Bool) → T (s .column n) → Right n b none → IsAnswer s n (λ i. b i ⊕ s .entry i n) x → IsAnswer s (suc n) b (λ k. cond (eqb k n) true (x k))
+  needed : (n : ℕ) (b x : ℕ → Bool) → T (s .column n) → Right n b none → BasicSolution s n (λ i. b i ⊕ s .entry i n) x → BasicSolution s (suc n) b (λ k. cond (eqb k n) true (x k))
   needed n b x u h a = record {
     solves = λ i l r.
         sum-take n i (λ k. cond (eqb k n) true (x k)) u (taken-same n x)
@@ -179,7 +179,7 @@ module _ (s : System) where
       by true e o h p k = step o (rw e tt) h p k
       by false e o h p k = left-out o e h
 
-  pub solve-some : (n : ℕ) (b x : ℕ → Bool) → IsAnswer s n b x → solve s n b ≡ some x
+  pub solve-some : (n : ℕ) (b x : ℕ → Bool) → BasicSolution s n b x → solve s n b ≡ some x
   solve-some n b x a = go (solve s n b) (solve-right n b)
     where
       go : (o : Option (ℕ → Bool)) → Right n b o → o ≡ some x
@@ -198,7 +198,7 @@ module _ (s : System) where
   solve-is n b none h = solve-none n b h
   solve-is n b (some x) h = solve-some n b x h
 
-  pub solve-answer : (n : ℕ) (b x : ℕ → Bool) → solve s n b ≡ some x → IsAnswer s n b x
+  pub solve-answer : (n : ℕ) (b x : ℕ → Bool) → solve s n b ≡ some x → BasicSolution s n b x
   solve-answer n b x e = rw e at (solve-right n b)
 
   -- an answer is given exactly where there is a solution
@@ -273,7 +273,7 @@ module _ (s t : System) (n : ℕ) (a : Agree s t n) where
   dependent-agree k l u (y, q) = (y, solves-agree k (λ i. s .entry i k) (λ i. t .entry i k) y (omega arith) (λ i g r. a .entry i k g l r u) q)
 
 module _ (s t : System) (n : ℕ) (a : Agree s t n) where
-  pub answer-agree : (b c x : ℕ → Bool) → ((i : ℕ) → i < s .rows → T (s .row i) → b i ≡ c i) → IsAnswer s n b x → IsAnswer t n c x
+  pub answer-agree : (b c x : ℕ → Bool) → ((i : ℕ) → i < s .rows → T (s .row i) → b i ≡ c i) → BasicSolution s n b x → BasicSolution t n c x
   answer-agree b c x e h = record {
     solves = solves-agree s t n a n b c x (le-refl n) e (h .solves);
     avoids = λ j l u d. h .avoids j l (rw (a .column j l) u) (dependent-agree t s n (agree-sym a) j l u d);

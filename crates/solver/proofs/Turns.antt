@@ -1,4 +1,4 @@
--- One turn more of a loop, and one number more looked at.
+-- One turn more of a loop, and one number more looked at. Serves the loops of the solver.
 use mathlib.Core.Path.{_≡_, refl, sym, ap, _∙_}
 use mathlib.Core.Bool.{Bool, true, false, cond}
 use Prim.Native.Nat.{ℕ, suc, _+_, _-_, _<_, _≤_}
@@ -10,7 +10,7 @@ use lib.Dec.{ltb}
 use Rattle.nodes.specs.Row.{lowestFrom, anyBelow, allBelow}
 use Rattle.nodes.proofs.Logic.{is-true, is-false, from-true, from-false}
 use Rattle.nodes.proofs.Row.{any-in, all-out}
-use Rattle.solver.specs.Steps.{turns, State, pivotRow, pivotTo, column}
+use Rattle.solver.specs.Steps.{turns, State, findPivot, pivotTo, eliminateColumn}
 
 pub turns-none : {A : Type 0} (f : ℕ → A → A) (a : A) → a ≡ turns f 0 a
 unfolding turns
@@ -63,14 +63,14 @@ module _ (p : ℕ → Bool) where
   all-start = refl
 
 -- ---- one column, by the row that is found
-module _ (w n col : ℕ) (s : State) (p : ℕ) (e : p ≡ pivotRow w n col s) where
-  pub column-none : n ≤ p → s ≡ column w n col s
-  unfolding column
+module _ (w n col : ℕ) (s : State) (p : ℕ) (e : p ≡ findPivot w n col s) where
+  pub column-none : n ≤ p → s ≡ eliminateColumn w n col s
+  unfolding eliminateColumn
   column-none h =
-      sym (ap (λ (b : Bool). cond b (pivotTo w n col (s .rank) (pivotRow w n col s) (s .rows)) s) (ap (λ (k : ℕ). ltb k n) (sym e) ∙ le-ltb p n h))
+      sym (ap (λ (b : Bool). cond b (pivotTo w n col (s .rank) (findPivot w n col s) (s .rows)) s) (ap (λ (k : ℕ). ltb k n) (sym e) ∙ le-ltb p n h))
 
-  pub column-some : p < n → pivotTo w n col (s .rank) p (s .rows) ≡ column w n col s
-  unfolding column
+  pub column-some : p < n → pivotTo w n col (s .rank) p (s .rows) ≡ eliminateColumn w n col s
+  unfolding eliminateColumn
   column-some h =
       ap (λ (k : ℕ). pivotTo w n col (s .rank) k (s .rows)) e
-      ∙ sym (ap (λ (b : Bool). cond b (pivotTo w n col (s .rank) (pivotRow w n col s) (s .rows)) s) (ap (λ (k : ℕ). ltb k n) (sym e) ∙ lt-ltb p n h))
+      ∙ sym (ap (λ (b : Bool). cond b (pivotTo w n col (s .rank) (findPivot w n col s) (s .rows)) s) (ap (λ (k : ℕ). ltb k n) (sym e) ∙ lt-ltb p n h))

@@ -3,27 +3,28 @@ use mathlib.Core.Path.{_≡_, sym, ap, ap₂, _∙_, subst}
 use mathlib.Core.Logic.{_≢_, _⊎_, inl, inr}
 use mathlib.Core.Bool.{Bool, true, false, not, _||_}
 use mathlib.Core.List.{List}
-use Prim.Native.Nat.{ℕ, zero, suc, _+_, _-_, _*_, _/_, _%_, _^_, _<_, _≤_}
-use native.Mathlib.Nat.{mod-lt, not-suc-le-zero, le-of-suc-le-suc, lt-of-le-of-lt, div-le-self, pow-suc, zero-mul}
+use Prim.Native.Nat.{ℕ, _+_, _-_, _*_, _/_, _%_, _^_, _<_, _≤_}
+use native.Mathlib.Nat.{mod-lt, lt-of-le-of-lt, div-le-self, zero-mul}
 use native.Mathlib.Decide.{ℕ-discrete}
 use native.Mathlib.Omega.{arith}
 use lib.Bits.{bitOr, or-lt}
 use lib.Count.{trailingZeros}
 use lib.Dec.{T, eqb, ltb, lt→ltb}
-use lib.ListN.{getD, length, length-set}
+use lib.ListN.{getD, length, length-replicate, length-set}
 use lib.Pow.{pow-pos, pow-lt, split, shr-shr}
 use lib.Seq.{getD-set-same, getD-set-other}
-use Rattle.nodes.specs.Bit.{bit, isOne, digits, one}
+use Rattle.nodes.specs.Bit.{bit, isOne, digits}
+use Rattle.nodes.specs.Lists.{zeros}
 use Rattle.nodes.specs.Row.{lowest, allBelow}
 use Rattle.nodes.proofs.Logic.{is-false, from-false, not-in, not-out, or-l, or-r, or-out, or-none, eqb-no, eqb-yes, lt-or-ge}
 use Rattle.nodes.proofs.Row.{all-out, ltb-no}
 use Rattle.nodes.proofs.Members.{lowest-none, lowest-here, lowest-unique}
-use Rattle.nodes.proofs.Bit.{bit-zero, bit-past, bit-ext, bit-or, bit-pow, bit-low, bit-half}
+use Rattle.nodes.proofs.Bit.{bit-zero, bit-past, bit-ext, bit-or, bit-pow}
 use Rattle.nodes.proofs.Digits.{trailing-lowest, digits-lt, bit-digits, digits-is}
 use Rattle.solver.specs.Reduced.{lead}
 use Rattle.solver.specs.WorkMatrix.{entryOf, bytesOf}
-use Rattle.solver.specs.Steps.{withBit}
-use Rattle.nodes.proofs.Lists.{length-listOf, getD-listOf, is-listOf}
+use Rattle.solver.specs.Steps.{setBit}
+use Rattle.nodes.proofs.Lists.{length-listOf, getD-listOf, is-listOf, zeros-at}
 
 -- ---- bytes
 bit-shr : (a s k : ℕ) → bit (a / 2 ^ s) k ≡ bit a (s + k)
@@ -159,15 +160,15 @@ bytes-ext w x y f =
     bytes-is w (bytesOf w x) y (bytes-length w x) (λ q h. subst (λ (n : ℕ). n < 2 ^ 8) (sym (byte-at w x q h)) (digits-lt 8 (λ t. x (8 * q + t))))
     (λ q t h g. ap (λ (n : ℕ). bit n t) (byte-at w x q h) ∙ bit-digits 8 (λ t. x (8 * q + t)) t g ∙ f (8 * q + t) (omega arith))
 
-pub bytes-none : (w : ℕ) (l : List ℕ) → length l ≡ w → ((q : ℕ) → q < w → getD l q 0 ≡ 0) → l ≡ bytesOf w (λ k. false)
-bytes-none w l e f =
-    bytes-is w l (λ k. false) e (λ q h. subst (λ (n : ℕ). n < 2 ^ 8) (sym (f q h)) (pow-pos 8))
-    (λ q t h g. ap (λ (n : ℕ). bit n t) (f q h) ∙ bit-zero t)
+pub bytes-none : (w : ℕ) → zeros w ≡ bytesOf w (λ k. false)
+bytes-none w =
+    bytes-is w (zeros w) (λ k. false) (length-replicate {A = ℕ} w 0) (λ q h. subst (λ (n : ℕ). n < 2 ^ 8) (sym (zeros-at w q)) (pow-pos 8))
+    (λ q t h g. ap (λ (n : ℕ). bit n t) (zeros-at w q) ∙ bit-zero t)
 
 -- bit k is set
-pub bytes-with : (w : ℕ) (x : ℕ → Bool) (k : ℕ) → k < 8 * w → withBit (bytesOf w x) k ≡ bytesOf w (λ j. x j || eqb j k)
+pub bytes-with : (w : ℕ) (x : ℕ → Bool) (k : ℕ) → k < 8 * w → setBit (bytesOf w x) k ≡ bytesOf w (λ j. x j || eqb j k)
 bytes-with w x k h =
-    bytes-is w (withBit l k) (λ j. x j || eqb j k) (length-set l (k / 8) v ∙ bytes-length w x)
+    bytes-is w (setBit l k) (λ j. x j || eqb j k) (length-set l (k / 8) v ∙ bytes-length w x)
     (λ q g. small q g (ℕ-discrete q (k / 8))) (λ q t g u. at q t g u (ℕ-discrete q (k / 8)))
   where
     l : List ℕ
@@ -182,18 +183,18 @@ bytes-with w x k h =
     byte : (q : ℕ) → q < w → getD l q 0 < 2 ^ 8
     byte q g = subst (λ (n : ℕ). n < 2 ^ 8) (sym (byte-at w x q g)) (digits-lt 8 (λ t. x (8 * q + t)))
 
-    small : (q : ℕ) → q < w → Dec (q ≡ k / 8) → getD (withBit l k) q 0 < 2 ^ 8
+    small : (q : ℕ) → q < w → Dec (q ≡ k / 8) → getD (setBit l k) q 0 < 2 ^ 8
     small q g (yes e) =
-        subst (λ (n : ℕ). n < 2 ^ 8) (sym (ap (λ (i : ℕ). getD (withBit l k) i 0) e ∙ getD-set-same l (k / 8) v 0 there))
+        subst (λ (n : ℕ). n < 2 ^ 8) (sym (ap (λ (i : ℕ). getD (setBit l k) i 0) e ∙ getD-set-same l (k / 8) v 0 there))
         (or-lt 8 (getD l (k / 8) 0) (2 ^ (k % 8)) (byte (k / 8) (omega arith)) (pow-lt {i = k % 8} {j = 8} (omega arith)))
     small q g (no n) = subst (λ (n : ℕ). n < 2 ^ 8) (sym (getD-set-other l (k / 8) q v 0 n)) (byte q g)
 
     was : (q t : ℕ) → q < w → t < 8 → bit (getD l q 0) t ≡ x (8 * q + t)
     was q t g u = ap (λ (n : ℕ). bit n t) (byte-at w x q g) ∙ bit-digits 8 (λ t. x (8 * q + t)) t u
 
-    at : (q t : ℕ) → q < w → t < 8 → Dec (q ≡ k / 8) → bit (getD (withBit l k) q 0) t ≡ (x (8 * q + t) || eqb (8 * q + t) k)
+    at : (q t : ℕ) → q < w → t < 8 → Dec (q ≡ k / 8) → bit (getD (setBit l k) q 0) t ≡ (x (8 * q + t) || eqb (8 * q + t) k)
     at q t g u (yes e) =
-        ap (λ (i : ℕ). bit (getD (withBit l k) i 0) t) e ∙ ap (λ (n : ℕ). bit n t) (getD-set-same l (k / 8) v 0 there)
+        ap (λ (i : ℕ). bit (getD (setBit l k) i 0) t) e ∙ ap (λ (n : ℕ). bit n t) (getD-set-same l (k / 8) v 0 there)
         ∙ bit-or (getD l (k / 8) 0) (2 ^ (k % 8)) t
         ∙ ap₂ _||_ (ap (λ (i : ℕ). bit (getD l i 0) t) (sym e) ∙ was q t g u) (bit-pow (k % 8) t ∙ same (ℕ-discrete t (k % 8)))
       where

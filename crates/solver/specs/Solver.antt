@@ -7,15 +7,16 @@ use mathlib.Core.List.{List}
 use mathlib.Core.Option.{Option, none, some}
 use lib.Dec.{T, eqb, leb, ltb}
 use lib.ListN.{length}
-use Rattle.answers.specs.Answer.{Answer, gives, refuses, refusal, asks, _>>_}
+use Rattle.answers.specs.Answer.{Answer, gives, refuses, asks, _>>_}
+use Rattle.answers.specs.Refusals.{refusalOf}
 use Rattle.nodes.specs.NodeSet.{member, capacity}
 use Rattle.solver.specs.System.{Solves, solve, pivot}
 use Rattle.solver.specs.Reduced.{Reduced, readOff}
-use Rattle.solver.specs.WorkMatrix.{entryOf, systemOf, sideOf, nothingBeyond, bytesOf}
+use Rattle.solver.specs.WorkMatrix.{entryOf, systemOf, sideOf, withinWidth, bytesOf}
 use Rattle.solver.specs.declared.gf2_linalg.Elimination.{Elimination}
-use Rattle.solver.specs.declared.gf2_linalg.Elimination.the-variants.{Pivots, Refused}
+use Rattle.solver.specs.declared.gf2_linalg.Elimination.the-variants.{Pivots, Refused as NotEliminated}
 use Rattle.solver.specs.declared.gf2_linalg.Solved.{Solved}
-use Rattle.solver.specs.declared.gf2_linalg.Solved.the-variants.{Solvable, Unsolvable, WrongShape, NoSuchEquation}
+use Rattle.solver.specs.declared.gf2_linalg.Solved.the-variants.{Solvable, Unsolvable, Refused}
 
 -- ---- the sizes
 -- each row, and the out bits, have a bit for each node
@@ -34,13 +35,13 @@ workBytes = mostRows * rowBytes
 
 -- ---- the questions
 -- is the matrix of exact length, and no larger than the limits either way?
-unfoldable pub fits : List ℕ → ℕ → ℕ → ℕ → Bool
-fits matrix rows cols sides =
+unfoldable pub matrixFits : List ℕ → ℕ → ℕ → ℕ → Bool
+matrixFits matrix rows cols sides =
     leb rows mostRows && (leb (cols + sides) mostColumns && eqb (length matrix) (rows * rowBytes))
 
 -- are the out bits of exact length too?
 unfoldable pub bothFit : List ℕ → List ℕ → ℕ → ℕ → ℕ → Bool
-bothFit matrix out rows cols sides = fits matrix rows cols sides && eqb (length out) rowBytes
+bothFit matrix out rows cols sides = matrixFits matrix rows cols sides && eqb (length out) rowBytes
 
 -- is there a column?
 abbrev pub columnExists : ℕ → Bool
@@ -53,7 +54,7 @@ wellShaped matrix out rows cols sides =
     ltb 0 rows
     && (ltb 0 sides
     && (columnExists cols
-    && (bothFit matrix out rows cols sides && nothingBeyond rowBytes matrix rows (cols + sides))))
+    && (bothFit matrix out rows cols sides && withinWidth rowBytes matrix rows (cols + sides))))
 
 -- is the equation's number below the count of right sides (12)?
 abbrev pub equationExists : ℕ → ℕ → Bool
@@ -63,7 +64,7 @@ equationExists sides side = ltb side sides
 -- width, each right side keeps the solutions it had and so its answer, and the coefficients are in reduced form
 pub record Eliminated (rows cols sides : ℕ) (before after : List ℕ) : Type 0 where
   pub size : length after ≡ length before
-  pub beyond : T (nothingBeyond rowBytes before rows (cols + sides)) → T (nothingBeyond rowBytes after rows (cols + sides))
+  pub beyond : T (withinWidth rowBytes before rows (cols + sides)) → T (withinWidth rowBytes after rows (cols + sides))
   pub solutions : (side : ℕ) → side < sides → (x : ℕ → Bool)
       → Solves (systemOf rowBytes before rows) cols (sideOf rowBytes before cols side) x
       ↔ Solves (systemOf rowBytes after rows) cols (sideOf rowBytes after cols side) x
@@ -76,14 +77,13 @@ pub record Eliminated (rows cols sides : ℕ) (before after : List ℕ) : Type 0
 -- the members of the set that an elimination gives
 abbrev pub eliminationOf : Elimination → Answer (ℕ → Bool)
 eliminationOf (Pivots s) = gives (member s)
-eliminationOf Refused = refuses (refusal 11)
+eliminationOf (NotEliminated r) = refuses (refusalOf r)
 
 -- solvable or not
 abbrev pub solvedOf : Solved → Answer Bool
 solvedOf Solvable = gives true
 solvedOf Unsolvable = gives false
-solvedOf WrongShape = refuses (refusal 11)
-solvedOf NoSuchEquation = refuses (refusal 12)
+solvedOf (Refused r) = refuses (refusalOf r)
 
 -- ---- the calls
 -- the matrix after a call: eliminated where the call refuses nothing, and else untouched
@@ -94,7 +94,7 @@ MatrixAfter (refuses r) rows cols sides before after = after ≡ before
 -- the pivot columns
 unfoldable pub eliminateCall : (matrix : List ℕ) (rows cols sides : ℕ) → Answer (ℕ → Bool)
 eliminateCall matrix rows cols sides = do
-  asks 11 (fits matrix rows cols sides)
+  asks 11 (matrixFits matrix rows cols sides)
   gives (λ k. ltb k cols && pivot (systemOf rowBytes matrix rows) k)
 
 -- what is read off the rows as they lie
@@ -112,18 +112,18 @@ solveAsks matrix out rows cols sides side = do
   gives (solve (systemOf rowBytes matrix rows) cols (sideOf rowBytes matrix cols side))
 
 -- an answer, and the out bits as they are left
-pub record Outcome : Type 0 where
+pub record SolveOutcome : Type 0 where
   pub answer : Answer Bool
   pub out : List ℕ
 
 -- a solution is written; 'no solution' and a refusal keep the out bits
-abbrev pub outcome : Answer (Option (ℕ → Bool)) → List ℕ → Outcome
+abbrev pub outcome : Answer (Option (ℕ → Bool)) → List ℕ → SolveOutcome
 outcome (refuses r) out = record { answer = refuses r; out = out }
 outcome (gives none) out = record { answer = gives false; out = out }
 outcome (gives (some x)) out = record { answer = gives true; out = bytesOf rowBytes x }
 
-abbrev pub readOffCall : (matrix out : List ℕ) (rows cols sides side : ℕ) → Outcome
+abbrev pub readOffCall : (matrix out : List ℕ) (rows cols sides side : ℕ) → SolveOutcome
 readOffCall matrix out rows cols sides side = outcome (readOffAsks matrix out rows cols sides side) out
 
-abbrev pub solveCall : (matrix out : List ℕ) (rows cols sides side : ℕ) → Outcome
+abbrev pub solveCall : (matrix out : List ℕ) (rows cols sides side : ℕ) → SolveOutcome
 solveCall matrix out rows cols sides side = outcome (solveAsks matrix out rows cols sides side) out

@@ -1,13 +1,13 @@
 -- What the solver's steps make of the bytes, turn by turn: the promises of private functions only.
 -- The bytes of a row, w, are a parameter.
 use Prim.Native.Nat.{ℕ, zero, suc, _+_, _-_, _*_, _/_, _%_, _^_}
-use mathlib.Core.Bool.{Bool, cond, not, _&&_, _||_}
+use mathlib.Core.Bool.{Bool, cond, _&&_}
 use mathlib.Core.List.{List}
 use mathlib.Core.Option.{Option}
 use lib.Dec.{eqb, leb, ltb}
 use lib.Bits.{bitOr, bitXor}
 use lib.ListN.{length, getD, set}
-use Rattle.nodes.specs.Row.{allBelow, lowestFrom}
+use Rattle.nodes.specs.Row.{lowestFrom}
 use Rattle.solver.specs.Reduced.{lead, contradicts, leads, readOff}
 use Rattle.nodes.specs.Lists.{listOf}
 use Rattle.solver.specs.WorkMatrix.{entryOf, bytesOf}
@@ -26,8 +26,8 @@ unfoldable pub xorRow : ℕ → List ℕ → ℕ → ℕ → List ℕ
 xorRow w l d s = listOf (length l) (xorAt l (d * w) (s * w) w)
 
 -- row p is added to the row at the rank, unless it is that row
-unfoldable pub brought : ℕ → List ℕ → ℕ → ℕ → List ℕ
-brought w l rank p = cond (eqb p rank) l (xorRow w l rank p)
+unfoldable pub addPivotRow : ℕ → List ℕ → ℕ → ℕ → List ℕ
+addPivotRow w l rank p = cond (eqb p rank) l (xorRow w l rank p)
 
 -- row r is cleared in the column by the pivot's row, unless it is that row
 unfoldable pub clearOne : ℕ → ℕ → ℕ → ℕ → List ℕ → List ℕ
@@ -42,25 +42,25 @@ pub record State : Type 0 where
   pub rows : List ℕ
 
 -- the first row from the rank on that has the column, and n where there is none
-abbrev pub pivotRow : ℕ → ℕ → ℕ → State → ℕ
-pivotRow w n col s = lowestFrom (s .rank) (n - s .rank) (λ i. entryOf w (s .rows) i col)
+abbrev pub findPivot : ℕ → ℕ → ℕ → State → ℕ
+findPivot w n col s = lowestFrom (s .rank) (n - s .rank) (λ i. entryOf w (s .rows) i col)
 
--- row p is brought to the rank and clears the column in all others
+-- row p is added to the row at the rank and clears the column in all others
 unfoldable pub pivotTo : ℕ → ℕ → ℕ → ℕ → ℕ → List ℕ → State
-pivotTo w n col rank p l = record { rank = rank + 1; rows = clearColumn w (brought w l rank p) n rank col }
+pivotTo w n col rank p l = record { rank = rank + 1; rows = clearColumn w (addPivotRow w l rank p) n rank col }
 
 -- one column of n rows
-unfoldable pub column : ℕ → ℕ → ℕ → State → State
-column w n col s = cond (ltb (pivotRow w n col s) n) (pivotTo w n col (s .rank) (pivotRow w n col s) (s .rows)) s
+unfoldable pub eliminateColumn : ℕ → ℕ → ℕ → State → State
+eliminateColumn w n col s = cond (ltb (findPivot w n col s) n) (pivotTo w n col (s .rank) (findPivot w n col s) (s .rows)) s
 
 -- all columns below cols
-unfoldable pub eliminated : ℕ → List ℕ → ℕ → ℕ → State
-eliminated w l n cols = turns (column w n) cols (record { rank = 0; rows = l })
+unfoldable pub eliminateColumns : ℕ → List ℕ → ℕ → ℕ → State
+eliminateColumns w l n cols = turns (eliminateColumn w n) cols (record { rank = 0; rows = l })
 
 -- ---- reading off: the column `asked` has what each row asks for
--- row i asks for 1 and has no coefficient
-abbrev pub inVain : ℕ → List ℕ → ℕ → ℕ → ℕ → Bool
-inVain w l cols asked i = entryOf w l i asked && eqb (lead (entryOf w l) cols i) cols
+-- row i is inconsistent: it asks for 1 and has no coefficient
+abbrev pub inconsistentRow : ℕ → List ℕ → ℕ → ℕ → ℕ → Bool
+inconsistentRow w l cols asked i = entryOf w l i asked && eqb (lead (entryOf w l) cols i) cols
 
 abbrev pub noSolution : ℕ → List ℕ → ℕ → ℕ → ℕ → Bool
 noSolution w l rows cols asked = contradicts rows cols (entryOf w l) (λ i. entryOf w l i asked)
@@ -73,9 +73,5 @@ abbrev pub leadBytes : ℕ → List ℕ → ℕ → ℕ → ℕ → List ℕ
 leadBytes w l cols asked rows = bytesOf w (leads rows cols (entryOf w l) (λ i. entryOf w l i asked))
 
 -- bit k is set
-abbrev pub withBit : List ℕ → ℕ → List ℕ
-withBit l k = set l (k / 8) (bitOr (getD l (k / 8) 0) (2 ^ (k % 8)))
-
--- row i has no bit at or beyond column `width`
-abbrev pub rowEnds : ℕ → List ℕ → ℕ → ℕ → Bool
-rowEnds w l width i = allBelow (8 * w) (λ k. ltb k width || not (entryOf w l i k))
+abbrev pub setBit : List ℕ → ℕ → List ℕ
+setBit l k = set l (k / 8) (bitOr (getD l (k / 8) 0) (2 ^ (k % 8)))

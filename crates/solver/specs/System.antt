@@ -33,7 +33,7 @@ abbrev pub Avoids : System → ℕ → (ℕ → Bool) → Type 0
 Avoids s n x = (j : ℕ) → j < n → T (s .column j) → Dependent s j → x j ≡ false
 
 -- what the solver's answer is: a solution that takes columns at hand only, none of them a sum of earlier ones
-pub record IsAnswer (s : System) (n : ℕ) (b x : ℕ → Bool) : Type 0 where
+pub record BasicSolution (s : System) (n : ℕ) (b x : ℕ → Bool) : Type 0 where
   pub solves : Solves s n b x
   pub avoids : Avoids s n x
   pub within : (k : ℕ) → T (x k) → (k < n) × T (s .column k)

@@ -1,7 +1,7 @@
 -- The work matrix: rows of bits in a list of bytes, lowest bit first. The bytes of a row, w, are a parameter.
-use Prim.Native.Nat.{ℕ, zero, suc, _+_, _*_, _/_, _%_}
-use mathlib.Core.Bool.{Bool, true, false, not, _||_}
-use mathlib.Core.List.{List, [], _∷_}
+use Prim.Native.Nat.{ℕ, _+_, _*_, _/_, _%_}
+use mathlib.Core.Bool.{Bool, true, not, _||_}
+use mathlib.Core.List.{List}
 use lib.Dec.{ltb}
 use lib.ListN.{getD}
 use Rattle.nodes.specs.Bit.{bit, digits}
@@ -21,9 +21,12 @@ systemOf w l rows = record { rows = rows; row = λ i. true; column = λ k. true;
 abbrev pub sideOf : ℕ → List ℕ → ℕ → ℕ → ℕ → Bool
 sideOf w l cols side i = entryOf w l i (cols + side)
 
--- no row has a bit at or beyond column `width`
-abbrev pub nothingBeyond : ℕ → List ℕ → ℕ → ℕ → Bool
-nothingBeyond w l rows width = allBelow rows (λ i. allBelow (8 * w) (λ k. ltb k width || not (entryOf w l i k)))
+-- row i has no bit at or beyond column `width`
+abbrev pub rowWithinWidth : ℕ → List ℕ → ℕ → ℕ → Bool
+rowWithinWidth w l width i = allBelow (8 * w) (λ k. ltb k width || not (entryOf w l i k))
+
+abbrev pub withinWidth : ℕ → List ℕ → ℕ → ℕ → Bool
+withinWidth w l rows width = allBelow rows (rowWithinWidth w l width)
 
 -- ---- a row of bits as w bytes
 abbrev pub bytesOf : ℕ → (ℕ → Bool) → List ℕ

@@ -1,19 +1,21 @@
 // The solver of equations mod 2: rows of bits, coefficient columns first and then the right sides.
 ghost use mathlib.Core.Path.{_≡_};
 ghost use mathlib.Core.Logic.{_≢_};
-ghost use mathlib.Core.Bool.{true, false, _&&_, _||_};
+ghost use mathlib.Core.Bool.{true, _&&_, _||_};
 ghost use Prim.Native.Nat.{_+_, _-_, _*_, _<_, _≤_};
 ghost use lib.ListN.{length};
 ghost use lib.Dec.{eqb, ltb};
 ghost use Rattle.answers.specs.Answer.{gives};
 ghost use Rattle.nodes.specs.Row.{lowestFrom};
 ghost use Rattle.nodes.specs.NodeSet.{member};
+ghost use Rattle.nodes.specs.Lists.{zeros};
 ghost use Rattle.solver.specs.Reduced.{lead, leads};
-ghost use Rattle.solver.specs.WorkMatrix.{entryOf, nothingBeyond, bytesOf};
-ghost use Rattle.solver.specs.Steps.{xorRow, brought, clearOne, clearColumn, column, eliminated};
-ghost use Rattle.solver.specs.Steps.{inVain, noSolution, readColumn, leadBytes, withBit, rowEnds};
-ghost use Rattle.solver.specs.Solver.{rowBytes, mostColumns, fits, bothFit, wellShaped};
+ghost use Rattle.solver.specs.WorkMatrix.{entryOf, rowWithinWidth, withinWidth};
+ghost use Rattle.solver.specs.Steps.{xorRow, addPivotRow, clearOne, clearColumn, eliminateColumn, eliminateColumns};
+ghost use Rattle.solver.specs.Steps.{inconsistentRow, noSolution, readColumn, leadBytes, setBit};
+ghost use Rattle.solver.specs.Solver.{rowBytes, mostColumns, matrixFits, bothFit, wellShaped};
 ghost use Rattle.solver.specs.Solver.{MatrixAfter, eliminationOf, solvedOf, eliminateCall, outcome, readOffCall, solveAsks, solveCall};
+use answers::Refusal;
 use nodes::utils::CAPACITY;
 use nodes::utils::NodeSet;
 use nodes::utils::mask;
@@ -28,17 +30,16 @@ const MOST_COLUMNS: usize = 8 * ROW_BYTES;
 // The bytes of a work matrix with all its rows.
 pub const WORK_BYTES: usize = MOST_ROWS * ROW_BYTES;
 
-// The pivot columns, or a wrong shape.
+// The pivot columns.
 pub enum Elimination {
     Pivots(NodeSet),
-    Refused,
+    Refused(Refusal),
 }
 
 pub enum Solved {
     Solvable,
     Unsolvable,
-    WrongShape,
-    NoSuchEquation,
+    Refused(Refusal),
 }
 
 // Whether the row has a bit in the column.
@@ -80,9 +81,9 @@ fn find_pivot(matrix: &[u8], from: usize, rows: usize, col: usize) -> usize
 }
 
 // Row p is added to the row at the rank, which then has the pivot's bit; no rows change places.
-fn bring(matrix: &mut [u8], rank: usize, p: usize)
+fn add_pivot_row(matrix: &mut [u8], rank: usize, p: usize)
     requires { ⌜ (rank * rowBytes + rowBytes ≤ length (now matrix)) × (p * rowBytes + rowBytes ≤ length (now matrix)) ⌝ }
-    ensures { λ _. ⌜ now (matrix .exit) ≡ brought rowBytes (now (matrix .entry)) rank p ⌝ }
+    ensures { λ _. ⌜ now (matrix .exit) ≡ addPivotRow rowBytes (now (matrix .entry)) rank p ⌝ }
 {
     if p == rank {
         return;
@@ -119,14 +120,14 @@ fn clear_column(matrix: &mut [u8], rows: usize, pivot: usize, col: usize)
 fn eliminate_column(matrix: &mut [u8], rows: usize, col: usize, rank: usize) -> usize
     requires { ⌜ (rows * rowBytes ≤ length (now matrix)) × (rank ≤ rows) × (col < mostColumns) ⌝ }
     ensures { λ r. ⌜ record { rank = r; rows = now (matrix .exit) }
-        ≡ column rowBytes rows col (record { rank = rank; rows = now (matrix .entry) }) ⌝ }
+        ≡ eliminateColumn rowBytes rows col (record { rank = rank; rows = now (matrix .entry) }) ⌝ }
     ensures { λ r. ⌜ r ≤ rows ⌝ }
 {
     let p = find_pivot(matrix, rank, rows, col);
     if p >= rows {
         return rank;
     }
-    bring(matrix, rank, p);
+    add_pivot_row(matrix, rank, p);
     clear_column(matrix, rows, rank, col);
     rank + 1
 }
@@ -134,7 +135,7 @@ fn eliminate_column(matrix: &mut [u8], rows: usize, col: usize, rank: usize) -> 
 // The coefficient columns in turn.
 fn eliminate_columns(matrix: &mut [u8], rows: usize, cols: usize)
     requires { ⌜ (rows * rowBytes ≤ length (now matrix)) × (cols ≤ mostColumns) ⌝ }
-    ensures { λ _. ⌜ now (matrix .exit) ≡ eliminated rowBytes (now (matrix .entry)) rows cols .rows ⌝ }
+    ensures { λ _. ⌜ now (matrix .exit) ≡ eliminateColumns rowBytes (now (matrix .entry)) rows cols .rows ⌝ }
 {
     let mut rank = 0;
     let mut col = 0;
@@ -145,7 +146,7 @@ fn eliminate_columns(matrix: &mut [u8], rows: usize, cols: usize)
 }
 
 // The first coefficient column at which the row has a bit, and `cols` where it has none.
-fn first_column(matrix: &[u8], row: usize, cols: usize) -> usize
+fn lead(matrix: &[u8], row: usize, cols: usize) -> usize
     requires { ⌜ (row * rowBytes + rowBytes ≤ length (now matrix)) × (cols ≤ mostColumns) ⌝ }
     ensures { λ r. ⌜ r ≡ lead (entryOf rowBytes (now (matrix .entry))) cols row ⌝ }
 {
@@ -170,7 +171,7 @@ fn add_pivot(pivots: NodeSet, matrix: &[u8], row: usize, cols: usize) -> NodeSet
     ensures { λ r. ⌜ member r
         ≡ (λ k. member pivots k || (ltb k cols && eqb (lead (entryOf rowBytes (now (matrix .entry))) cols row) k)) ⌝ }
 {
-    let k = first_column(matrix, row, cols);
+    let k = lead(matrix, row, cols);
     if k >= cols {
         return pivots;
     }
@@ -191,15 +192,15 @@ fn pivot_columns(matrix: &[u8], rows: usize, cols: usize) -> NodeSet
     pivots
 }
 
-// A row without a coefficient asks for 1: the right side is in the column `asked`.
-fn asks_in_vain(matrix: &[u8], row: usize, cols: usize, asked: usize) -> bool
+// A row without a coefficient asks for 1, which no solution gives: the right side is in the column `asked`.
+fn inconsistent_row(matrix: &[u8], row: usize, cols: usize, asked: usize) -> bool
     requires { ⌜ (row * rowBytes + rowBytes ≤ length (now matrix)) × (cols ≤ mostColumns) × (asked < mostColumns) ⌝ }
-    ensures { λ r. ⌜ r ≡ inVain rowBytes (now (matrix .entry)) cols asked row ⌝ }
+    ensures { λ r. ⌜ r ≡ inconsistentRow rowBytes (now (matrix .entry)) cols asked row ⌝ }
 {
     if !has(matrix, row, asked) {
         return false;
     }
-    first_column(matrix, row, cols) == cols
+    lead(matrix, row, cols) == cols
 }
 
 // Whether some row does.
@@ -209,7 +210,7 @@ fn no_solution(matrix: &[u8], rows: usize, cols: usize, asked: usize) -> bool
 {
     let mut i = 0;
     while i < rows {
-        if asks_in_vain(matrix, i, cols, asked) {
+        if inconsistent_row(matrix, i, cols, asked) {
             return true;
         }
         i += 1;
@@ -217,20 +218,20 @@ fn no_solution(matrix: &[u8], rows: usize, cols: usize, asked: usize) -> bool
     false
 }
 
-fn clear(out: &mut [u8])
-    requires { ⌜ length (now out) ≡ rowBytes ⌝ }
-    ensures { λ _. ⌜ now (out .exit) ≡ bytesOf rowBytes (λ k. false) ⌝ }
+// Every byte becomes 0.
+pub fn clear(bytes: &mut [u8])
+    ensures { λ _. ⌜ now (bytes .exit) ≡ zeros (length (now (bytes .entry))) ⌝ }
 {
-    let mut j = 0;
-    while j < ROW_BYTES {
-        out[j] = 0;
-        j += 1;
+    let mut i = 0;
+    while i < bytes.len() {
+        bytes[i] = 0;
+        i += 1;
     }
 }
 
 fn set_bit(out: &mut [u8], k: usize)
     requires { ⌜ (length (now out) ≡ rowBytes) × (k < mostColumns) ⌝ }
-    ensures { λ _. ⌜ now (out .exit) ≡ withBit (now (out .entry)) k ⌝ }
+    ensures { λ _. ⌜ now (out .exit) ≡ setBit (now (out .entry)) k ⌝ }
 {
     let at = k / 8;
     out[at] |= mask(k % 8) as u8;
@@ -245,7 +246,7 @@ fn put_lead(matrix: &[u8], out: &mut [u8], row: usize, cols: usize, asked: usize
     if !has(matrix, row, asked) {
         return;
     }
-    let k = first_column(matrix, row, cols);
+    let k = lead(matrix, row, cols);
     if k >= cols {
         return;
     }
@@ -281,9 +282,9 @@ fn answer(matrix: &[u8], out: &mut [u8], rows: usize, cols: usize, asked: usize)
 }
 
 // No bit of the row at or beyond the width: `inside` bits of the byte looked at may be there.
-fn row_ends(matrix: &[u8], row: usize, width: usize) -> bool
+fn row_within_width(matrix: &[u8], row: usize, width: usize) -> bool
     requires { ⌜ (row * rowBytes + rowBytes ≤ length (now matrix)) × (width ≤ mostColumns) ⌝ }
-    ensures { λ r. ⌜ r ≡ rowEnds rowBytes (now (matrix .entry)) width row ⌝ }
+    ensures { λ r. ⌜ r ≡ rowWithinWidth rowBytes (now (matrix .entry)) width row ⌝ }
 {
     let start = row * ROW_BYTES;
     let mut q = width / 8;
@@ -298,13 +299,13 @@ fn row_ends(matrix: &[u8], row: usize, width: usize) -> bool
     true
 }
 
-fn rows_end(matrix: &[u8], rows: usize, width: usize) -> bool
+fn within_width(matrix: &[u8], rows: usize, width: usize) -> bool
     requires { ⌜ (rows * rowBytes ≤ length (now matrix)) × (width ≤ mostColumns) ⌝ }
-    ensures { λ r. ⌜ r ≡ nothingBeyond rowBytes (now (matrix .entry)) rows width ⌝ }
+    ensures { λ r. ⌜ r ≡ withinWidth rowBytes (now (matrix .entry)) rows width ⌝ }
 {
     let mut i = 0;
     while i < rows {
-        if !row_ends(matrix, i, width) {
+        if !row_within_width(matrix, i, width) {
             return false;
         }
         i += 1;
@@ -314,7 +315,7 @@ fn rows_end(matrix: &[u8], rows: usize, width: usize) -> bool
 
 // Each bound is asked before a sum or product of the numbers is made, which then can't wrap.
 fn matrix_fits(matrix: &[u8], rows: usize, cols: usize, sides: usize) -> bool
-    ensures { λ r. ⌜ r ≡ fits (now (matrix .entry)) rows cols sides ⌝ }
+    ensures { λ r. ⌜ r ≡ matrixFits (now (matrix .entry)) rows cols sides ⌝ }
 {
     if rows > MOST_ROWS {
         return false;
@@ -353,17 +354,17 @@ fn well_shaped(matrix: &[u8], out: &[u8], rows: usize, cols: usize, sides: usize
     if !both_fit(matrix, out, rows, cols, sides) {
         return false;
     }
-    rows_end(matrix, rows, cols + sides)
+    within_width(matrix, rows, cols + sides)
 }
 
-// The matrix is brought to reduced form by adding rows to each other; the answer is the set of its pivot columns.
+// The matrix is addPivotRow to reduced form by adding rows to each other; the answer is the set of its pivot columns.
 pub fn eliminate(matrix: &mut [u8], rows: usize, cols: usize, sides: usize) -> Elimination
     ensures { λ r. ⌜ eliminationOf r ≡ eliminateCall (now (matrix .entry)) rows cols sides ⌝ }
     ensures { λ _. ⌜ MatrixAfter (eliminateCall (now (matrix .entry)) rows cols sides) rows cols sides
         (now (matrix .entry)) (now (matrix .exit)) ⌝ }
 {
     if !matrix_fits(matrix, rows, cols, sides) {
-        return Elimination::Refused;
+        return Elimination::Refused(Refusal::WRONG_SHAPE);
     }
     eliminate_columns(matrix, rows, cols);
     Elimination::Pivots(pivot_columns(matrix, rows, cols))
@@ -382,10 +383,10 @@ pub fn read_off(
         ≡ readOffCall (now (matrix .entry)) (now (out .entry)) rows cols sides side ⌝ }
 {
     if !both_fit(matrix, out, rows, cols, sides) {
-        return Solved::WrongShape;
+        return Solved::Refused(Refusal::WRONG_SHAPE);
     }
     if side >= sides {
-        return Solved::NoSuchEquation;
+        return Solved::Refused(Refusal::NO_SUCH_EQUATION);
     }
     answer(matrix, out, rows, cols, cols + side)
 }
@@ -405,10 +406,10 @@ pub fn solve_in_place(
         (now (matrix .entry)) (now (matrix .exit)) ⌝ }
 {
     if !well_shaped(matrix, out, rows, cols, sides) {
-        return Solved::WrongShape;
+        return Solved::Refused(Refusal::WRONG_SHAPE);
     }
     if side >= sides {
-        return Solved::NoSuchEquation;
+        return Solved::Refused(Refusal::NO_SUCH_EQUATION);
     }
     eliminate_columns(matrix, rows, cols);
     answer(matrix, out, rows, cols, cols + side)

@@ -1,6 +1,6 @@
 use mathlib.Core.Path.{sym, ap, _∙_}
 use mathlib.Core.Bool.{Bool, _||_}
-use Rattle.finder.specs.Finding.{isPlane}
+use Rattle.finder.specs.Searches.{isPlane}
 use borrow.Author.Needs.{needs}
 use Rattle.finder.proofs.gflow.is_given.Statement.{statement}
 use Rattle.finder.proofs.gflow.is_given.Tie as tie

@@ -1,4 +1,4 @@
-use Rattle.finder.proofs.Finding.{all-more}
+use Rattle.finder.proofs.Searches.{all-more}
 use lib.ListN.{getD}
 use mathlib.Core.Path.{_≡_, sym, ap, _∙_}
 use mathlib.Core.Bool.{Bool, false, _||_}
@@ -10,7 +10,7 @@ use Rattle.nodes.specs.Row.{allBelow}
 use Rattle.nodes.proofs.Logic.{is-true, is-false, from-true, from-false}
 use Rattle.nodes.proofs.Row.{all-out}
 use borrow.Author.Tests.{not-true, not-false}
-use Rattle.finder.specs.Finding.{isPlane}
+use Rattle.finder.specs.Searches.{isPlane}
 use borrow.Author.Needs.{needs}
 use Rattle.finder.proofs.gflow.planes_given.Statement.{statement}
 use Rattle.finder.proofs.gflow.planes_given.Tie as tie

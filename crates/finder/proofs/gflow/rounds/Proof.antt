@@ -1,173 +1,132 @@
 use native.Mathlib.Omega.{arith}
-use borrow.Author.Needs.{needs}
 use mathlib.Core.Path.{_≡_, sym, _∙_}
 use mathlib.Core.Bool.{not}
-use lib.Dec.{T}
 use Rattle.nodes.specs.NodeSet.{member}
 use Rattle.nodes.specs.Row.{count}
 use Rattle.nodes.specs.declared.utils.NodeSet.{NodeSet}
-use Rattle.nodes.proofs.Logic.{from-true, from-false}
-use Rattle.flows.specs.Search.{start, round}
+use Rattle.flows.specs.Job.{Job}
+use Rattle.flows.specs.Search.{Progress, start}
 use Rattle.flows.specs.Planes as Planes
-use Rattle.finder.specs.Finder.{jobIn}
-use Rattle.finder.specs.Views.{Within, RowsApart, SidesApart, TablesFit, Turned, Plain}
-use Rattle.finder.specs.Finding.{Sized, planesGiven, progressIn, cutTo}
-use Rattle.finder.proofs.Filling.{turned-start}
-use Rattle.finder.proofs.Visiting.{going-stop, going-idle, going-new, going-fewer}
-use Rattle.finder.proofs.Rounds.{PlanesGoing, plain-measured, planes-start, planes-next, planes-ready, planes-stops, planes-round}
+use Rattle.finder.specs.WorkMatrix.{Transposed}
+use Rattle.finder.specs.Tries.{TablesFit}
+use Rattle.finder.specs.Visits.{Sized, progressIn, cutTo}
+use Rattle.finder.specs.Searches.{jobIn}
+use Rattle.finder.proofs.WorkMatrix.{transposed-start}
+use Rattle.finder.proofs.Visits.{going-end, going-less}
+use Rattle.finder.proofs.Rounds.{plain-measured, PlanesGoing, planes-start, planes-next}
 use borrow.Author.Needs.{needs}
 use Rattle.finder.proofs.gflow.rounds.Statement.{statement}
 use Rattle.finder.proofs.gflow.rounds.Tie as tie
 
 abbrev Inv-loop : tie.InvT-loop
-Inv-loop graph n inputs measured work₀ layers₀ sets₀ turned₀ kernel₀ reduced₀ preimage₀ plain solved₀ seen₀ r₀ work layers sets turned kernel reduced preimage solved seen r = Sized n measured work layers sets × TablesFit kernel reduced preimage × Turned graph seen turned
-    × ((o : NodeSet) → progressIn solved₀ layers₀ sets₀ ≡ cutTo n (start (member o)) → T (planesGiven (jobIn n graph inputs o measured)) → PlanesGoing n graph inputs o measured r (progressIn solved layers sets))
+Inv-loop graph n inputs measured work₀ layers₀ sets₀ transposed₀ kernel₀ reduced₀ preimage₀ plain state₀ r₀ work layers sets transposed kernel reduced preimage state r = Sized n measured work layers sets × TablesFit kernel reduced preimage × Transposed graph (state .support) transposed
+    × ((o : NodeSet) → progressIn (state₀ .solved) layers₀ sets₀ ≡ cutTo n (start (member o)) → PlanesGoing n graph inputs o measured r (progressIn (state .solved) layers sets))
 
 abbrev μ-loop : tie.MeasureT-loop
-μ-loop graph n inputs measured work₀ layers₀ sets₀ turned₀ kernel₀ reduced₀ preimage₀ plain solved₀ seen₀ r₀ work layers sets turned kernel reduced preimage solved seen r = count n (λ u. not (member solved u))
+μ-loop graph n inputs measured work₀ layers₀ sets₀ transposed₀ kernel₀ reduced₀ preimage₀ plain state₀ r₀ work layers sets transposed kernel reduced preimage state r = count n (λ u. not (member (state .solved) u))
 
--- the function's entry, from a place in its loop
-abbrev entry : tie.At-loop Inv-loop μ-loop → tie.Start Inv-loop μ-loop
-entry c = c .before .before .before .before .before .before .before .before .before .before .before .before .before .before .before .before .before .before .before
+-- ---- the places on the way back to the function's entry
+abbrev entry : tie.After-measured-in Inv-loop μ-loop → tie.Start Inv-loop μ-loop
+entry c = c .before .before .before .before .before .before .before .before .before .before
 
--- the planes are given, and the search is on its way
-given-at : (c : tie.At-loop Inv-loop μ-loop) → let a = entry c .args in T (planesGiven (jobIn (a .n) (a .graph .now) (a .inputs) (a .outputs) (a .measured .now)))
-given-at c = from-true _ (entry c .pre .0 .1)
+abbrev kinds-at : tie.After-begin Inv-loop μ-loop → tie.After-measured-in Inv-loop μ-loop
+kinds-at c = c .before .before .before
 
-on-way : (c : tie.At-loop Inv-loop μ-loop) → let a = entry c .args in PlanesGoing (a .n) (a .graph .now) (a .inputs) (a .outputs) (a .measured .now) (c .loop .r) (progressIn (c .loop .solved) (c .loop .layers) (c .loop .sets))
-on-way c = c .loop .inv .3 (entry c .args .outputs) (c .before .before .before .before .before .before .begin .ensures .0) (given-at c)
+abbrev begun : tie.At-loop Inv-loop μ-loop → tie.After-begin Inv-loop μ-loop
+begun c = c .before .before .before .before .before
 
--- the nodes that are measured in XY
-plain-in : (c : tie.At-loop Inv-loop μ-loop) → Plain (entry c .args .measured .now) (c .before .before .before .before .before .before .before .before .before .measured-in .result)
-plain-in c =
-    let a = entry c .args in
-    λ u t. plain-measured (a .n) (a .measured .now) (c .before .before .before .before .before .before .before .before .before .measured-in .result) (c .before .before .before .before .before .before .before .before .before .measured-in .ensures) u t
+abbrev at : tie.After-advance Inv-loop μ-loop → tie.At-loop Inv-loop μ-loop
+at c = c .before .before .before .before .before .before .before .before
 
--- the sets of the round
-ready-at : (c : tie.After-sets-of Inv-loop μ-loop) → Within (entry (c .before) .args .n) (c .sets-of .result) × RowsApart (c .sets-of .result) × SidesApart (c .sets-of .result)
-ready-at c =
-    let l = c .before .loop in
-    let a = entry (c .before) .args in
-    let e = c .sets-of .ensures in
-    planes-ready (a .n) (a .graph .now) (a .inputs) (a .outputs) (a .measured .now) (l .solved) (l .layers) (l .sets) (c .sets-of .result) (l .inv .0 .nodes) (on-way (c .before) .going .cut) (e .0) (e .1) (e .2)
+-- from the return, and from the end of a turn
+abbrev done : tie.After-result Inv-loop μ-loop → tie.After-advance Inv-loop μ-loop
+done c = c .before .before .before .before .before .before .before .before .before .before .before .before .before .before .before .before .before
 
-stops-at : (c : tie.After-stops Inv-loop μ-loop)
-    → let a = entry (c .before .before) .args in let l = c .before .before .loop in c .stops .result ≡ Planes.stops (jobIn (a .n) (a .graph .now) (a .inputs) (a .outputs) (a .measured .now)) (progressIn (l .solved) (l .layers) (l .sets))
-stops-at c =
-    let l = c .before .before .loop in
-    let a = entry (c .before .before) .args in
-    let e = c .before .sets-of .ensures in
-    c .stops .ensures ∙ planes-stops (a .n) (a .graph .now) (a .inputs) (a .outputs) (a .measured .now) (l .solved) (l .layers) (l .sets) (c .before .sets-of .result) (l .inv .0 .nodes) (on-way (c .before .before) .going .cut) (e .0) (e .1) (e .2)
+abbrev turn : tie.Else1 Inv-loop μ-loop → tie.After-advance Inv-loop μ-loop
+turn c = c .before .before .before .before .before .before .before .before .before .before .before .before .before .before .before .before
 
--- what the round has made, whatever outputs the search is on its way from
-made : (c : tie.After-round Inv-loop μ-loop) (o : NodeSet)
-    → let a = entry (c .before .before .before .before .before .before .before .before .before .before .before .before .before .before .before .before) .args in let l = c .before .before .before .before .before .before .before .before .before .before .before .before .before .before .before .before .loop in
-    PlanesGoing (a .n) (a .graph .now) (a .inputs) o (a .measured .now) (l .r) (progressIn (l .solved) (l .layers) (l .sets)) → T (planesGiven (jobIn (a .n) (a .graph .now) (a .inputs) o (a .measured .now)))
-    → progressIn (c .round .result) (c .round .last .1 .1 .1 .1 .1 .1 .1 .1 .1 .1 .0) (c .round .last .1 .1 .1 .1 .1 .1 .1 .1 .1 .1 .1 .0) ≡ cutTo (a .n) (round (Planes.try (jobIn (a .n) (a .graph .now) (a .inputs) o (a .measured .now)) (member (l .solved))) (l .r) (progressIn (l .solved) (l .layers) (l .sets)))
-made c o g t =
-    let l = c .before .before .before .before .before .before .before .before .before .before .before .before .before .before .before .before .loop in
-    let a = entry (c .before .before .before .before .before .before .before .before .before .before .before .before .before .before .before .before) .args in
-    let d = c .before .before .before .before .before .before .before .before .before .before .before .before .before .before .before in
-    let e = d .sets-of .ensures in
-    c .round .ensures .0 ∙ planes-round (a .n) (a .graph .now) (a .inputs) o (a .measured .now) (l .solved) (l .layers) (l .sets) (d .sets-of .result) (l .inv .0 .nodes) (g .going .cut) (e .0) (e .1) (e .2) t (g .ends) (l .r)
+abbrev start-at : tie.At-loop Inv-loop μ-loop → tie.Start Inv-loop μ-loop
+start-at c = entry (kinds-at (begun c))
+
+abbrev job-at : tie.At-loop Inv-loop μ-loop → Job
+job-at c = let a = start-at c .args in jobIn (a .n) (a .graph .now) (a .inputs) (a .outputs) (a .measured .now)
+
+abbrev here : tie.At-loop Inv-loop μ-loop → Progress
+here c = progressIn (c .loop .state .solved) (c .loop .layers) (c .loop .sets)
+
+-- the search is on its way
+on-way : (c : tie.At-loop Inv-loop μ-loop) → let a = start-at c .args in PlanesGoing (a .n) (a .graph .now) (a .inputs) (a .outputs) (a .measured .now) (c .loop .r) (here c)
+on-way c = c .loop .inv .3 (start-at c .args .outputs) (begun c .begin .ensures .0)
 
 measured-in-requires : tie.Need-measured-in-requires Inv-loop μ-loop
-measured-in-requires c κs = let p = c .before .before .before .before .before .before .before .before .before .pre .0 .0 in (p .nodes, p .given)
+measured-in-requires c κs = let p = c .before .before .before .before .before .before .before .before .before .pre .0 in (p .nodes, p .given)
 
 begin-requires : tie.Need-begin-requires Inv-loop μ-loop
-begin-requires c κs = let p = c .before .before .before .before .before .before .before .before .before .before .before .before .pre .0 .0 in (p .nodes, p .bytes, p .words)
-
-nothing-seen-requires : tie.Need-nothing-seen-requires Inv-loop μ-loop
-nothing-seen-requires c κs = search needs
+begin-requires c κs = let p = entry (c .before .before) .pre .0 in (p .nodes, p .places, p .words)
 
 loop-holds : tie.Need-loop-holds Inv-loop μ-loop
-loop-holds c = let a = c .before .before .before .before .before .before .before .before .before .before .before .before .before .before .before .before .before .before .args in let p = c .before .before .before .before .before .before .before .before .before .before .before .before .before .before .before .before .before .before .pre in let g = c .before .before .before .before .before .begin .ensures .1 in
-    (record { nodes = p .0 .0 .nodes; given = p .0 .0 .given; rows = p .0 .0 .rows; bytes = g .0; words = g .1 }, p .1 .1, turned-start (a .graph .now) (c .nothing-seen .result) (a .turned .now) (p .1 .0 .0) (p .1 .0 .1) (c .nothing-seen .ensures .0), λ o e t. planes-start (a .n) (a .graph .now) (a .inputs) o (a .measured .now) _ e)
+loop-holds c =
+    let g = c .before .before .before .before in
+    let b = g .begin .ensures in
+    let a = entry (kinds-at g) .args in
+    let p = entry (kinds-at g) .pre in
+    (record { nodes = p .0 .nodes; given = p .0 .given; rows = p .0 .rows; places = b .1 .1; words = b .1 .2 }, p .2, transposed-start (a .graph .now) (g .begin .result .support) (a .transposed .now) (p .1 .0) (p .1 .1) (b .1 .0), λ o e. planes-start (a .n) (a .graph .now) (a .inputs) o (a .measured .now) _ e)
 
-sets-of-requires : tie.Need-sets-of-requires Inv-loop μ-loop
-sets-of-requires c κs = search needs
-
-stops-requires : tie.Need-stops-requires Inv-loop μ-loop
-stops-requires c κs = search needs
-
-same-length : tie.Need-same-length Inv-loop μ-loop
-same-length c = c .before .before .before .loop .inv .0 .rows ∙ sym (entry (c .before .before .before) .pre .0 .0 .rows)
-
-same-length-2 : tie.Need-same-length-2 Inv-loop μ-loop
-same-length-2 c = c .before .before .before .loop .inv .0 .bytes ∙ sym (entry (c .before .before .before) .pre .0 .0 .bytes)
-
-same-length-3 : tie.Need-same-length-3 Inv-loop μ-loop
-same-length-3 c = c .before .before .before .loop .inv .0 .words ∙ sym (entry (c .before .before .before) .pre .0 .0 .words)
-
-same-length-4 : tie.Need-same-length-4 Inv-loop μ-loop
-same-length-4 c = c .before .before .before .loop .inv .2 .size ∙ sym (entry (c .before .before .before) .pre .1 .0 .0)
-
-same-length-5 : tie.Need-same-length-5 Inv-loop μ-loop
-same-length-5 c = c .before .before .before .loop .inv .1 .0 ∙ sym (entry (c .before .before .before) .pre .1 .1 .0)
-
-same-length-6 : tie.Need-same-length-6 Inv-loop μ-loop
-same-length-6 c = c .before .before .before .loop .inv .1 .1 ∙ sym (entry (c .before .before .before) .pre .1 .1 .1)
-
-same-length-7 : tie.Need-same-length-7 Inv-loop μ-loop
-same-length-7 c = c .before .before .before .loop .inv .1 .2 ∙ sym (entry (c .before .before .before) .pre .1 .1 .2)
-
-returns : tie.Need-returns Inv-loop μ-loop
-returns c = let at = c .before .before .before in let a = entry at .args in let j = jobIn (a .n) (a .graph .now) (a .inputs) (a .outputs) (a .measured .now) in
-    (going-stop (Planes.stops j) (Planes.try j) (a .n) (Planes.progress j) _ _ (on-way at .going) (from-true _ (sym (stops-at (c .before)) ∙ c .if1 .taken)), at .loop .inv .0)
-
-see-requires : tie.Need-see-requires Inv-loop μ-loop
-see-requires c κs = c .before .before .before .before .before .loop .inv .2
-
-round-requires : tie.Need-round-requires Inv-loop μ-loop
-round-requires c κs = let d = c .before .before .before .before .before .before .before .before .before .before .before .before .before .before in let k = ready-at d in let l = d .before .loop .inv in ((l .0, k .0, k .1, k .2, l .1), (c .before .before .before .before .before .before .before .before .before .see .ensures .0, c .before .before .before .before .before .before .before .before .before .see .ensures .1, plain-in (d .before)))
+advance-requires : tie.Need-advance-requires Inv-loop μ-loop
+advance-requires c κs =
+    let d = c .before .before .before .before .before .before .before in
+    let i = d .loop .inv in
+    let m = kinds-at (begun d) in
+    let a = start-at d .args in
+    ((i .0, i .1, i .2), (plain-measured (a .n) (a .measured .now) (m .measured-in .result) (m .measured-in .ensures), on-way d .cut))
 
 same-requires : tie.Need-same-requires Inv-loop μ-loop
 same-requires c κs = search needs
 
-same-length-8 : tie.Need-same-length-8 Inv-loop μ-loop
-same-length-8 c = c .before .before .before .before .before .before .before .before .before .before .before .before .before .before .round .ensures .1 .0 .rows ∙ sym (entry (c .before .before .before .before .before .before .before .before .before .before .before .before .before .before .before .before .before .before .before .before .before .before .before .before .before .before .before .before .before .before) .pre .0 .0 .rows)
+same-length : tie.Need-same-length Inv-loop μ-loop
+same-length c = let d = done c in d .advance .ensures .1 .0 .rows ∙ sym (start-at (at d) .pre .0 .rows)
 
-same-length-9 : tie.Need-same-length-9 Inv-loop μ-loop
-same-length-9 c = c .before .before .before .before .before .before .before .before .before .before .before .before .before .before .round .ensures .1 .0 .bytes ∙ sym (entry (c .before .before .before .before .before .before .before .before .before .before .before .before .before .before .before .before .before .before .before .before .before .before .before .before .before .before .before .before .before .before) .pre .0 .0 .bytes)
+same-length-2 : tie.Need-same-length-2 Inv-loop μ-loop
+same-length-2 c = let d = done c in d .advance .ensures .1 .0 .places ∙ sym (start-at (at d) .pre .0 .places)
 
-same-length-10 : tie.Need-same-length-10 Inv-loop μ-loop
-same-length-10 c = c .before .before .before .before .before .before .before .before .before .before .before .before .before .before .round .ensures .1 .0 .words ∙ sym (entry (c .before .before .before .before .before .before .before .before .before .before .before .before .before .before .before .before .before .before .before .before .before .before .before .before .before .before .before .before .before .before) .pre .0 .0 .words)
+same-length-3 : tie.Need-same-length-3 Inv-loop μ-loop
+same-length-3 c = let d = done c in d .advance .ensures .1 .0 .words ∙ sym (start-at (at d) .pre .0 .words)
 
-same-length-11 : tie.Need-same-length-11 Inv-loop μ-loop
-same-length-11 c = c .before .before .before .before .before .before .before .before .before .before .before .before .before .before .before .before .before .before .before .before .before .before .before .before .see .ensures .0 .size ∙ sym (entry (c .before .before .before .before .before .before .before .before .before .before .before .before .before .before .before .before .before .before .before .before .before .before .before .before .before .before .before .before .before .before) .pre .1 .0 .0)
+same-length-4 : tie.Need-same-length-4 Inv-loop μ-loop
+same-length-4 c = let d = done c in d .advance .ensures .1 .2 .size ∙ sym (start-at (at d) .pre .1 .0)
 
-same-length-12 : tie.Need-same-length-12 Inv-loop μ-loop
-same-length-12 c = c .before .before .before .before .before .before .before .before .before .before .before .before .before .before .round .ensures .1 .1 .0 ∙ sym (entry (c .before .before .before .before .before .before .before .before .before .before .before .before .before .before .before .before .before .before .before .before .before .before .before .before .before .before .before .before .before .before) .pre .1 .1 .0)
+same-length-5 : tie.Need-same-length-5 Inv-loop μ-loop
+same-length-5 c = let d = done c in d .advance .ensures .1 .1 .0 ∙ sym (start-at (at d) .pre .2 .0)
 
-same-length-13 : tie.Need-same-length-13 Inv-loop μ-loop
-same-length-13 c = c .before .before .before .before .before .before .before .before .before .before .before .before .before .before .round .ensures .1 .1 .1 ∙ sym (entry (c .before .before .before .before .before .before .before .before .before .before .before .before .before .before .before .before .before .before .before .before .before .before .before .before .before .before .before .before .before .before) .pre .1 .1 .1)
+same-length-6 : tie.Need-same-length-6 Inv-loop μ-loop
+same-length-6 c = let d = done c in d .advance .ensures .1 .1 .1 ∙ sym (start-at (at d) .pre .2 .1)
 
-same-length-14 : tie.Need-same-length-14 Inv-loop μ-loop
-same-length-14 c = c .before .before .before .before .before .before .before .before .before .before .before .before .before .before .round .ensures .1 .1 .2 ∙ sym (entry (c .before .before .before .before .before .before .before .before .before .before .before .before .before .before .before .before .before .before .before .before .before .before .before .before .before .before .before .before .before .before) .pre .1 .1 .2)
+same-length-7 : tie.Need-same-length-7 Inv-loop μ-loop
+same-length-7 c = let d = done c in d .advance .ensures .1 .1 .2 ∙ sym (start-at (at d) .pre .2 .2)
 
-returns-2 : tie.Need-returns-2 Inv-loop μ-loop
-returns-2 c = let m = c .before .before .before .before .before .before .before .before .before .before .before .before .before .before in let at = c .before .before .before .before .before .before .before .before .before .before .before .before .before .before .before .before .before .before .before .before .before .before .before .before .before .before .before .before .before .before in let a = entry at .args in let j = jobIn (a .n) (a .graph .now) (a .inputs) (a .outputs) (a .measured .now) in let g = on-way at in (
-  going-idle (Planes.stops j) (Planes.try j) (a .n) (Planes.progress j) (at .loop .r) (progressIn (at .loop .solved) (at .loop .layers) (at .loop .sets)) _ (g .going) (made m (a .outputs) g (given-at at)) (at .loop .inv .0 .nodes) (sym (c .before .same .ensures) ∙ c .if2 .taken),
-  m .round .ensures .1 .0,
-)
+returns : tie.Need-returns Inv-loop μ-loop
+returns c =
+    let d = done c in
+    let a = start-at (at d) .args in
+    let j = job-at (at d) in
+    (going-end (Planes.stops j) (Planes.try j) (a .n) (Planes.progress j) (at d .loop .r) (here (at d)) _ (on-way (at d)) (d .advance .ensures .0 (a .outputs)) (at d .loop .inv .0 .nodes) (sym (c .before .before .same .ensures) ∙ c .before .if1 .taken), d .advance .ensures .1 .0)
 
 add-r : tie.Need-add-r Inv-loop μ-loop
-add-r c = let at = c .before .before .before .before .before .before .before .before .before .before .before .before .before .before .before .before .before .before .before .before .before .before .before .before .before .before .before .before .before .before in omega (arith, at .loop .inv .0 .nodes, on-way at .going .all)
+add-r c = let d = at (turn c) in omega (arith, d .loop .inv .0 .nodes, on-way d .all)
 
 loop-less : tie.Need-loop-less Inv-loop μ-loop
-loop-less c = let m = c .before .before .before .before .before .before .before .before .before .before .before .before .before .before in let at = c .before .before .before .before .before .before .before .before .before .before .before .before .before .before .before .before .before .before .before .before .before .before .before .before .before .before .before .before .before .before in let a = entry at .args in let j = jobIn (a .n) (a .graph .now) (a .inputs) (a .outputs) (a .measured .now) in let g = on-way at in
-    let e = made m (a .outputs) g (given-at at) in
-    let s = progressIn (at .loop .solved) (at .loop .layers) (at .loop .sets) in
-    going-fewer (Planes.stops j) (Planes.try j) (a .n) (Planes.progress j) (at .loop .r) s _ (g .going) e (going-new (Planes.stops j) (Planes.try j) (a .n) (Planes.progress j) (at .loop .r) s _ (g .going) e (sym (c .before .same .ensures) ∙ c .if2 .left))
+loop-less c =
+    let d = turn c in
+    let a = start-at (at d) .args in
+    let j = job-at (at d) in
+    going-less (Planes.stops j) (Planes.try j) (a .n) (Planes.progress j) (at d .loop .r) (here (at d)) _ (on-way (at d)) (d .advance .ensures .0 (a .outputs)) (sym (c .before .same .ensures) ∙ c .if1 .left)
 
 loop-again : tie.Need-loop-again Inv-loop μ-loop
-loop-again c = let m = c .before .before .before .before .before .before .before .before .before .before .before .before .before .before in let at = c .before .before .before .before .before .before .before .before .before .before .before .before .before .before .before .before .before .before .before .before .before .before .before .before .before .before .before .before .before .before in let a = entry at .args in (
-  m .round .ensures .1 .0,
-  m .round .ensures .1 .1,
-  c .before .before .before .before .before .before .before .before .before .before .before .before .before .before .before .before .before .before .before .before .before .before .before .before .see .ensures .0,
-  λ o e t. planes-next (a .n) (a .graph .now) (a .inputs) o (a .measured .now) (at .loop .r) (progressIn (at .loop .solved) (at .loop .layers) (at .loop .sets)) _ (at .loop .inv .3 o e t) (made m o (at .loop .inv .3 o e t) t)
-      (from-false _ (sym (stops-at (c .before .before .before .before .before .before .before .before .before .before .before .before .before .before .before .before .before .before .before .before .before .before .before .before .before .before .before .before)) ∙ c .before .before .before .before .before .before .before .before .before .before .before .before .before .before .before .before .before .before .before .before .before .before .before .before .before .before .before .if1 .left)) (sym (c .before .same .ensures) ∙ c .if2 .left),
-)
+loop-again c =
+    let d = turn c in
+    let a = start-at (at d) .args in
+    let e = d .advance .ensures in
+    (e .1 .0, e .1 .1, e .1 .2, λ o g. planes-next (a .n) (a .graph .now) (a .inputs) o (a .measured .now) (at d .loop .r) (here (at d)) _ (at d .loop .inv .3 o g) (e .0 o) (sym (c .before .same .ensures) ∙ c .if1 .left))
 
 pub rounds-spec : {M : Type 1} → statement M
 rounds-spec =
@@ -177,10 +136,9 @@ rounds-spec =
     μ-loop
     measured-in-requires
     begin-requires
-    nothing-seen-requires
     loop-holds
-    sets-of-requires
-    stops-requires
+    advance-requires
+    same-requires
     same-length
     same-length-2
     same-length-3
@@ -189,17 +147,6 @@ rounds-spec =
     same-length-6
     same-length-7
     returns
-    see-requires
-    round-requires
-    same-requires
-    same-length-8
-    same-length-9
-    same-length-10
-    same-length-11
-    same-length-12
-    same-length-13
-    same-length-14
-    returns-2
     add-r
     loop-less
     loop-again)

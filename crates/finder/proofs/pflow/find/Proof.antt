@@ -4,12 +4,19 @@ use Prim.Native.Nat.{ℕ}
 use Rattle.nodes.specs.Lists.{zeros}
 use Rattle.nodes.specs.SetTable.{tableWords}
 use Rattle.nodes.proofs.SetTable.{zeros-empty}
-use Rattle.finder.specs.Finder.{progressAt, jobIn}
 use borrow.Author.Tests.{not-true, not-false}
-use Rattle.finder.proofs.Finding.{sizes-out, call-sizes, call-paulis, call-left}
+use Rattle.finder.specs.Searches.{progressAt, jobIn}
+use Rattle.finder.proofs.Searches.{sizes-out, call-sizes, call-paulis, call-left}
 use borrow.Author.Needs.{needs}
 use Rattle.finder.proofs.pflow.find.Statement.{statement}
 use Rattle.finder.proofs.pflow.find.Tie as tie
+
+-- ---- the places on the way back to the function's entry
+abbrev entry : tie.After-sizes-fit → tie.Start
+entry c = c .before .before .before .before .before .before .before .before .before
+
+abbrev sized : tie.After-rounds → tie.After-sizes-fit
+sized c = c .before .before .before .before .before .before .before .before .before
 
 sizes-fit-requires : tie.Need-sizes-fit-requires
 sizes-fit-requires c κs = search needs
@@ -24,7 +31,7 @@ same-length-3 : tie.Need-same-length-3
 same-length-3 c = search needs
 
 returns : tie.Need-returns
-returns c = let a = c .before .before .before .before .before .before .before .before .before .before .args in sym (call-sizes (a .n) (a .graph .now) (a .inputs) (a .outputs) (a .measured .now) (a .work .now) (a .layers .now) (a .sets .now) true (sym (c .before .sizes-fit .ensures) ∙ not-true _ (c .if1 .taken)))
+returns c = let a = entry (c .before) .args in sym (call-sizes (a .n) (a .graph .now) (a .inputs) (a .outputs) (a .measured .now) (a .work .now) (a .layers .now) (a .sets .now) true (sym (c .before .sizes-fit .ensures) ∙ not-true _ (c .if1 .taken)))
 
 slice-aggregate-rounds : tie.Need-slice-aggregate-rounds
 slice-aggregate-rounds c = search needs
@@ -39,7 +46,10 @@ slice-aggregate-rounds-4 : tie.Need-slice-aggregate-rounds-4
 slice-aggregate-rounds-4 c = search needs
 
 rounds-requires : tie.Need-rounds-requires
-rounds-requires c κs = let a = c .before .before .before .before .before .before .before .before .before .before .before .before .before .before .before .before .before .args in (sizes-out (a .n) (a .graph .now) (a .measured .now) (a .work .now) (a .layers .now) (a .sets .now) (sym (c .before .before .before .before .before .before .before .before .sizes-fit .ensures) ∙ not-false _ (c .before .before .before .before .before .before .before .if1 .left)), ((refl, λ v k. ap (λ (f : ℕ → Bool). f k) (zeros-empty tableWords v)), (refl, refl, refl)))
+rounds-requires c κs =
+    let d = c .before .before .before .before .before .before .before .before in
+    let a = entry d .args in
+    (sizes-out (a .n) (a .graph .now) (a .measured .now) (a .work .now) (a .layers .now) (a .sets .now) (sym (d .sizes-fit .ensures) ∙ not-false _ (c .before .before .before .before .before .before .before .if1 .left)), (refl, λ v k. ap (λ (f : ℕ → Bool). f k) (zeros-empty tableWords v)), (refl, refl, refl))
 
 conclude-requires : tie.Need-conclude-requires
 conclude-requires c κs = search needs
@@ -54,9 +64,14 @@ same-length-6 : tie.Need-same-length-6
 same-length-6 c = search needs
 
 returns-2 : tie.Need-returns-2
-returns-2 c = let a = c .before .before .before .before .before .before .before .before .before .before .before .before .before .before .before .before .before .before .before .before .before .before .before .before .before .before .before .before .before .before .before .before .args in let r = c .before .before .before .before .before .before .before .before .before .before .before .before .before .before .rounds in let k = c .before .before .conclude in
-    call-left (a .n) (progressAt true (jobIn (a .n) (a .graph .now) (a .inputs) (a .outputs) (a .measured .now))) (r .result) _ _ _ _ (r .ensures .0) (k .ensures .0) (k .ensures .1 ∙ ap zeros (r .ensures .1 .rows)) (r .ensures .1 .bytes) (r .ensures .1 .words) (λ q. c .before .before .before .before .before .before .before .before .slice-known6 .given q .fits)
-    ∙ sym (call-paulis (a .n) (a .graph .now) (a .inputs) (a .outputs) (a .measured .now) (a .work .now) (a .layers .now) (a .sets .now) (sym (c .before .before .before .before .before .before .before .before .before .before .before .before .before .before .before .before .before .before .before .before .before .before .before .sizes-fit .ensures) ∙ not-false _ (c .before .before .before .before .before .before .before .before .before .before .before .before .before .before .before .before .before .before .before .before .before .before .if1 .left)))
+returns-2 c =
+    let r = c .before .before .before .before .before .before .before .before .before .before .before .before .before .before in
+    let d = sized r in
+    let a = entry d .args in
+    let k = c .before .before .conclude in
+    let x = r .rounds .ensures in
+    call-left (a .n) (progressAt true (jobIn (a .n) (a .graph .now) (a .inputs) (a .outputs) (a .measured .now))) (r .rounds .result) _ _ _ _ (x .0) (k .ensures .0) (k .ensures .1 ∙ ap zeros (x .1 .rows)) (x .1 .places) (x .1 .words) (λ q. c .before .before .before .before .before .before .before .before .slice-known6 .given q .fits)
+    ∙ sym (call-paulis (a .n) (a .graph .now) (a .inputs) (a .outputs) (a .measured .now) (a .work .now) (a .layers .now) (a .sets .now) (sym (d .sizes-fit .ensures) ∙ not-false _ (r .before .before .before .before .before .before .before .before .if1 .left)))
 
 pub find-spec : {M : Type 1} → statement M
 find-spec =

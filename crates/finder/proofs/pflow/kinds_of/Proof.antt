@@ -3,7 +3,7 @@ use mathlib.Core.Bool.{Bool, _&&_}
 use lib.Dec.{eqb, ltb}
 use lib.ListN.{getD}
 use Rattle.flows.specs.Job.{pauliY, planeXY}
-use Rattle.finder.proofs.Finding.{or-self}
+use Rattle.finder.proofs.Searches.{or-self}
 use borrow.Author.Needs.{needs}
 use Rattle.finder.proofs.pflow.kinds_of.Statement.{statement}
 use Rattle.finder.proofs.pflow.kinds_of.Tie as tie

@@ -4,7 +4,7 @@ use Rattle.nodes.specs.Row.{anyBelow, lowest}
 use Rattle.nodes.specs.NodeSet.{capacity, member}
 use Rattle.nodes.proofs.Members.{lowest-member}
 use Rattle.solver.proofs.BasisTables.{put-size, across-step}
-use Rattle.solver.proofs.BasisForms.{brought-free, left-fresh, brought-pivot, empty-now, some-now}
+use Rattle.solver.proofs.BasisForms.{reduced-free, left-fresh, reduced-pivot, empty-now, some-now}
 use borrow.Author.Needs.{needs}
 use Rattle.solver.proofs.column_basis.reduce_column.Statement.{statement}
 use Rattle.solver.proofs.column_basis.reduce_column.Tie as tie
@@ -47,7 +47,7 @@ same-length-3 c = search needs
 
 returns : tie.Need-returns
 returns c = let a = c .before .before .before .before .before .before .before .before .before .before .before .before .before .before .before .before .before .before .before .before .before .before .args in let p = c .before .before .before .before .before .before .before .before .before .before .before .before .before .before .before .before .before .before .before .before .before .before .pre in let z = p .0 .2 in let none = empty-now (c .before .before .before .before .before .before .is-empty .result) (anyBelow capacity (member (c .before .before .before .before .before .before .before .before .before .before .xor .result))) (c .before .before .before .before .before .before .is-empty .ensures) (c .before .before .before .before .before .if1 .taken) in (
-  brought-free (a .echelon) (a .reduced .now) (a .preimage .now) (a .kernel .now) (a .c) (p .0 .0) (c .before .before .before .before .before .before .before .before .before .before .before .before .before .before .set-at .result) (c .before .before .before .before .before .before .before .before .before .before .before .before .before .intersection .result) (c .before .before .before .before .before .before .before .before .before .before .before .odd-neighbors .result) (c .before .before .before .before .before .before .before .before .before .before .xor .result) (c .before .before .before .before .before .before .before .before .odd-neighbors2 .result) (a .alone) (c .before .before .before .before .before .before .before .xor2 .result) (c .before .before .before .before .before .before .before .before .before .before .before .before .before .before .set-at .ensures) (c .before .before .before .before .before .before .before .before .before .before .before .before .before .intersection .ensures) (c .before .before .before .before .before .before .before .before .before .before .before .odd-neighbors .ensures) (c .before .before .before .before .before .before .before .before .before .before .xor .ensures) (c .before .before .before .before .before .before .before .before .odd-neighbors2 .ensures) (p .0 .1) (c .before .before .before .before .before .before .before .xor2 .ensures) none (c .before .before .before .put-set .last .0) (c .union .result) (z .kernelSize) (c .before .before .before .put-set .ensures) (c .union .ensures),
+  reduced-free (a .echelon) (a .reduced .now) (a .preimage .now) (a .kernel .now) (a .c) (p .0 .0) (c .before .before .before .before .before .before .before .before .before .before .before .before .before .before .set-at .result) (c .before .before .before .before .before .before .before .before .before .before .before .before .before .intersection .result) (c .before .before .before .before .before .before .before .before .before .before .before .odd-neighbors .result) (c .before .before .before .before .before .before .before .before .before .before .xor .result) (c .before .before .before .before .before .before .before .before .odd-neighbors2 .result) (a .alone) (c .before .before .before .before .before .before .before .xor2 .result) (c .before .before .before .before .before .before .before .before .before .before .before .before .before .before .set-at .ensures) (c .before .before .before .before .before .before .before .before .before .before .before .before .before .intersection .ensures) (c .before .before .before .before .before .before .before .before .before .before .before .odd-neighbors .ensures) (c .before .before .before .before .before .before .before .before .before .before .xor .ensures) (c .before .before .before .before .before .before .before .before .odd-neighbors2 .ensures) (p .0 .1) (c .before .before .before .before .before .before .before .xor2 .ensures) none (c .before .before .before .put-set .last .0) (c .union .result) (z .kernelSize) (c .before .before .before .put-set .ensures) (c .union .ensures),
   (record { kernelSize = ap length (c .before .before .before .put-set .ensures) ∙ put-size (a .kernel .now) (a .c) (c .before .before .before .before .before .before .before .xor2 .result) ∙ z .kernelSize; reducedSize = z .reducedSize; preimageSize = z .preimageSize; acrossSize = z .acrossSize }, p .1 .1),
 )
 
@@ -75,7 +75,7 @@ same-length-7 c = search needs
 returns-2 : tie.Need-returns-2
 returns-2 c = let a = c .before .before .before .before .before .before .before .before .before .before .before .before .before .before .before .before .before .before .before .before .before .before .before .before .before .before .before .before .before .args in let p = c .before .before .before .before .before .before .before .before .before .before .before .before .before .before .before .before .before .before .before .before .before .before .before .before .before .before .before .before .before .pre in let z = p .0 .2 in let some = some-now (c .before .before .before .before .before .before .before .before .before .before .before .before .before .is-empty .result) (anyBelow capacity (member (c .before .before .before .before .before .before .before .before .before .before .before .before .before .before .before .before .before .xor .result))) (c .before .before .before .before .before .before .before .before .before .before .before .before .before .is-empty .ensures) (c .before .before .before .before .before .before .before .before .before .before .before .before .if1 .left) in let l = member (c .before .before .before .before .before .before .before .before .before .before .before .before .before .before .before .before .before .xor .result) in let v = c .before .before .before .before .before .before .before .before .add-pivot in
     let fresh = left-fresh (a .echelon) (a .reduced .now) (a .preimage .now) (a .kernel .now) (a .c) (p .0 .0) (c .before .before .before .before .before .before .before .before .before .before .before .before .before .before .before .before .before .before .before .before .before .set-at .result) (c .before .before .before .before .before .before .before .before .before .before .before .before .before .before .before .before .before .before .before .before .intersection .result) (c .before .before .before .before .before .before .before .before .before .before .before .before .before .before .before .before .before .before .odd-neighbors .result) (c .before .before .before .before .before .before .before .before .before .before .before .before .before .before .before .before .before .xor .result) (c .before .before .before .before .before .before .before .before .before .before .before .before .before .before .before .odd-neighbors2 .result) (a .alone) (c .before .before .before .before .before .before .before .before .before .before .before .before .before .before .xor2 .result) (c .before .before .before .before .before .before .before .before .before .before .before .before .before .before .before .before .before .before .before .before .before .set-at .ensures) (c .before .before .before .before .before .before .before .before .before .before .before .before .before .before .before .before .before .before .before .before .intersection .ensures) (c .before .before .before .before .before .before .before .before .before .before .before .before .before .before .before .before .before .before .odd-neighbors .ensures) (c .before .before .before .before .before .before .before .before .before .before .before .before .before .before .before .before .before .xor .ensures) (c .before .before .before .before .before .before .before .before .before .before .before .before .before .before .before .odd-neighbors2 .ensures) (p .0 .1) (c .before .before .before .before .before .before .before .before .before .before .before .before .before .before .xor2 .ensures) (p .1 .0) (lowest capacity l) (lowest-member capacity l some) in
-    let b = brought-pivot (a .echelon) (a .reduced .now) (a .preimage .now) (a .kernel .now) (a .c) (p .0 .0) (c .before .before .before .before .before .before .before .before .before .before .before .before .before .before .before .before .before .before .before .before .before .set-at .result) (c .before .before .before .before .before .before .before .before .before .before .before .before .before .before .before .before .before .before .before .before .intersection .result) (c .before .before .before .before .before .before .before .before .before .before .before .before .before .before .before .before .before .before .odd-neighbors .result) (c .before .before .before .before .before .before .before .before .before .before .before .before .before .before .before .before .before .xor .result) (c .before .before .before .before .before .before .before .before .before .before .before .before .before .before .before .odd-neighbors2 .result) (a .alone) (c .before .before .before .before .before .before .before .before .before .before .before .before .before .before .xor2 .result) (c .before .before .before .before .before .before .before .before .before .before .before .before .before .before .before .before .before .before .before .before .before .set-at .ensures) (c .before .before .before .before .before .before .before .before .before .before .before .before .before .before .before .before .before .before .before .before .intersection .ensures) (c .before .before .before .before .before .before .before .before .before .before .before .before .before .before .before .before .before .before .odd-neighbors .ensures) (c .before .before .before .before .before .before .before .before .before .before .before .before .before .before .before .before .before .xor .ensures) (c .before .before .before .before .before .before .before .before .before .before .before .before .before .before .before .odd-neighbors2 .ensures) (p .0 .1) (c .before .before .before .before .before .before .before .before .before .before .before .before .before .before .xor2 .ensures) some (a .across .now) (p .1 .1) (v .last .0) (v .last .1 .0) (c .before .first .result) (c .union2 .result) (v .ensures .0) (v .ensures .1 .0) (c .before .first .ensures) (c .union2 .ensures) in (
+    let b = reduced-pivot (a .echelon) (a .reduced .now) (a .preimage .now) (a .kernel .now) (a .c) (p .0 .0) (c .before .before .before .before .before .before .before .before .before .before .before .before .before .before .before .before .before .before .before .before .before .set-at .result) (c .before .before .before .before .before .before .before .before .before .before .before .before .before .before .before .before .before .before .before .before .intersection .result) (c .before .before .before .before .before .before .before .before .before .before .before .before .before .before .before .before .before .before .odd-neighbors .result) (c .before .before .before .before .before .before .before .before .before .before .before .before .before .before .before .before .before .xor .result) (c .before .before .before .before .before .before .before .before .before .before .before .before .before .before .before .odd-neighbors2 .result) (a .alone) (c .before .before .before .before .before .before .before .before .before .before .before .before .before .before .xor2 .result) (c .before .before .before .before .before .before .before .before .before .before .before .before .before .before .before .before .before .before .before .before .before .set-at .ensures) (c .before .before .before .before .before .before .before .before .before .before .before .before .before .before .before .before .before .before .before .before .intersection .ensures) (c .before .before .before .before .before .before .before .before .before .before .before .before .before .before .before .before .before .before .odd-neighbors .ensures) (c .before .before .before .before .before .before .before .before .before .before .before .before .before .before .before .before .before .xor .ensures) (c .before .before .before .before .before .before .before .before .before .before .before .before .before .before .before .odd-neighbors2 .ensures) (p .0 .1) (c .before .before .before .before .before .before .before .before .before .before .before .before .before .before .xor2 .ensures) some (a .across .now) (p .1 .1) (v .last .0) (v .last .1 .0) (c .before .first .result) (c .union2 .result) (v .ensures .0) (v .ensures .1 .0) (c .before .first .ensures) (c .union2 .ensures) in (
       b .0,
       (
         record { kernelSize = z .kernelSize; reducedSize = v .ensures .0 .size ∙ z .reducedSize; preimageSize = v .ensures .1 .0 .size ∙ z .preimageSize; acrossSize = v .ensures .1 .1 .size ∙ z .acrossSize },

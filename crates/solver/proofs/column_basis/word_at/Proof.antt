@@ -19,20 +19,20 @@ loop-holds c = let a = c .before .args in (omega arith, word-none (a .matrix .no
 sub-left : tie.Need-sub-left Inv-loop μ-loop
 sub-left c = search needs
 
-add-wide : tie.Need-add-wide Inv-loop μ-loop
-add-wide c = search needs
+add-as-word : tie.Need-add-as-word Inv-loop μ-loop
+add-as-word c = search needs
 
-shared-slice-read-wide : tie.Need-shared-slice-read-wide Inv-loop μ-loop
-shared-slice-read-wide c = search needs
+shared-slice-read-as-word : tie.Need-shared-slice-read-as-word Inv-loop μ-loop
+shared-slice-read-as-word c = search needs
 
-wide-requires : tie.Need-wide-requires Inv-loop μ-loop
-wide-requires c κs = search needs
+as-word-requires : tie.Need-as-word-requires Inv-loop μ-loop
+as-word-requires c κs = search needs
 
 loop-less : tie.Need-loop-less Inv-loop μ-loop
 loop-less c = omega arith
 
 loop-again : tie.Need-loop-again Inv-loop μ-loop
-loop-again c = let a = c .before .before .before .before .before .args in let l = c .before .before .before .loop in let w = c .wide in
+loop-again c = let a = c .before .before .before .before .before .args in let l = c .before .before .before .loop in let w = c .as-word in
     (omega arith, word-more (a .matrix .now) (a .at + (l .left - 1)) (a .at + l .left) (8 - l .left) (8 - (l .left - 1)) (l .word) (w .result) _ (omega arith) (omega arith) (omega arith) (l .inv .1) (w .ensures .0) (w .ensures .1) refl)
 
 returns : tie.Need-returns Inv-loop μ-loop
@@ -48,9 +48,9 @@ word-at-spec =
     μ-loop
     loop-holds
     sub-left
-    add-wide
-    shared-slice-read-wide
-    wide-requires
+    add-as-word
+    shared-slice-read-as-word
+    as-word-requires
     loop-less
     loop-again
     returns)

@@ -9,13 +9,13 @@ use borrow.Author.Needs.{needs}
 use Rattle.solver.proofs.gf2_linalg.add_pivot.Statement.{statement}
 use Rattle.solver.proofs.gf2_linalg.add_pivot.Tie as tie
 
-first-column-requires : tie.Need-first-column-requires
-first-column-requires c κs = search needs
+lead-requires : tie.Need-lead-requires
+lead-requires c κs = search needs
 
 returns : tie.Need-returns
 returns c =
     let a = c .before .before .before .args in
-    let f = c .before .first-column in
+    let f = c .before .lead in
     set-past (member (a .pivots)) (a .cols) (f .result) (c .if1 .taken)
     ∙ ap {B = ℕ → Bool} (λ p k. member (a .pivots) k || (ltb k (a .cols) && eqb p k)) (f .ensures)
 
@@ -25,10 +25,10 @@ with-requires c κs = search needs
 returns-2 : tie.Need-returns-2
 returns-2 c =
     let a = c .before .before .before .before .args in
-    let f = c .before .before .first-column in
+    let f = c .before .before .lead in
     c .with .ensures ∙ set-with (member (a .pivots)) (a .cols) (f .result) (omega arith) (omega arith)
     ∙ ap {B = ℕ → Bool} (λ p k. member (a .pivots) k || (ltb k (a .cols) && eqb p k)) (f .ensures)
 
 pub add-pivot-spec : {M : Type 1} → statement M
 add-pivot-spec =
-    tie.close (tie.spec first-column-requires returns with-requires returns-2)
+    tie.close (tie.spec lead-requires returns with-requires returns-2)

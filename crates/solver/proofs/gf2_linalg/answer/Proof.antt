@@ -5,7 +5,7 @@ use mathlib.Core.Option.{Option}
 use Prim.Native.Nat.{ℕ}
 use Rattle.answers.specs.Answer.{gives}
 use Rattle.solver.proofs.Leads.{read-none, read-some}
-use Rattle.solver.specs.Solver.{rowBytes, Outcome, outcome}
+use Rattle.solver.specs.Solver.{rowBytes, SolveOutcome, outcome}
 use borrow.Author.Needs.{needs}
 use Rattle.solver.proofs.gf2_linalg.answer.Statement.{statement}
 use Rattle.solver.proofs.gf2_linalg.answer.Tie as tie
@@ -27,7 +27,7 @@ same-length c = search needs
 returns-2 : tie.Need-returns-2
 returns-2 c =
     let a = c .before .before .before .before .before .before .before .before .args in
-    ap {B = Outcome} (λ (l : List ℕ). record { answer = gives true; out = l }) (c .before .before .put-leads .ensures)
+    ap {B = SolveOutcome} (λ (l : List ℕ). record { answer = gives true; out = l }) (c .before .before .put-leads .ensures)
     ∙ ap (λ (o : Option (ℕ → Bool)). outcome (gives o) (a .out .now))
     (read-some rowBytes (a .matrix .now) (a .cols) (a .asked) (a .rows) (sym (c .before .before .before .before .if1 .left) ∙ c .before .before .before .before .before .no-solution .ensures))
 

@@ -22,8 +22,8 @@ returns c =
     let a = c .before .before .before .before .args in
     (column-none rowBytes (a .rows) (a .col) (record { rank = a .rank; rows = a .matrix .now }) _ (c .before .find-pivot .ensures) (c .if1 .taken), search needs)
 
-bring-requires : tie.Need-bring-requires
-bring-requires c κs =
+add-pivot-row-requires : tie.Need-add-pivot-row-requires
+add-pivot-row-requires c κs =
     let a = c .before .before .before .before .before .args in
     let f = c .before .before .find-pivot in
     let ge : a .rank ≤ f .result = omega (arith, f .ensures, from-ge (a .rank) (a .rows - a .rank) (λ i. entryOf rowBytes (a .matrix .now) i (a .col))) in
@@ -50,7 +50,7 @@ returns-2 c =
     let ge : a .rank ≤ f .result = omega (arith, f .ensures, from-ge (a .rank) (a .rows - a .rank) (λ i. entryOf rowBytes (a .matrix .now) i (a .col))) in (
       ap (λ (l : List ℕ). record { rank = a .rank + 1; rows = l })
           (c .before .before .clear-column .ensures
-          ∙ ap (λ (l : List ℕ). clearColumn rowBytes l (a .rows) (a .rank) (a .col)) (c .before .before .before .before .before .before .bring .ensures))
+          ∙ ap (λ (l : List ℕ). clearColumn rowBytes l (a .rows) (a .rank) (a .col)) (c .before .before .before .before .before .before .add-pivot-row .ensures))
           ∙ column-some rowBytes (a .rows) (a .col) (record { rank = a .rank; rows = a .matrix .now }) (f .result) (f .ensures) (omega arith),
       omega arith,
     )
@@ -62,7 +62,7 @@ eliminate-column-spec =
     find-pivot-requires
     same-length
     returns
-    bring-requires
+    add-pivot-row-requires
     clear-column-requires
     add-result
     same-length-2

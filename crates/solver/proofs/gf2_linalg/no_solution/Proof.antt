@@ -2,7 +2,7 @@ use mathlib.Core.Path.{_≡_, sym, _∙_}
 use mathlib.Core.Bool.{false}
 use Prim.Native.Nat.{_≤_, _-_}
 use native.Mathlib.Omega.{arith}
-use Rattle.solver.specs.Steps.{inVain, noSolution}
+use Rattle.solver.specs.Steps.{inconsistentRow, noSolution}
 use Rattle.solver.specs.Solver.{rowBytes}
 use Rattle.solver.proofs.Turns.{any-start, any-here, any-more}
 use borrow.Author.Needs.{needs}
@@ -17,16 +17,16 @@ abbrev μ-loop : tie.MeasureT-loop
 
 loop-holds : tie.Need-loop-holds Inv-loop μ-loop
 loop-holds c =
-    let a = c .before .args in (search needs, any-start (inVain rowBytes (a .matrix .now) (a .cols) (a .asked)))
+    let a = c .before .args in (search needs, any-start (inconsistentRow rowBytes (a .matrix .now) (a .cols) (a .asked)))
 
-asks-in-vain-requires : tie.Need-asks-in-vain-requires Inv-loop μ-loop
-asks-in-vain-requires c κs = search needs
+inconsistent-row-requires : tie.Need-inconsistent-row-requires Inv-loop μ-loop
+inconsistent-row-requires c κs = search needs
 
 returns : tie.Need-returns Inv-loop μ-loop
 returns c =
     let a = c .before .before .before .before .before .args in
     let l = c .before .before .before .loop in
-    sym (any-here (inVain rowBytes (a .matrix .now) (a .cols) (a .asked)) (a .rows) (l .i) (omega arith) (sym (c .before .asks-in-vain .ensures) ∙ c .if1 .taken))
+    sym (any-here (inconsistentRow rowBytes (a .matrix .now) (a .cols) (a .asked)) (a .rows) (l .i) (omega arith) (sym (c .before .inconsistent-row .ensures) ∙ c .if1 .taken))
 
 add-i : tie.Need-add-i Inv-loop μ-loop
 add-i c = search needs
@@ -38,7 +38,7 @@ loop-again : tie.Need-loop-again Inv-loop μ-loop
 loop-again c =
     let a = c .before .before .before .before .before .args in
     let l = c .before .before .before .loop in
-    (search needs, any-more (inVain rowBytes (a .matrix .now) (a .cols) (a .asked)) (l .i) (l .inv .1) (sym (c .before .asks-in-vain .ensures) ∙ c .if1 .left))
+    (search needs, any-more (inconsistentRow rowBytes (a .matrix .now) (a .cols) (a .asked)) (l .i) (l .inv .1) (sym (c .before .inconsistent-row .ensures) ∙ c .if1 .left))
 
 returns-2 : tie.Need-returns-2 Inv-loop μ-loop
 returns-2 c =
@@ -54,7 +54,7 @@ no-solution-spec =
     Inv-loop
     μ-loop
     loop-holds
-    asks-in-vain-requires
+    inconsistent-row-requires
     returns
     add-i
     loop-less

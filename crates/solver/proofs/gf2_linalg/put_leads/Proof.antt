@@ -1,9 +1,11 @@
-use mathlib.Core.Path.{_≡_, _∙_}
+use mathlib.Core.Path.{_≡_, ap, _∙_}
 use Prim.Native.Nat.{_≤_, _-_}
 use native.Mathlib.Omega.{arith}
 use lib.ListN.{length}
 use Rattle.solver.specs.Steps.{leadBytes}
 use Rattle.solver.specs.Solver.{rowBytes}
+use Rattle.nodes.specs.Lists.{zeros}
+use Rattle.solver.proofs.WorkMatrix.{bytes-none}
 use Rattle.solver.proofs.Leads.{bytes-start}
 use borrow.Author.Needs.{needs}
 use Rattle.solver.proofs.gf2_linalg.put_leads.Statement.{statement}
@@ -21,7 +23,8 @@ clear-requires c κs = search needs
 loop-holds : tie.Need-loop-holds Inv-loop μ-loop
 loop-holds c =
     let a = c .before .before .before .before .before .before .args in
-    (search needs, search needs, c .before .before .clear .ensures ∙ bytes-start rowBytes (a .matrix .now) (a .cols) (a .asked))
+    let size : length (a .out .now) ≡ rowBytes = search needs in
+    (search needs, search needs, c .before .before .clear .ensures ∙ ap zeros size ∙ bytes-none rowBytes ∙ bytes-start rowBytes (a .matrix .now) (a .cols) (a .asked))
 
 put-lead-requires : tie.Need-put-lead-requires Inv-loop μ-loop
 put-lead-requires c κs = search needs

@@ -46,15 +46,15 @@ returns-4 c =
     let fit : bothFit (a .matrix .now) (a .out .now) (a .rows) (a .cols) (a .sides) ≡ false = sym (c .before .both-fit .ensures) ∙ not-true _ (c .if4 .taken) in
     simp (lt-ltb _ _ row, lt-ltb _ _ side, lt-ltb _ _ column, fit)
 
-add-rows-end : tie.Need-add-rows-end
-add-rows-end c =
+add-within-width : tie.Need-add-within-width
+add-within-width c =
     let a = c .before .before .before .before .before .before .before .args in
     let fit : bothFit (a .matrix .now) (a .out .now) (a .rows) (a .cols) (a .sides) ≡ true = sym (c .before .both-fit .ensures) ∙ not-false _ (c .if4 .left) in
     let sizes = fits-out _ _ _ _ (both-fit-out _ _ _ _ _ fit .0) in
     omega arith
 
-rows-end-requires : tie.Need-rows-end-requires
-rows-end-requires c κs =
+within-width-requires : tie.Need-within-width-requires
+within-width-requires c κs =
     let a = c .before .before .before .before .before .before .before .args in
     let fit : bothFit (a .matrix .now) (a .out .now) (a .rows) (a .cols) (a .sides) ≡ true = sym (c .before .both-fit .ensures) ∙ not-false _ (c .if4 .left) in
     let sizes = fits-out _ _ _ _ (both-fit-out _ _ _ _ _ fit .0) in
@@ -68,7 +68,7 @@ returns-5 c =
     let side : 0 < a .sides = omega arith in
     let column : 0 < a .cols = omega arith in
     let fit : bothFit (a .matrix .now) (a .out .now) (a .rows) (a .cols) (a .sides) ≡ true = sym (c .before .before .both-fit .ensures) ∙ not-false _ (c .before .if4 .left) in
-    simp (lt-ltb _ _ row, lt-ltb _ _ side, lt-ltb _ _ column, fit) (c .rows-end .ensures)
+    simp (lt-ltb _ _ row, lt-ltb _ _ side, lt-ltb _ _ column, fit) (c .within-width .ensures)
 
 pub well-shaped-spec : {M : Type 1} → statement M
 well-shaped-spec =
@@ -79,6 +79,6 @@ well-shaped-spec =
     returns-3
     both-fit-requires
     returns-4
-    add-rows-end
-    rows-end-requires
+    add-within-width
+    within-width-requires
     returns-5)

@@ -1,0 +1,325 @@
+-- A round visits its nodes one after the other, and the rounds follow one another: what stands in the search's set and in
+-- the lent buffers is at each point the progress of the definition, of the nodes below n.
+use Prim.Native.Nat.{ℕ, zero, suc, _+_, _≤_, _<_}
+use mathlib.Core.Path.{_≡_, refl, sym, ap, ap₂, _∙_, subst, fun-ext}
+use mathlib.Core.Bool.{Bool, true, false, cond, not, _&&_, _||_}
+use mathlib.Core.Logic.{_⊎_, inl, inr}
+use mathlib.Core.Option.{none, Option}
+use native.Mathlib.Omega.{arith}
+use lib.Dec.{T, eqb, leb, ltb, eqb→eq, le→leb}
+use Rattle.nodes.specs.Bit.{_⊕_}
+use Rattle.nodes.specs.Row.{anyBelow, allBelow, count}
+use Rattle.nodes.specs.NodeSet.{capacity, highest}
+use Rattle.nodes.proofs.Logic.{is-true, is-false, from-true, from-false, both-ways, dec, and-l, and-r, and-in, and-none, and-all, or-r, or-none, not-in, not-out, eqb-yes, lt-or-ge, ⊕-self, ⊕-eq}
+use Rattle.nodes.proofs.Row.{any-in, any-none, all-in, all-out, ltb-yes, ltb-no}
+use Rattle.nodes.proofs.Count.{count-le, count-ext}
+use Rattle.nodes.proofs.Remove.{removed}
+use Rattle.nodes.specs.Options.{isSome}
+use Rattle.flows.specs.Search.{Progress, orNone, solvedNow, round, rounds}
+use Rattle.finder.specs.Visits.{cutTo, placed, visited}
+use Rattle.finder.specs.Searches.{advanced}
+use Rattle.flows.proofs.Search.{fresh-open, fewer}
+use Rattle.flows.proofs.Progress.{SameProgress, progress-sym, progress-trans, rounds-agree}
+
+pub progress-eq : (p q : Progress) → ((u : ℕ) → p .solved u ≡ q .solved u) → ((u : ℕ) → p .layer u ≡ q .layer u) → ((u : ℕ) → p .set u ≡ q .set u) → p ≡ q
+progress-eq p q a b c =
+    ap {B = Progress} (λ (f : ℕ → Bool). record { solved = f; layer = p .layer; set = p .set }) (fun-ext a)
+    ∙ ap {B = Progress} (λ (f : ℕ → ℕ). record { solved = q .solved; layer = f; set = p .set }) (fun-ext b)
+    ∙ ap {B = Progress} (λ (f : ℕ → ℕ → Bool). record { solved = q .solved; layer = q .layer; set = f }) (fun-ext c)
+
+-- ---- the nodes below n alone
+pub cut-ext : (n : ℕ) (s t : Progress) → SameProgress n s t → cutTo n s ≡ cutTo n t
+cut-ext n s t h = progress-eq (cutTo n s) (cutTo n t) (λ u. solved′ u (lt-or-ge u n)) (λ u. layer′ u (lt-or-ge u n)) (λ u. set′ u (lt-or-ge u n))
+  where
+    solved′ : (u : ℕ) → (u < n) ⊎ (n ≤ u) → ltb u n && s .solved u ≡ ltb u n && t .solved u
+    solved′ u (inl l) = rw (h .solved u l)
+    solved′ u (inr l) = rw (ltb-no u n l)
+
+    layer′ : (u : ℕ) → (u < n) ⊎ (n ≤ u) → cond (ltb u n) (s .layer u) 0 ≡ cond (ltb u n) (t .layer u) 0
+    layer′ u (inl l) = rw (h .layer u l)
+    layer′ u (inr l) = rw (ltb-no u n l)
+
+    set′ : (u : ℕ) → (u < n) ⊎ (n ≤ u) → _≡_ {A = ℕ → Bool} (λ v. ltb u n && s .set u v) (λ v. ltb u n && t .set u v)
+    set′ u (inl l) = ap {B = ℕ → Bool} (λ (f : ℕ → Bool) (v : ℕ). ltb u n && f v) (h .set u l)
+    set′ u (inr l) = fun-ext (λ v. rw (ltb-no u n l))
+
+pub cut-below : (n : ℕ) (t : Progress) → SameProgress n (cutTo n t) t
+cut-below n t = record {
+  solved = λ u l. ap (λ (b : Bool). b && t .solved u) (ltb-yes u n l);
+  layer = λ u l. ap (λ (b : Bool). cond b (t .layer u) 0) (ltb-yes u n l);
+  set = λ u l. ap {B = ℕ → Bool} (λ (b : Bool) (v : ℕ). b && t .set u v) (ltb-yes u n l);
+}
+
+pub cut-same : (n : ℕ) (s t : Progress) → s ≡ cutTo n t → SameProgress n s t
+cut-same n s t e = rw e (cut-below n t)
+
+-- what is cut stays as it is
+pub cut-again : (n : ℕ) (s t : Progress) → s ≡ cutTo n t → s ≡ cutTo n s
+cut-again n s t e = e ∙ cut-ext n t s (progress-sym (cut-same n s t e))
+
+-- ---- one node after the other
+module _ (try : ℕ → Option (ℕ → Bool)) (r : ℕ) (p : Progress) where
+  pub visited-start : (among : ℕ → Bool) → p ≡ visited (λ u. among u && not (among u)) try r p
+  visited-start among = progress-eq p (visited (λ u. among u && not (among u)) try r p) (λ u. sym (rw (never′ (among u)) (or-none (p .solved u)))) (λ u. rw (never′ (among u))) (λ u. rw (never′ (among u)))
+    where
+      never′ : (b : Bool) → b && not b ≡ false
+      never′ true = refl
+      never′ false = refl
+
+  -- the next node is u
+  module _ (among left next : ℕ → Bool) (u : ℕ) (a : T (among u)) (l : T (left u)) (e : next ≡ removed left u) where
+    abbrev old : ℕ → Bool
+    old v = (among v && not (left v)) && isSome (try v)
+
+    abbrev new : ℕ → Bool
+    new v = (among v && not (next v)) && isSome (try v)
+
+    abbrev here : ℕ → Bool
+    here v = eqb v u && isSome (try u)
+
+    -- u is the node that is placed, or another
+    abbrev Marks : ℕ → Type 0
+    Marks v = ((old v ≡ false) × (here v ≡ new v) × (orNone (try u) ≡ orNone (try v))) ⊎ ((here v ≡ false) × (old v ≡ new v))
+
+    marks : (v : ℕ) → T (eqb v u) ⊎ (T (eqb v u) → ⊥) → Marks v
+    marks v (inl t) = let q : v ≡ u = eqb→eq v u t in inl (rw (q, is-true (among u) a, is-true (left u) l), rw (e, q, is-true (among u) a, is-true (left u) l, eqb-yes u), rw q)
+    marks v (inr f) = inr (rw (is-false (eqb v u) f), rw (e, is-false (eqb v u) f, and-all (left v)))
+
+    solved-step : (v : ℕ) → Marks v → (p .solved v || old v) || here v ≡ p .solved v || new v
+    solved-step v (inl (x, y, z)) = rw (x, y, or-none (p .solved v))
+    solved-step v (inr (x, y)) = rw (x, y) (or-none (p .solved v || new v))
+
+    layer-step : (v : ℕ) → Marks v → cond (here v) r (cond (old v) r (p .layer v)) ≡ cond (new v) r (p .layer v)
+    layer-step v (inl (x, y, z)) = rw (x, y)
+    layer-step v (inr (x, y)) = rw (x, y)
+
+    set-step : (v : ℕ) → Marks v → cond (here v) (orNone (try u)) (cond (old v) (orNone (try v)) (p .set v)) ≡ cond (new v) (orNone (try v)) (p .set v)
+    set-step v (inl (x, y, z)) = rw (x, y, z)
+    set-step v (inr (x, y)) = rw (x, y)
+
+    pub visited-step : placed u r (try u) (visited (λ v. among v && not (left v)) try r p) ≡ visited (λ v. among v && not (next v)) try r p
+    visited-step =
+        progress-eq (placed u r (try u) (visited (λ v. among v && not (left v)) try r p)) (visited (λ v. among v && not (next v)) try r p)
+        (λ v. solved-step v (marks v (dec (eqb v u)))) (λ v. layer-step v (marks v (dec (eqb v u)))) (λ v. set-step v (marks v (dec (eqb v u))))
+
+  -- the same of what stands in the buffers
+  pub visited-more : (among left next : ℕ → Bool) (u : ℕ) (t : Option (ℕ → Bool)) (here after : Progress) → here ≡ visited (λ v. among v && not (left v)) try r p
+      → after ≡ placed u r t here → t ≡ try u → T (among u) → T (left u) → next ≡ removed left u → after ≡ visited (λ v. among v && not (next v)) try r p
+  visited-more among left next u t here after e f g a l q =
+      f ∙ ap₂ (λ (x : Option (ℕ → Bool)) (y : Progress). placed u r x y) g e ∙ visited-step among left next u a l q
+
+  -- none is left
+  pub visited-end : (among left : ℕ → Bool) → ((v : ℕ) → T (left v) → ⊥) → visited (λ u. among u && not (left u)) try r p ≡ visited among try r p
+  visited-end among left f = ap (λ (g : ℕ → Bool). visited g try r p) (fun-ext (λ u. ap (λ (b : Bool). among u && not b) (is-false (left u) (f u)) ∙ and-all (among u)))
+
+  -- those that are passed over would get nothing
+  pub visited-fewer : (among fewer : ℕ → Bool) → ((u : ℕ) → T (fewer u) → T (among u)) → ((u : ℕ) → T (among u) → (T (fewer u) → ⊥) → try u ≡ none) → visited fewer try r p ≡ visited among try r p
+  visited-fewer among fewer h f =
+      progress-eq (visited fewer try r p) (visited among try r p) (λ u. ap (λ (b : Bool). p .solved u || b) (same u)) (λ u. ap (λ (b : Bool). cond b r (p .layer u)) (same u))
+      (λ u. ap (λ (b : Bool). cond b (orNone (try u)) (p .set u)) (same u))
+    where
+      same : (u : ℕ) → fewer u && isSome (try u) ≡ among u && isSome (try u)
+      same u = by (dec (among u)) (dec (fewer u))
+        where
+          by : T (among u) ⊎ (T (among u) → ⊥) → T (fewer u) ⊎ (T (fewer u) → ⊥) → fewer u && isSome (try u) ≡ among u && isSome (try u)
+          by (inl a) (inl b) = rw (is-true (among u) a, is-true (fewer u) b)
+          by (inl a) (inr b) = rw (is-false (fewer u) b, f u a b) (sym (and-none (among u)))
+          by (inr a) (inl b) = absurd (a (h u b))
+          by (inr a) (inr b) = rw (is-false (among u) a, is-false (fewer u) b)
+
+  -- all unsolved nodes were visited: a round
+  pub visited-round : (n : ℕ) (among : ℕ → Bool) (full : ℕ → Option (ℕ → Bool)) → n ≤ capacity → p ≡ cutTo n p
+      → among ≡ (λ u. (ltb u n && leb u highest) && not (p .solved u))
+      → ((u : ℕ) → u < n → (T (p .solved u) → ⊥) → try u ≡ full u)
+      → visited among try r p ≡ cutTo n (round full r p)
+  visited-round n among full h cut e same = progress-eq (visited among try r p) (cutTo n (round full r p)) (λ u. solved′ u (lt-or-ge u n)) (λ u. layer′ u (lt-or-ge u n)) (λ u. set′ u (lt-or-ge u n))
+    where
+      inside : (u : ℕ) → u < n → among u && isSome (try u) ≡ solvedNow full p u
+      inside u l = rw (e, ltb-yes u n l, is-true (leb u highest) (le→leb u highest (omega arith))) (by (dec (p .solved u)))
+        where
+          by : T (p .solved u) ⊎ (T (p .solved u) → ⊥) → not (p .solved u) && isSome (try u) ≡ not (p .solved u) && isSome (full u)
+          by (inl t) = rw (is-true (p .solved u) t)
+          by (inr f) = rw (same u l f)
+
+      outside : (u : ℕ) → n ≤ u → among u ≡ false
+      outside u l = rw (e, ltb-no u n l)
+
+      solved′ : (u : ℕ) → (u < n) ⊎ (n ≤ u) → p .solved u || (among u && isSome (try u)) ≡ ltb u n && (p .solved u || solvedNow full p u)
+      solved′ u (inl l) = ap (λ (b : Bool). p .solved u || b) (inside u l) ∙ sym (ap (λ (b : Bool). b && (p .solved u || solvedNow full p u)) (ltb-yes u n l))
+      solved′ u (inr l) =
+          ap (λ (b : Bool). p .solved u || (b && isSome (try u))) (outside u l) ∙ or-none (p .solved u) ∙ ap (λ (q : Progress). q .solved u) cut
+          ∙ ap (λ (b : Bool). b && p .solved u) (ltb-no u n l) ∙ sym (ap (λ (b : Bool). b && (p .solved u || solvedNow full p u)) (ltb-no u n l))
+
+      layer′ : (u : ℕ) → (u < n) ⊎ (n ≤ u) → cond (among u && isSome (try u)) r (p .layer u) ≡ cond (ltb u n) (cond (solvedNow full p u) r (p .layer u)) 0
+      layer′ u (inl l) = ap (λ (b : Bool). cond b r (p .layer u)) (inside u l) ∙ sym (ap (λ (b : Bool). cond b (cond (solvedNow full p u) r (p .layer u)) 0) (ltb-yes u n l))
+      layer′ u (inr l) =
+          ap (λ (b : Bool). cond (b && isSome (try u)) r (p .layer u)) (outside u l) ∙ ap (λ (q : Progress). q .layer u) cut
+          ∙ ap (λ (b : Bool). cond b (p .layer u) 0) (ltb-no u n l) ∙ sym (ap (λ (b : Bool). cond b (cond (solvedNow full p u) r (p .layer u)) 0) (ltb-no u n l))
+
+      given : (u : ℕ) → u < n → (b : Bool) → b ≡ solvedNow full p u → cond b (orNone (try u)) (p .set u) ≡ cond b (orNone (full u)) (p .set u)
+      given u l false q = refl
+      given u l true q = ap orNone (same u l (not-out (p .solved u) (and-l (not (p .solved u)) (isSome (full u)) (rw (← q) tt))))
+
+      set′ : (u : ℕ) → (u < n) ⊎ (n ≤ u) → cond (among u && isSome (try u)) (orNone (try u)) (p .set u) ≡ (λ v. ltb u n && cond (solvedNow full p u) (orNone (full u)) (p .set u) v)
+      set′ u (inl l) =
+          given u l (among u && isSome (try u)) (inside u l) ∙ ap (λ (b : Bool). cond b (orNone (full u)) (p .set u)) (inside u l)
+          ∙ sym (ap {B = ℕ → Bool} (λ (b : Bool) (v : ℕ). b && cond (solvedNow full p u) (orNone (full u)) (p .set u) v) (ltb-yes u n l))
+      set′ u (inr l) =
+          ap (λ (b : Bool). cond (b && isSome (try u)) (orNone (try u)) (p .set u)) (outside u l) ∙ ap (λ (q : Progress). q .set u) cut
+          ∙ ap {B = ℕ → Bool} (λ (b : Bool) (v : ℕ). b && p .set u v) (ltb-no u n l)
+          ∙ sym (ap {B = ℕ → Bool} (λ (b : Bool) (v : ℕ). b && cond (solvedNow full p u) (orNone (full u)) (p .set u) v) (ltb-no u n l))
+
+-- ---- one round after the other
+module _ (stops : Progress → Bool) (try : (ℕ → Bool) → ℕ → Option (ℕ → Bool)) (n : ℕ) where
+  stopped : (k r : ℕ) (s : Progress) → T (stops s) → rounds stops try n k r s ≡ s
+  unfolding rounds
+  stopped zero r s t = refl
+  stopped (suc k) r s t = rw (is-true (stops s) t)
+
+  idle : (k r : ℕ) (s : Progress) → anyBelow n (solvedNow (try (s .solved)) s) ≡ false → rounds stops try n k r s ≡ s
+  unfolding rounds
+  idle zero r s e = refl
+  idle (suc k) r s e = rw e (either (stops s))
+    where
+      either : (b : Bool) → cond b s s ≡ s
+      either true = refl
+      either false = refl
+
+  goes : (k r : ℕ) (s : Progress) → (T (stops s) → ⊥) → T (anyBelow n (solvedNow (try (s .solved)) s)) → rounds stops try n (suc k) r s ≡ rounds stops try n k (r + 1) (round (try (s .solved)) r s)
+  unfolding rounds
+  goes k r s f t = rw (is-false (stops s) f, is-true (anyBelow n (solvedNow (try (s .solved)) s)) t)
+
+  -- Before round r, with s found so far, the search is on its way to w: the rounds that are left lead there, and there are as
+  -- many as nodes can still be solved.
+  pub record Going (w : Progress) (r : ℕ) (s : Progress) : Type 0 where
+    pub cut : s ≡ cutTo n s
+    pub bound : ℕ
+    pub all : r + bound ≡ n + 1
+    pub unsolved : count n (λ u. not (s .solved u)) ≤ bound
+    pub same : SameProgress n (rounds stops try n bound r s) w
+
+  going-stop : (w : Progress) (r : ℕ) (s : Progress) → Going w r s → T (stops s) → s ≡ cutTo n w
+  going-stop w r s g t = g .cut ∙ cut-ext n s w (rw (stopped (g .bound) r s t) at (g .same))
+
+  -- what round r has made of s
+  module _ (w : Progress) (r : ℕ) (s t : Progress) (g : Going w r s) (e : t ≡ cutTo n (round (try (s .solved)) r s)) where
+    nothing-new : anyBelow n (solvedNow (try (s .solved)) s) ≡ false → t ≡ cutTo n s
+    nothing-new f = e ∙ cut-ext n (round (try (s .solved)) r s) s (record { solved = λ u l. rw (none′ u l) (or-none (s .solved u)); layer = λ u l. rw (none′ u l); set = λ u l. rw (none′ u l) })
+      where
+        none′ : (u : ℕ) → u < n → solvedNow (try (s .solved)) s u ≡ false
+        none′ u l = is-false (solvedNow (try (s .solved)) s u) (λ a. from-false (anyBelow n (solvedNow (try (s .solved)) s)) f (any-in n (solvedNow (try (s .solved)) s) u l a))
+
+    -- it has solved some node
+    going-new : allBelow capacity (λ u. not (t .solved u ⊕ s .solved u)) ≡ false → T (anyBelow n (solvedNow (try (s .solved)) s))
+    going-new f = go (dec (anyBelow n (solvedNow (try (s .solved)) s)))
+      where
+        go : T (anyBelow n (solvedNow (try (s .solved)) s)) ⊎ (T (anyBelow n (solvedNow (try (s .solved)) s)) → ⊥) → T (anyBelow n (solvedNow (try (s .solved)) s))
+        go (inl a) = a
+        go (inr a) =
+            let q : t ≡ s = nothing-new (is-false (anyBelow n (solvedNow (try (s .solved)) s)) a) ∙ sym (g .cut) in
+            absurd (both-ways (allBelow capacity (λ u. not (t .solved u ⊕ s .solved u)))
+            (is-true (allBelow capacity (λ u. not (t .solved u ⊕ s .solved u))) (all-in capacity (λ u. not (t .solved u ⊕ s .solved u)) (λ u l. rw (q, ⊕-self (s .solved u)) tt))) f)
+
+    -- it has solved nothing: the search is at its end
+    going-idle : n ≤ capacity → allBelow capacity (λ u. not (t .solved u ⊕ s .solved u)) ≡ true → t ≡ cutTo n w
+    going-idle h f = nothing-new quiet ∙ cut-ext n s w (rw (idle (g .bound) r s quiet) at (g .same))
+      where
+        as-before : (u : ℕ) → u < n → t .solved u ≡ s .solved u
+        as-before u l =
+            ⊕-eq (t .solved u) (s .solved u)
+            (is-false (t .solved u ⊕ s .solved u)
+            (not-out (t .solved u ⊕ s .solved u) (all-out capacity (λ u. not (t .solved u ⊕ s .solved u)) (from-true (allBelow capacity (λ u. not (t .solved u ⊕ s .solved u))) f) u (omega arith))))
+
+        quiet : anyBelow n (solvedNow (try (s .solved)) s) ≡ false
+        quiet = any-none n (solvedNow (try (s .solved)) s) (λ u l a. fresh-open (try (s .solved)) s u (now-solved u l a) a)
+          where
+            now-solved : (u : ℕ) → u < n → T (solvedNow (try (s .solved)) s u) → T (s .solved u)
+            now-solved u l a = rw (← as-before u l, cut-same n t (round (try (s .solved)) r s) e .solved u l) (or-r (s .solved u) (solvedNow (try (s .solved)) s u) a)
+
+    module _ (a : T (anyBelow n (solvedNow (try (s .solved)) s))) where
+      -- fewer nodes are unsolved
+      going-fewer : count n (λ u. not (t .solved u)) < count n (λ u. not (s .solved u))
+      going-fewer =
+          let f : count n (λ u. not (round (try (s .solved)) r s .solved u)) < count n (λ u. not (s .solved u)) = fewer stops try n r s a in
+          let q : count n (λ u. not (t .solved u)) ≡ count n (λ u. not (round (try (s .solved)) r s .solved u)) =
+          count-ext n (λ u. not (t .solved u)) (λ u. not (round (try (s .solved)) r s .solved u)) (λ u l. ap not (cut-same n t (round (try (s .solved)) r s) e .solved u l)) in
+          omega arith
+
+      going-on : ((x y : Progress) → SameProgress n x y → stops x ≡ stops y)
+          → ((gone gone′ : ℕ → Bool) → ((v : ℕ) → v < n → gone v ≡ gone′ v) → (u : ℕ) → u < n → try gone u ≡ try gone′ u)
+          → (T (stops s) → ⊥) → Going w (r + 1) t
+      going-on x y f = go (g .bound) (g .all) (g .unsolved) (g .same)
+        where
+          less : (k : ℕ) → count n (λ u. not (s .solved u)) ≤ k → count n (λ u. not (t .solved u)) < k
+          less k h = let q = going-fewer in omega arith
+
+          shift : (k : ℕ) → r + suc k ≡ n + 1 → r + 1 + k ≡ n + 1
+          shift k h = omega arith
+
+          few : (m k : ℕ) → m < suc k → m ≤ k
+          few m k h = omega arith
+
+          no-bound : (m : ℕ) → m < 0 → ⊥
+          no-bound m h = omega arith
+
+          go : (k : ℕ) → r + k ≡ n + 1 → count n (λ u. not (s .solved u)) ≤ k → SameProgress n (rounds stops try n k r s) w → Going w (r + 1) t
+          go zero b c d = absurd (no-bound (count n (λ u. not (t .solved u))) (less zero c))
+          go (suc k) b c d = record {
+            cut = cut-again n t (round (try (s .solved)) r s) e;
+            bound = k;
+            all = shift k b;
+            unsolved = few (count n (λ u. not (t .solved u))) k (less (suc k) c);
+            same = progress-trans (rounds-agree stops try n x y k (r + 1) t (round (try (s .solved)) r s) (cut-same n t (round (try (s .solved)) r s) e)) (rw (goes k r s f a) at d);
+          }
+
+  -- what a round has made of s, or left of it where the search stops
+  module _ (w : Progress) (r : ℕ) (s t : Progress) (g : Going w r s) (e : t ≡ advanced stops (try (s .solved)) n r s) where
+    abbrev unchanged : Bool
+    unchanged = allBelow capacity (λ u. not (t .solved u ⊕ s .solved u))
+
+    halted : T (stops s) → t ≡ s
+    halted q = e ∙ ap (λ (b : Bool). cond b s (cutTo n (round (try (s .solved)) r s))) (is-true (stops s) q)
+
+    went-on : (T (stops s) → ⊥) → t ≡ cutTo n (round (try (s .solved)) r s)
+    went-on f = e ∙ ap (λ (b : Bool). cond b s (cutTo n (round (try (s .solved)) r s))) (is-false (stops s) f)
+
+    -- nothing has changed: the search is at its end
+    pub going-end : n ≤ capacity → unchanged ≡ true → t ≡ cutTo n w
+    going-end h q = by (dec (stops s))
+      where
+        by : T (stops s) ⊎ (T (stops s) → ⊥) → t ≡ cutTo n w
+        by (inl y) = halted y ∙ going-stop w r s g y
+        by (inr f) = going-idle w r s t g (went-on f) h q
+
+    -- something has changed
+    module _ (q : unchanged ≡ false) where
+      goes-on : T (stops s) → ⊥
+      goes-on y = both-ways unchanged (is-true unchanged (all-in capacity (λ u. not (t .solved u ⊕ s .solved u)) (λ u l. rw (halted y, ⊕-self (s .solved u)) tt))) q
+
+      pub going-less : count n (λ u. not (t .solved u)) < count n (λ u. not (s .solved u))
+      going-less = going-fewer w r s t g (went-on goes-on) (going-new w r s t g (went-on goes-on) q)
+
+      pub going-next : ((x y : Progress) → SameProgress n x y → stops x ≡ stops y)
+          → ((gone gone′ : ℕ → Bool) → ((v : ℕ) → v < n → gone v ≡ gone′ v) → (u : ℕ) → u < n → try gone u ≡ try gone′ u)
+          → Going w (r + 1) t
+      going-next x y = going-on w r s t g (went-on goes-on) (going-new w r s t g (went-on goes-on) q) x y goes-on
+
+  pub going-start : ((x y : Progress) → SameProgress n x y → stops x ≡ stops y)
+      → ((gone gone′ : ℕ → Bool) → ((v : ℕ) → v < n → gone v ≡ gone′ v) → (u : ℕ) → u < n → try gone u ≡ try gone′ u)
+      → (s t : Progress) → s ≡ cutTo n t → Going (rounds stops try n n 1 t) 1 s
+  going-start x y s t e = record {
+    cut = cut-again n s t e;
+    bound = n;
+    all = omega arith;
+    unsolved = count-le n (λ u. not (s .solved u));
+    same = rounds-agree stops try n x y n 1 s t (cut-same n s t e);
+  }
+
+-- a node of a part that leaves out `plain` where it is no pivot, and is not in it, is one of these
+pub passed-plain : (all plain pivots part : ℕ → Bool) → part ≡ (λ u. all u && not (plain u && not (pivots u))) → (u : ℕ) → T (all u) → (T (part u) → ⊥) → {o : Option (ℕ → Bool)}
+    → (T (plain u) → (T (pivots u) → ⊥) → o ≡ none) → o ≡ none
+passed-plain all plain pivots part e u t f {o = o} h = by (dec (plain u && not (pivots u)))
+  where
+    by : T (plain u && not (pivots u)) ⊎ (T (plain u && not (pivots u)) → ⊥) → o ≡ none
+    by (inl q) = h (and-l (plain u) (not (pivots u)) q) (not-out (pivots u) (and-r (plain u) (not (pivots u)) q))
+    by (inr g) = absurd (f (subst (λ (p : ℕ → Bool). T (p u)) (sym e) (and-in (all u) (not (plain u && not (pivots u))) t (not-in (plain u && not (pivots u)) g))))

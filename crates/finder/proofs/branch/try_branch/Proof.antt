@@ -1,0 +1,60 @@
+use native.Mathlib.Omega.{arith}
+use mathlib.Core.Path.{ap, ap₂, _∙_}
+use mathlib.Core.Bool.{Bool, not, _&&_}
+use Prim.Native.Nat.{ℕ, _<_}
+use Rattle.nodes.specs.NodeSet.{capacity, member}
+use Rattle.solver.specs.BasisCalls.{formOf}
+use Rattle.flows.specs.Branch.{inSet, withNode}
+use Rattle.finder.proofs.Tries.{meets-one}
+use Rattle.finder.proofs.Tries.{round-tried, answer-same}
+use borrow.Author.Needs.{needs}
+use Rattle.finder.proofs.branch.try_branch.Statement.{statement}
+use Rattle.finder.proofs.branch.try_branch.Tie as tie
+
+union-requires : tie.Need-union-requires
+union-requires c κs = search needs
+
+side-of-requires : tie.Need-side-of-requires
+side-of-requires c κs = c .before .before .before .before .before .before .before .before .pre .1 .alone′
+
+meet-requires : tie.Need-meet-requires
+meet-requires c κs = search needs
+
+asked-columns-requires : tie.Need-asked-columns-requires
+asked-columns-requires c κs = let a = c .before .before .before .before .before .before .before .before .before .before .args in let p = c .before .before .before .before .before .before .before .before .before .before .pre in let low : a .u < capacity = omega (arith, p .0 .within .nodes, p .1 .node) in (p .1 .alone′, c .meet .ensures ∙ meets-one (member (c .before .before .union .result)) (member (a .alone)) (a .u) low (p .1 .alone′) ∙ ap (λ (f : ℕ → Bool). f (a .u)) (c .before .before .union .ensures))
+
+asked-odd-requires : tie.Need-asked-odd-requires
+asked-odd-requires c κs = let a = c .before .before .before .before .before .before .before .before .before .before .before .args in let p = c .before .before .before .before .before .before .before .before .before .before .before .pre in (omega (arith, p .0 .within .nodes, p .1 .node), p .1 .alone′)
+
+intersection-requires : tie.Need-intersection-requires
+intersection-requires c κs = search needs
+
+answer-requires : tie.Need-answer-requires
+answer-requires c κs = search needs
+
+with-node-requires : tie.Need-with-node-requires
+with-node-requires c κs = c .before .before .before .before .before .before .before .before .before .before .before .before .before .before .pre .1 .alone′
+
+returns : tie.Need-returns
+returns c = let a = c .before .before .before .before .before .before .before .before .before .before .before .before .before .before .before .args in let p = c .before .before .before .before .before .before .before .before .before .before .before .before .before .before .before .pre in let low : a .u < capacity = omega (arith, p .0 .within .nodes, p .1 .node) in
+    let rowed = c .before .before .before .before .before .meet .ensures ∙ meets-one (member (c .before .before .before .before .before .before .before .union .result)) (member (a .alone)) (a .u) low (p .1 .alone′) ∙ ap (λ (f : ℕ → Bool). f (a .u)) (c .before .before .before .before .before .before .before .union .ensures) in
+    c .with-node .ensures
+    ∙ ap (withNode (inSet (a .b)) (a .u)) (c .before .answer .ensures ∙ answer-same (formOf (a .echelon) (a .reduced .now) (a .preimage .now) (a .kernel .now))
+    (c .before .before .intersection .ensures ∙ ap₂ {C = ℕ → Bool} (λ (f g : ℕ → Bool) (v : ℕ). f v && g v) (c .before .before .before .before .before .before .side-of .ensures) (c .before .before .before .before .before .before .before .union .ensures))
+    (c .before .before .before .before .asked-columns .ensures)
+    (c .before .before .before .asked-odd .ensures ∙ ap₂ (λ (x : Bool) (f : ℕ → Bool). not x && f (a .u)) rowed (c .before .before .before .before .before .before .side-of .ensures)))
+    ∙ round-tried (a .n) (a .graph .now) (a .s) (a .echelon) (a .kernel .now) (a .reduced .now) (a .preimage .now) (a .transposed .now) (p .0) (a .u) (a .b) (p .1 .node) (p .1 .covered)
+
+pub try-branch-spec : {M : Type 1} → statement M
+try-branch-spec =
+    tie.close
+    (tie.spec
+    union-requires
+    side-of-requires
+    meet-requires
+    asked-columns-requires
+    asked-odd-requires
+    intersection-requires
+    answer-requires
+    with-node-requires
+    returns)

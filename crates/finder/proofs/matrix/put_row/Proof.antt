@@ -1,0 +1,28 @@
+use mathlib.Core.Path.{refl}
+use Rattle.finder.proofs.WorkMatrix.{row-put}
+use borrow.Author.Needs.{needs}
+use Rattle.finder.proofs.matrix.put_row.Statement.{statement}
+use Rattle.finder.proofs.matrix.put_row.Tie as tie
+
+mul-at : tie.Need-mul-at
+mul-at c = search needs
+
+put-word-requires : tie.Need-put-word-requires
+put-word-requires c κs = search needs
+
+add-put-word : tie.Need-add-put-word
+add-put-word c = search needs
+
+put-word-requires-2 : tie.Need-put-word-requires-2
+put-word-requires-2 c κs = search needs
+
+same-length : tie.Need-same-length
+same-length c = search needs
+
+returns : tie.Need-returns
+returns c = let a = c .before .before .before .before .before .before .before .before .before .args in row-put (a .row) _ _ (a .s) (a .work .now) (c .before .before .before .before .before .before .put-word .last .0) (c .before .before .put-word2 .last .0) refl refl (c .before .before .before .before .before .before .put-word .ensures) (c .before .before .put-word2 .ensures)
+
+pub put-row-spec : {M : Type 1} → statement M
+put-row-spec =
+    tie.close
+    (tie.spec mul-at put-word-requires add-put-word put-word-requires-2 same-length returns)

@@ -1,0 +1,84 @@
+use native.Mathlib.Omega.{arith}
+use borrow.Author.Needs.{needs}
+use mathlib.Core.Path.{sym, ap, _∙_}
+use Rattle.nodes.specs.Row.{anyBelow, count}
+use Rattle.nodes.specs.NodeSet.{capacity, member}
+use Rattle.nodes.proofs.Logic.{unless-in, unless-out}
+use Rattle.nodes.proofs.NodeSet.{none-left}
+use Rattle.nodes.proofs.Remove.{count-lowest}
+use Rattle.finder.proofs.WorkMatrix.{Growing, growing-start, growing-step, growing-end}
+use borrow.Author.Needs.{needs}
+use Rattle.finder.proofs.matrix.transpose.Statement.{statement}
+use Rattle.finder.proofs.matrix.transpose.Tie as tie
+
+abbrev Inv-loop : tie.InvT-loop
+Inv-loop graph columns transposed₀ known left₀ rows₀ transposed left rows = Growing graph (member known) (member left₀) (member left) rows transposed
+
+abbrev μ-loop : tie.MeasureT-loop
+μ-loop graph columns transposed₀ known left₀ rows₀ transposed left rows = count capacity (member left)
+
+difference-requires : tie.Need-difference-requires Inv-loop μ-loop
+difference-requires c κs = search needs
+
+loop-holds : tie.Need-loop-holds Inv-loop μ-loop
+loop-holds c = let a = c .before .before .before .before .before .args in growing-start (a .graph .now) (a .support) (member (a .columns)) (member (c .before .difference .result)) (a .transposed .now) (c .before .before .before .before .before .pre) (c .before .difference .ensures)
+
+is-empty-requires : tie.Need-is-empty-requires Inv-loop μ-loop
+is-empty-requires c κs = search needs
+
+lowest-requires : tie.Need-lowest-requires Inv-loop μ-loop
+lowest-requires c κs = search needs
+
+set-at-requires : tie.Need-set-at-requires Inv-loop μ-loop
+set-at-requires c κs = search needs
+
+first-requires : tie.Need-first-requires Inv-loop μ-loop
+first-requires c κs = search needs
+
+add-to-requires : tie.Need-add-to-requires Inv-loop μ-loop
+add-to-requires c κs = search needs
+
+union-requires : tie.Need-union-requires Inv-loop μ-loop
+union-requires c κs = search needs
+
+without-lowest-requires : tie.Need-without-lowest-requires Inv-loop μ-loop
+without-lowest-requires c κs = search needs
+
+loop-less : tie.Need-loop-less Inv-loop μ-loop
+loop-less c = let some = unless-in (c .before .before .before .before .before .before .before .before .before .before .is-empty .result) (anyBelow capacity (member (c .before .before .before .before .before .before .before .before .before .before .before .loop .left))) (c .before .before .before .before .before .before .before .before .before .before .is-empty .ensures) (c .before .before .before .before .before .before .before .before .before .if1 .taken) in omega (arith, count-lowest capacity (member (c .before .before .before .before .before .before .before .before .before .before .before .loop .left)) some, ap (count capacity) (c .without-lowest .ensures))
+
+loop-again : tie.Need-loop-again Inv-loop μ-loop
+loop-again c = let a = c .before .before .before .before .before .before .before .before .before .before .before .before .before .before .before .before .before .args in let l = c .before .before .before .before .before .before .before .before .before .before .before .loop in
+    growing-step (a .graph .now) (member (a .support .columns)) (member (c .before .before .before .before .before .before .before .before .before .before .before .before .before .difference .result)) (member (l .left)) (member (c .without-lowest .result)) (c .before .before .before .before .before .before .before .set-at .result) (c .before .before .before .before .before .first .result) (l .rows) (c .before .union .result) (c .before .before .before .before .before .before .before .before .lowest .result) (l .transposed) (c .before .before .before .before .add-to .last .0)
+    (unless-in (c .before .before .before .before .before .before .before .before .before .before .is-empty .result) (anyBelow capacity (member (c .before .before .before .before .before .before .before .before .before .before .before .loop .left))) (c .before .before .before .before .before .before .before .before .before .before .is-empty .ensures) (c .before .before .before .before .before .before .before .before .before .if1 .taken)) (c .before .before .before .before .before .before .before .before .lowest .ensures) (c .before .before .before .before .before .before .before .set-at .ensures) (c .before .before .before .before .before .first .ensures) (c .without-lowest .ensures) (c .before .before .before .before .add-to .ensures) (c .before .union .ensures) (l .inv)
+
+union-requires-2 : tie.Need-union-requires-2 Inv-loop μ-loop
+union-requires-2 c κs = search needs
+
+same-length : tie.Need-same-length Inv-loop μ-loop
+same-length c = c .before .before .before .loop .inv .size ∙ sym (c .before .before .before .before .before .before .before .before .before .pre .size)
+
+returns : tie.Need-returns Inv-loop μ-loop
+returns c = let a = c .before .before .before .before .before .before .before .before .before .args in let l = c .before .before .before .loop in let none = unless-out (c .before .before .is-empty .result) (anyBelow capacity (member (l .left))) (c .before .before .is-empty .ensures) (c .before .if1 .left) in
+    growing-end (a .graph .now) (member (a .support .columns)) (member (a .columns)) (member (c .before .before .before .before .before .difference .result)) (member (l .left)) _ (l .transposed) (none-left (l .left) none) (c .before .before .before .before .before .difference .ensures) (c .union2 .ensures) (l .inv)
+
+pub transpose-spec : {M : Type 1} → statement M
+transpose-spec =
+    tie.close
+    (tie.spec
+    Inv-loop
+    μ-loop
+    difference-requires
+    loop-holds
+    is-empty-requires
+    lowest-requires
+    set-at-requires
+    first-requires
+    add-to-requires
+    union-requires
+    without-lowest-requires
+    loop-less
+    loop-again
+    union-requires-2
+    same-length
+    returns)

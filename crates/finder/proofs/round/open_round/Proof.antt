@@ -1,0 +1,91 @@
+use native.Mathlib.Omega.{arith}
+use mathlib.Core.Path.{_∙_, subst}
+use mathlib.Core.Bool.{Bool}
+use Prim.Native.Nat.{ℕ}
+use lib.Dec.{T}
+use Rattle.nodes.specs.NodeSet.{member}
+use Rattle.nodes.proofs.Logic.{and-l}
+use Rattle.finder.proofs.Tries.{rows-room, laid-answers, form-ready, form-refused}
+use borrow.Author.Needs.{needs}
+use Rattle.finder.proofs.round.open_round.Statement.{statement}
+use Rattle.finder.proofs.round.open_round.Tie as tie
+
+intersection-requires : tie.Need-intersection-requires
+intersection-requires c κs = search needs
+
+fill-requires : tie.Need-fill-requires
+fill-requires c κs = let a = c .before .before .before .before .before .before .before .before .before .before .args in let p = c .before .before .before .before .before .before .before .before .before .before .pre in let i = c .before .before .before .intersection in omega (arith, rows-room (record { columns = a .s .columns; upper = i .result; lower = a .s .lower }) (λ v t l. p .1 v (and-l (member (a .s .upper) v) (member (a .rows) v) (subst (λ (f : ℕ → Bool). T (f v)) (i .ensures) t)) l), p .0)
+
+form-requires : tie.Need-form-requires
+form-requires c κs = search needs
+
+enum-known-formed : tie.Need-enum-known-formed
+enum-known-formed c = search needs
+
+enum-told : tie.Need-enum-told
+enum-told c = search needs
+
+empty-requires : tie.Need-empty-requires
+empty-requires c κs = search needs
+
+empty-requires-2 : tie.Need-empty-requires-2
+empty-requires-2 c κs = search needs
+
+same-length : tie.Need-same-length
+same-length c = search needs
+
+same-length-2 : tie.Need-same-length-2
+same-length-2 c = search needs
+
+same-length-3 : tie.Need-same-length-3
+same-length-3 c = search needs
+
+same-length-4 : tie.Need-same-length-4
+same-length-4 c = search needs
+
+returns : tie.Need-returns
+returns c = let a = c .before .before .before .before .before .before .before .before .before .before .before .before .before .before .before .before .before .before .before .before .before .before .before .before .before .before .before .args in let p = c .before .before .before .before .before .before .before .before .before .before .before .before .before .before .before .before .before .before .before .before .before .before .before .before .before .before .before .pre in let i = c .before .before .before .before .before .before .before .before .before .before .before .before .before .before .before .before .before .before .before .before .intersection in let g = c .before .before .before .before .before .before .before .before .before .before .before .before .before .before .before .before .fill in let f = c .before .before .before .before .before .before .before .before .before .form in let m = c .before .formed .given in
+    let z = form-ready (f .result) (m .0 .0) (g .last .0) (member (i .result)) (member (a .s .lower)) (member (a .s .columns)) (a .kernel .now) (a .reduced .now) (a .preimage .now) (f .last .1 .1 .1 .1 .0) (f .last .1 .1 .1 .1 .1 .0) (f .last .1 .1 .1 .1 .1 .1 .0) (m .1) (f .ensures .1) in (
+      laid-answers (a .transposed .now) (g .last .0) (a .s) (i .result) (a .rows) (i .ensures) (p .3) (g .ensures .0) (g .ensures .1 .0) (m .0 .0) _ _ _ z,
+      (g .ensures .1 .1 ∙ p .0, (z .kernelSize, z .reducedSize, z .preimageSize)),
+    )
+
+same-length-5 : tie.Need-same-length-5
+same-length-5 c = search needs
+
+same-length-6 : tie.Need-same-length-6
+same-length-6 c = search needs
+
+same-length-7 : tie.Need-same-length-7
+same-length-7 c = search needs
+
+same-length-8 : tie.Need-same-length-8
+same-length-8 c = search needs
+
+returns-2 : tie.Need-returns-2
+returns-2 c = let a = c .before .before .before .before .before .before .before .before .before .before .before .before .before .before .before .before .before .before .before .before .before .before .before .before .before .before .before .before .args in let p = c .before .before .before .before .before .before .before .before .before .before .before .before .before .before .before .before .before .before .before .before .before .before .before .before .before .before .before .before .pre in let i = c .before .before .before .before .before .before .before .before .before .before .before .before .before .before .before .before .before .before .before .before .before .intersection in let g = c .before .before .before .before .before .before .before .before .before .before .before .before .before .before .before .before .before .fill in let f = c .before .before .before .before .before .before .before .before .before .before .form in
+    let room = rows-room (record { columns = a .s .columns; upper = i .result; lower = a .s .lower }) (λ v t l. p .1 v (and-l (member (a .s .upper) v) (member (a .rows) v) (subst (λ (f : ℕ → Bool). T (f v)) (i .ensures) t)) l) in
+    absurd (form-refused (f .result) (g .last .0) (member (i .result)) (member (a .s .lower)) (a .kernel .now) (a .reduced .now) (a .preimage .now) (c .before .before .enum-told .given .0 .0) (c .before .before .enum-told .given .1) (f .ensures .0)
+    (omega (arith, room, p .0, g .ensures .1 .1)) (p .2 .0) (p .2 .1) (p .2 .2))
+
+pub open-round-spec : {M : Type 1} → statement M
+open-round-spec =
+    tie.close
+    (tie.spec
+    intersection-requires
+    fill-requires
+    form-requires
+    enum-known-formed
+    enum-told
+    empty-requires
+    empty-requires-2
+    same-length
+    same-length-2
+    same-length-3
+    same-length-4
+    returns
+    same-length-5
+    same-length-6
+    same-length-7
+    same-length-8
+    returns-2)

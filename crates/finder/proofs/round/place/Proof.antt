@@ -1,0 +1,66 @@
+use lib.ListN.{length, length-set}
+use mathlib.Core.Bool.{Bool, _||_}
+use Prim.Native.Nat.{ℕ}
+use Rattle.nodes.proofs.SetTable.{put-length}
+use Rattle.solver.specs.declared.column_basis.Solution.{Solution}
+use Rattle.nodes.specs.NodeSet.{member}
+use mathlib.Core.Path.{refl, sym, ap, _∙_}
+use Rattle.solver.specs.BasisCalls.{solutionOf}
+use Rattle.finder.specs.Visits.{placed, progressIn}
+use Rattle.finder.proofs.Searches.{place-none, place-some}
+use borrow.Author.Needs.{needs}
+use Rattle.finder.proofs.round.place.Statement.{statement}
+use Rattle.finder.proofs.round.place.Tie as tie
+
+enum-known-t : tie.Need-enum-known-t
+enum-known-t c = search needs
+
+mul-layers : tie.Need-mul-layers
+mul-layers c = search needs
+
+slice-write-layers : tie.Need-slice-write-layers
+slice-write-layers c = search needs
+
+put-set-requires : tie.Need-put-set-requires
+put-set-requires c κs = search needs
+
+union-requires : tie.Need-union-requires
+union-requires c κs = search needs
+
+enum-told : tie.Need-enum-told
+enum-told c = search needs
+
+same-length : tie.Need-same-length
+same-length c = search needs
+
+same-length-2 : tie.Need-same-length-2
+same-length-2 c = search needs
+
+returns : tie.Need-returns
+returns c = let a = c .before .before .before .before .before .before .before .before .before .before .args in let p = c .before .before .before .before .before .before .before .before .before .before .pre in let t = c .before .before .before .before .before .before .t .given in (
+  place-some (a .solved) (a .layers .now) (a .sets .now) (a .u) (a .r) (p .0) (p .2) (p .3) _ _ _ (c .union .ensures ∙ ap {B = ℕ → Bool} (λ (f : ℕ → Bool) (v : ℕ). member (a .solved) v || f v) (p .1)) (c .before .before .before .put-set .ensures)
+      ∙ ap (λ (t : Solution). placed (a .u) (a .r) (solutionOf t) (progressIn (a .solved) (a .layers .now) (a .sets .now))) (sym (t .1)),
+  (length-set (a .layers .now) (a .u) (a .r) ∙ p .2, ap length (c .before .before .before .put-set .ensures) ∙ put-length (a .sets .now) (a .u) _ refl ∙ p .3),
+)
+
+returns-2 : tie.Need-returns-2
+returns-2 c = let a = c .before .before .before .before .args in let p = c .before .before .before .before .pre in (
+  place-none (a .solved) (a .layers .now) (a .sets .now) (a .u) (a .r)
+      ∙ ap (λ (t : Solution). placed (a .u) (a .r) (solutionOf t) (progressIn (a .solved) (a .layers .now) (a .sets .now))) (sym (c .enum-told .given .1)),
+  (p .2, p .3),
+)
+
+pub place-spec : {M : Type 1} → statement M
+place-spec =
+    tie.close
+    (tie.spec
+    enum-known-t
+    mul-layers
+    slice-write-layers
+    put-set-requires
+    union-requires
+    enum-told
+    same-length
+    same-length-2
+    returns
+    returns-2)
