@@ -19,11 +19,11 @@ use Rattle.flows.specs.Job.{Job}
 use Rattle.flows.specs.Search.{Progress}
 use Rattle.flows.specs.Planes as Planes
 use Rattle.flows.specs.Paulis as Paulis
-use Rattle.finder.specs.Finder.{jobIn, sizesFit, layerBytes, setTable, progressAt}
-use Rattle.finder.specs.Finding.{isPlane, planesGiven, searchOf, searched, searchCall}
-use Rattle.finder.specs.declared.gflow.Search.{Search}
-use Rattle.finder.specs.declared.gflow.Search.the-variants.{Flow, NoFlow, WrongArguments}
+use Rattle.finder.specs.Searches.{jobIn, sizesFit, layersOf, setTable, progressAt, isPlane, planesGiven, searchOf, searched, searchCall}
+use Rattle.finder.specs.declared.search.Search.{Search}
+use Rattle.finder.specs.declared.search.Search.the-variants.{Flow, NoFlow, Refused}
 use Rattle.finder.proofs.Below.{progress-below}
+use Rattle.answers.specs.declared.Refusal as Code
 use Rattle.answers.specs.Answer.{Refusal, Answer, gives, refuses, refusal}
 use Rattle.answers.proofs.Answer.{give-inj, never}
 use Rattle.records.specs.Records.{written, kindNoFlow}
@@ -53,8 +53,8 @@ module _ (b : Bool) (r : Search) (e : searchOf r ≡ gives b) where
   pub told-none : r ≡ NoFlow → b ≡ false
   told-none h = sym (give-inj (rw h at e))
 
-  pub told-right : r ≡ WrongArguments → ⊥
-  told-right h = never (rw h at e)
+  pub told-right : (q : Code.Refusal) → r ≡ Refused q → ⊥
+  told-right q h = never (rw h at e)
 
 -- ---- a job that was read
 module _ (f : JobFile) (valid : ValidJob f) where
@@ -121,7 +121,7 @@ module _ (n mode : ℕ) (graph measured : List ℕ) (inputs outputs : NodeSet) w
       by false = under (Paulis.progress j .layer u) (paulis-most-layer j u)
 
   pub flow-written : n ≤ capacity → allBelow n (progressOf .solved) ≡ true
-      → recordsFor n (member outputs) (layerBytes n progressOf) (setTable n progressOf) ≡ flowBytes j (search mode j)
+      → recordsFor n (member outputs) (layersOf n progressOf) (setTable n progressOf) ≡ flowBytes j (search mode j)
   flow-written few a =
       found-written n few progressOf j refl (λ u l. layer-small few u) (progress-below pauli j) (λ u. (ltb u n && leb u highest) && not (member outputs u)) refl
       ∙ by (eqb mode modePlanes) a

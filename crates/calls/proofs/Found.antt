@@ -24,20 +24,20 @@ use Rattle.nodes.proofs.Lists.{length-listOf, getD-listOf, is-listOf}
 use Rattle.nodes.proofs.Digits.{bit-digits}
 use Rattle.flows.specs.Job.{Job}
 use Rattle.flows.specs.Search.{Progress}
-use Rattle.finder.specs.Finder.{layerBytes, setTable}
+use Rattle.finder.specs.Searches.{layersOf, setTable}
 use Rattle.finder.proofs.Below.{Below}
 use Rattle.records.specs.FlowFile.{SetEntry}
 use Rattle.records.specs.Encoding.{flowFileBytes, entriesFor}
 use Rattle.records.specs.Writing.{flowRecords, flowBytes}
-use Rattle.records.specs.Writing.{layerBytes as byteEach}
+use Rattle.records.specs.Writing.{layerBytes}
 use Rattle.records.proofs.Records.{and-out}
 use Rattle.records.proofs.Writing.{list-all, layers-same, members-under}
 
 module _ (n : ℕ) (few : n ≤ capacity) (p : Progress) where
-  layers-found : take n (layerBytes n p) ≡ listOf n (p .layer)
+  layers-found : take n (layersOf n p) ≡ listOf n (p .layer)
   layers-found =
-      is-listOf (take n (layerBytes n p)) n (p .layer) (length-take-le n (layerBytes n p) (omega (arith, length-listOf capacity (λ u. cond (ltb u n) (p .layer u) 0)))) (λ k h.
-      getD-take n (layerBytes n p) k 0 h ∙ getD-listOf capacity (λ u. cond (ltb u n) (p .layer u) 0) k (omega arith)
+      is-listOf (take n (layersOf n p)) n (p .layer) (length-take-le n (layersOf n p) (omega (arith, length-listOf capacity (λ u. cond (ltb u n) (p .layer u) 0)))) (λ k h.
+      getD-take n (layersOf n p) k 0 h ∙ getD-listOf capacity (λ u. cond (ltb u n) (p .layer u) 0) k (omega arith)
       ∙ ap (λ (b : Bool). cond b (p .layer k) 0) (ltb-yes k n h))
 
   set-found : (u : ℕ) → u < n → Below n (p .set u) → setAt (setTable n p) u ≡ p .set u
@@ -79,12 +79,12 @@ module _ (n : ℕ) (few : n ≤ capacity) (p : Progress) where
       ∙ members-ext n (λ u. (ltb u n && leb u highest) && not (output u)) (λ u. not (output u)) (λ k g. ap (λ (b : Bool). b && not (output k)) (sym (below-within k n highest few) ∙ ltb-yes k n g))
 
   -- today's record of layers has a byte for each, and no layer needs more
-  layers-written : ((u : ℕ) → u < n → p .layer u < 256) → byteEach (take n (layerBytes n p)) ≡ listOf n (p .layer)
-  layers-written small = ap byteEach layers-found ∙ layers-same (listOf n (p .layer)) (list-all n (p .layer) (λ b. ltb b 256) (λ k l. lt-ltb (p .layer k) 256 (small k l)))
+  layers-written : ((u : ℕ) → u < n → p .layer u < 256) → layerBytes (take n (layersOf n p)) ≡ listOf n (p .layer)
+  layers-written small = ap layerBytes layers-found ∙ layers-same (listOf n (p .layer)) (list-all n (p .layer) (λ b. ltb b 256) (λ k l. lt-ltb (p .layer k) 256 (small k l)))
 
   pub found-written : (j : Job) → j .nodes ≡ n → ((u : ℕ) → u < n → p .layer u < 256) → ((u : ℕ) → u < n → Below n (p .set u))
       → (s : ℕ → Bool) → s ≡ (λ u. (ltb u n && leb u highest) && not (j .output u))
-      → flowRecords (byteEach (take n (layerBytes n p))) capacity (setAt (setTable n p)) (members capacity s) ≡ flowBytes j (some p)
+      → flowRecords (layerBytes (take n (layersOf n p))) capacity (setAt (setTable n p)) (members capacity s) ≡ flowBytes j (some p)
   found-written j e small h s q =
       ap₂ (λ (l us : List ℕ). flowRecords l capacity (setAt (setTable n p)) us) (layers-written small) (nodes-found s (j .output) q)
       ∙ ap (λ (es : List SetEntry). flowFileBytes (record { layers = listOf n (p .layer); sets = es; after = [] })) (sets-found h (members n (λ u. not (j .output u))) (members-under n (λ u. not (j .output u))))

@@ -12,7 +12,7 @@ use Rattle.nodes.specs.SetTable.{setAt, setWords}
 use Rattle.nodes.specs.declared.utils.NodeSet.{NodeSet}
 use Rattle.flows.specs.Job.{Job}
 use Rattle.flows.specs.Conditions.{memberExcused, oddExcused, yAsked}
-use Rattle.finder.specs.Finder.{jobIn}
+use Rattle.finder.specs.Searches.{jobIn}
 use Rattle.answers.specs.Answer.{Refusal, Answer, _>>_}
 use Rattle.records.specs.JobFile.{JobFile, measuredOf, jobOf, modePauli}
 use Rattle.records.specs.FlowFile.{FlowFile, Flow, nothingLeft, oneMember, flowOf}

@@ -7,7 +7,7 @@ ghost use lib.ListN.{length};
 ghost use Rattle.nodes.specs.NodeSet.{member, capacity};
 ghost use Rattle.nodes.specs.SetTable.{tableWords};
 ghost use Rattle.nodes.specs.Lists.{zeros};
-ghost use Rattle.finder.specs.Finding.{planesGiven, searchOf, searchCall};
+ghost use Rattle.finder.specs.Searches.{planesGiven, searchOf, searchCall};
 ghost use Rattle.answers.specs.Answer.{gives};
 ghost use Rattle.records.specs.JobFile.{readJob, modePlanes, modePauli};
 ghost use Rattle.records.specs.Views.{jobAt, JobInFile};
@@ -24,7 +24,7 @@ use crate::load::load_job;
 use crate::write_bare;
 use answers::Refusal;
 use finder::gflow;
-use finder::gflow::Search;
+use finder::search::Search;
 use finder::pflow;
 use nodes::utils::CAPACITY;
 use nodes::utils::NodeSet;
@@ -97,8 +97,8 @@ fn find_loaded(
     ) {
         Search::Flow => write_found(n, outputs, &layers, &sets, out),
         Search::NoFlow => write_bare(out, KIND_NO_FLOW),
-        // No job comes here: the reader's questions and those before the search see to the arguments.
-        Search::WrongArguments => write_bare(out, KIND_NO_FLOW),
+        // No job comes here: the questions before the search see to the arguments.
+        Search::Refused(q) => Reply::Refused(q),
     }
 }
 

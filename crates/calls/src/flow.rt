@@ -3,7 +3,7 @@ ghost use mathlib.Core.Path.{_≡_};
 ghost use Prim.Native.Nat.{_≤_, _<_};
 ghost use mathlib.Core.List.{[]};
 ghost use Rattle.nodes.specs.NodeSet.{capacity};
-ghost use Rattle.finder.specs.Finder.{jobIn};
+ghost use Rattle.finder.specs.Searches.{jobIn};
 ghost use Rattle.records.specs.JobFile.{modeCausal};
 ghost use Rattle.verdicts.specs.Verdict.{each, causalAsk, definitionAsk, checkDefinition};
 ghost use Rattle.calls.specs.Loaded.{flowIn, noNodes, askedOf};

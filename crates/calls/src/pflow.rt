@@ -5,7 +5,7 @@ ghost use Prim.Native.Nat.{_≤_, _<_};
 ghost use lib.Dec.{eqb};
 ghost use Rattle.nodes.specs.NodeSet.{member, capacity};
 ghost use Rattle.flows.specs.Job.{own};
-ghost use Rattle.finder.specs.Finder.{jobIn};
+ghost use Rattle.finder.specs.Searches.{jobIn};
 ghost use Rattle.records.specs.JobFile.{modeCausal};
 ghost use Rattle.verdicts.specs.Verdict.{ask, _next_, each, definitionAsk, checkDefinition};
 ghost use Rattle.calls.specs.Loaded.{flowIn, noNodes, askedOf, firstIn, ExcusedBy};

@@ -9,7 +9,7 @@ ghost use Rattle.nodes.specs.Row.{parity};
 ghost use Rattle.nodes.specs.NodeSet.{member, highest, capacity};
 ghost use Rattle.nodes.specs.SetTable.{setAt};
 ghost use Rattle.flows.specs.Job.{own};
-ghost use Rattle.finder.specs.Finder.{jobIn};
+ghost use Rattle.finder.specs.Searches.{jobIn};
 ghost use Rattle.verdicts.specs.Verdict.{ask, each, measuredAsk, inputAsk, domainAsk, checkDomain, checkInitial};
 ghost use Rattle.records.specs.JobFile.{modePauli};
 ghost use Rattle.calls.specs.Loaded.{flowIn, noNodes, within, askedOf, firstIn};

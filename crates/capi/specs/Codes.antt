@@ -39,7 +39,7 @@ pub record CodedBits : Type 0 where
   pub code : ℕ
   pub out : List ℕ
 
-abbrev pub codedBits : Solver.Outcome → CodedBits
+abbrev pub codedBits : Solver.SolveOutcome → CodedBits
 codedBits o = record { code = answerCode (counted (o .answer)); out = o .out }
 
 -- ---- what a program in C reads off a code: number, a and b as the header has them

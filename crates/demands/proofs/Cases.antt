@@ -10,7 +10,7 @@ use Rattle.nodes.specs.Bit.{bit, digits}
 use Rattle.nodes.specs.Row.{parity, anyBelow, allBelow, count, lowestFrom, membersFrom}
 use Rattle.solver.specs.System.{solve}
 use Rattle.solver.specs.WorkMatrix.{entryOf}
-use Rattle.solver.specs.Solver.{fits, bothFit, wellShaped, solveAsks}
+use Rattle.solver.specs.Solver.{matrixFits, bothFit, wellShaped, solveAsks}
 use Rattle.flows.specs.Job.{Job, odd, own, planeXY, planeYZ, planeXZ}
 use Rattle.flows.specs.Branch.{branches, firstSolvable}
 use Rattle.flows.specs.Search.{rounds}
@@ -169,7 +169,7 @@ accepted-flow job flow f g reads ends inputs r a = (
 -- ---- all claims; what is answered is computed
 all-hold : AllHold cases × AllHold differences
 unfolding
-    bit parity anyBelow allBelow count lowestFrom membersFrom solve entryOf digits listOf fits bothFit wellShaped solveAsks own branches firstSolvable rounds
+    bit parity anyBelow allBelow count lowestFrom membersFrom solve entryOf digits listOf matrixFits bothFit wellShaped solveAsks own branches firstSolvable rounds
     lengthField part checked written all has rises pairsRise allows allAllowed openingAsks edgesAsks nodesAsks measurementsAsks readJob joined
     entriesIn allEntries entriesRise entryBytes layersAsks setsAsks readFlow setIn entryIn ask eachFrom nodeAsk causalAsk verify entriesFor findAsks verifyAsks findProgram verifyProgram equal
 all-hold = (

@@ -10,7 +10,7 @@ use lib.Dec.{T, eqb, ltb, eqb→eq}
 use lib.ListN.{take, length}
 use Rattle.nodes.proofs.Logic.{is-false, not-out, eqb-yes, and-all, lt-or-ge}
 use Rattle.nodes.specs.Options.{isSome}
-use Rattle.solver.specs.System.{Solves, IsAnswer, solve}
+use Rattle.solver.specs.System.{Solves, BasicSolution, solve}
 use Rattle.solver.proofs.System.{solvable-some, answer-unique}
 use Rattle.flows.specs.Job.{Job}
 use Rattle.flows.specs.Branch.{Context, branches, systemAt, sideAt, inSet, withNode, tryBranch}
@@ -66,7 +66,7 @@ module _ (f : JobFile) (s : Progress) (found : FoundAt (jobOf f) (eqb (modeOf f)
     written-set : (k : ℕ) → k < j .nodes → flowOf g .set u k ≡ s .set u k
     written-set k l = found-set j s u k (m .0) l ∙ rw (is-false (j .output u) (m .1))
 
-    module _ (x : ℕ → Bool) (a : IsAnswer (systemAt j (contextAt j pauli later u)) (j .nodes) (sideAt j u (first .branch)) x) (w : s .set u ≡ (λ k. x k || inSet (first .branch) && eqb k u)) where
+    module _ (x : ℕ → Bool) (a : BasicSolution (systemAt j (contextAt j pauli later u)) (j .nodes) (sideAt j u (first .branch)) x) (w : s .set u ≡ (λ k. x k || inSet (first .branch) && eqb k u)) where
       x-u : x u ≡ false
       x-u = is-false (x u) (λ t. no-column-u j pauli later u (a .within u t .1))
 
@@ -95,7 +95,7 @@ module _ (f : JobFile) (s : Progress) (found : FoundAt (jobOf f) (eqb (modeOf f)
         row = first .row;
         unsolvable = λ b t. none-solves j (contextAt j pauli later u) u b (first .unsolvable b t);
         self = own-member;
-        answer = subst (IsAnswer (systemAt j (contextAt j pauli later u)) (j .nodes) (sideAt j u (first .branch))) (sym the-others) a;
+        answer = subst (BasicSolution (systemAt j (contextAt j pauli later u)) (j .nodes) (sideAt j u (first .branch))) (sym the-others) a;
         only = λ y b. answer-unique (systemAt j (contextAt j pauli later u)) (j .nodes) (sideAt j u (first .branch)) y x b a ∙ sym the-others;
       }
 

@@ -51,7 +51,7 @@ answers solvable (refuses r) = false
 abbrev pub bits : ℕ → ℕ → List ℕ
 bits first other = first ∷ listOf 15 (λ k. other)
 
-abbrev pub leaves : Bool → List ℕ → Solver.Outcome → Bool
+abbrev pub leaves : Bool → List ℕ → Solver.SolveOutcome → Bool
 leaves solvable out o = answers solvable (o .answer) && equal (o .out) out
 
 abbrev pub holds : Case → Bool

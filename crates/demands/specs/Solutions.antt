@@ -5,7 +5,7 @@ use mathlib.Core.Bool.{Bool, not, _&&_}
 use mathlib.Core.List.{List, _∷_, _++_}
 use lib.Dec.{T, eqb}
 use lib.ListN.{take}
-use Rattle.solver.specs.System.{System, Solves, IsAnswer}
+use Rattle.solver.specs.System.{System, Solves, BasicSolution}
 use Rattle.flows.specs.Branch.{Context, branches, systemAt, sideAt, inSet}
 use Rattle.flows.specs.Search.{laterThan}
 use Rattle.flows.specs.Tries.{contextAt}
@@ -36,8 +36,8 @@ pub record TheSolution (f : JobFile) (g : FlowFile) (u : ℕ) : Type 0 where
   pub row : branches (jobOf f .measured u) ≡ earlier ++ (branch ∷ later)
   pub unsolvable : (b : ℕ) → T (has earlier b) → (x : ℕ → Bool) → Solves (systemIn f g u) (f .n) (sideAt (jobOf f) u b) x → ⊥
   pub self : flowOf g .set u u ≡ inSet branch
-  pub answer : IsAnswer (systemIn f g u) (f .n) (sideAt (jobOf f) u branch) (others g u)
-  pub only : (x : ℕ → Bool) → IsAnswer (systemIn f g u) (f .n) (sideAt (jobOf f) u branch) x → x ≡ others g u
+  pub answer : BasicSolution (systemIn f g u) (f .n) (sideAt (jobOf f) u branch) (others g u)
+  pub only : (x : ℕ → Bool) → BasicSolution (systemIn f g u) (f .n) (sideAt (jobOf f) u branch) x → x ≡ others g u
 
 -- of each entry of the flow file that a finder's call wrote
 abbrev pub Demand2 : Type 0

@@ -12,7 +12,7 @@ use Rattle.nodes.specs.Row.{parity}
 use Rattle.nodes.proofs.Logic.{is-true, is-false, from-true, dec, and-l, and-r, or-out, not-in, not-out, eqb-no, eqb-yes, and-none, and-all, and-comm, or-none, ⊕-none, ⊕-&&}
 use Rattle.nodes.proofs.Row.{parity-ext, parity-⊕, parity-one, ltb-yes, ltb-no}
 use Rattle.nodes.specs.Options.{isSome}
-use Rattle.solver.specs.System.{Solves, IsAnswer, solve}
+use Rattle.solver.specs.System.{Solves, BasicSolution, solve}
 use Rattle.solver.proofs.System.{solvable-some}
 use Rattle.flows.specs.Job.{Job, odd}
 use Rattle.flows.specs.Branch.{Context, inSet, inOdd, entryAt, systemAt, sideAt, withNode, tryBranch}
@@ -146,7 +146,7 @@ module _ (j : Job) where
             go (some y) t = tt
 
       -- an answer, with u where the branch has it, fits
-      module _ (no-column : T (c .column u) → ⊥) (x : ℕ → Bool) (a : IsAnswer (systemAt j c) (j .nodes) (sideAt j u b) x) where
+      module _ (no-column : T (c .column u) → ⊥) (x : ℕ → Bool) (a : BasicSolution (systemAt j c) (j .nodes) (sideAt j u b) x) where
         abbrev whole : ℕ → Bool
         whole k = x k || inSet b && eqb k u
 

@@ -12,7 +12,7 @@ use Rattle.nodes.proofs.Logic.{is-true, is-false, dec, and-l, and-r, and-in, or
 use Rattle.nodes.proofs.Row.{parity-none, any-in, any-out, any-ext}
 use Rattle.nodes.proofs.Count.{Within}
 use Rattle.nodes.specs.Options.{isSome, firstOf}
-use Rattle.solver.specs.System.{IsAnswer, solve}
+use Rattle.solver.specs.System.{BasicSolution, solve}
 use Rattle.solver.proofs.System.{solve-answer, Agree, solve-ext}
 use Rattle.flows.specs.Job.{Job, odd, own}
 use Rattle.flows.specs.Branch.{Context, inSet, inOdd, branches, systemAt, sideAt, withNode, tryBranch, firstSolvable, tryNode}
@@ -121,11 +121,11 @@ has-in (a ∷ l) b r = or-r (eqb a b) (has (l ++ (b ∷ r)) b) (has-in l b r)
 
 -- the answer of the solver behind a branch's set
 pub branch-answer : (j : Job) (c : Context) (u b : ℕ) (set : ℕ → Bool) → tryBranch j c u b ≡ some set
-    → (x : ℕ → Bool) × IsAnswer (systemAt j c) (j .nodes) (sideAt j u b) x × (set ≡ (λ k. x k || inSet b && eqb k u))
+    → (x : ℕ → Bool) × BasicSolution (systemAt j c) (j .nodes) (sideAt j u b) x × (set ≡ (λ k. x k || inSet b && eqb k u))
 branch-answer j c u b set e = go (solve (systemAt j c) (j .nodes) (sideAt j u b)) (solve-answer (systemAt j c) (j .nodes) (sideAt j u b)) e
   where
-    go : (o : Option (ℕ → Bool)) → ((x : ℕ → Bool) → o ≡ some x → IsAnswer (systemAt j c) (j .nodes) (sideAt j u b) x) → withNode (inSet b) u o ≡ some set
-        → (x : ℕ → Bool) × IsAnswer (systemAt j c) (j .nodes) (sideAt j u b) x × (set ≡ (λ k. x k || inSet b && eqb k u))
+    go : (o : Option (ℕ → Bool)) → ((x : ℕ → Bool) → o ≡ some x → BasicSolution (systemAt j c) (j .nodes) (sideAt j u b) x) → withNode (inSet b) u o ≡ some set
+        → (x : ℕ → Bool) × BasicSolution (systemAt j c) (j .nodes) (sideAt j u b) x × (set ≡ (λ k. x k || inSet b && eqb k u))
     go none f e = absurd (Option·none-ne-some _ e)
     go (some x) f e = (x, f x refl, sym (Option·some-injective _ _ e))
 

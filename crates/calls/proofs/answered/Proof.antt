@@ -2,8 +2,6 @@ use Prim.Native.Nat.{_-_}
 use mathlib.Core.Path.{sym, ap}
 use borrow.Author.Needs.{needs}
 use Rattle.records.specs.Splice.{putOf}
-use Rattle.records.specs.declared.writer.Put.{Put}
-use Rattle.calls.specs.Replies.{putReply}
 use Rattle.calls.proofs.answered.Statement.{statement}
 use Rattle.calls.proofs.answered.Tie as tie
 
@@ -14,10 +12,10 @@ enum-told : tie.Need-enum-told
 enum-told c = search needs
 
 returns : tie.Need-returns
-returns c = sym (ap (λ (x : Put). putReply (putOf x)) (c .before .put .given .1))
+returns c = sym (ap putOf (c .before .put .given .1))
 
 returns-2 : tie.Need-returns-2
-returns-2 c = sym (ap (λ (x : Put). putReply (putOf x)) (c .enum-told .given .1))
+returns-2 c = sym (ap putOf (c .enum-told .given .1))
 
 pub answered-spec : {M : Type 1} → statement M
 answered-spec = tie.close (tie.spec enum-known-put enum-told returns returns-2)

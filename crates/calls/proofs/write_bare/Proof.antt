@@ -1,7 +1,6 @@
 use Prim.Native.Nat.{_-_}
-use mathlib.Core.Path.{ap, _∙_}
+use mathlib.Core.Path.{_∙_}
 use borrow.Author.Needs.{needs}
-use Rattle.calls.specs.Replies.{putReply}
 use Rattle.calls.proofs.write_bare.Statement.{statement}
 use Rattle.calls.proofs.write_bare.Tie as tie
 
@@ -18,7 +17,7 @@ same-length : tie.Need-same-length
 same-length c = search needs
 
 returns : tie.Need-returns
-returns c = (c .answered .ensures ∙ ap putReply (c .before .before .before .write-record .ensures .0), c .before .before .before .write-record .ensures .1)
+returns c = (c .answered .ensures ∙ c .before .before .before .write-record .ensures .0, c .before .before .before .write-record .ensures .1)
 
 pub write-bare-spec : {M : Type 1} → statement M
 write-bare-spec =

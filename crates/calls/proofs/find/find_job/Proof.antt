@@ -10,8 +10,8 @@ use lib.ListN.{replicate, length-replicate}
 use Rattle.nodes.specs.Row.{allBelow}
 use Rattle.nodes.specs.NodeSet.{member, capacity}
 use Rattle.flows.specs.Search.{Progress}
-use Rattle.finder.specs.Finder.{progressAt}
-use Rattle.finder.specs.Finding.{Outcome, searchOf, searched, searchCall}
+use Rattle.finder.specs.Searches.{progressAt}
+use Rattle.finder.specs.Searches.{Outcome, searchOf, searched, searchCall}
 use Rattle.records.specs.JobFile.{JobFile, Measured, modePlanes, jobOf}
 use Rattle.records.specs.Views.{bytesAt, jobAt}
 use Rattle.records.specs.Splice.{putFront, putAnswer}

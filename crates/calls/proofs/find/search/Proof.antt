@@ -3,7 +3,7 @@ use mathlib.Core.Path.{sym, ap, _∙_}
 use mathlib.Core.Bool.{Bool, not}
 use borrow.Author.Tests.{eq-eqb, ne-eqb}
 use borrow.Author.Needs.{needs}
-use Rattle.finder.specs.Finding.{searchCall}
+use Rattle.finder.specs.Searches.{searchCall}
 use Rattle.records.specs.JobFile.{modePlanes}
 use Rattle.calls.proofs.find.search.Statement.{statement}
 use Rattle.calls.proofs.find.search.Tie as tie

@@ -1,3 +1,8 @@
+use Prim.Native.Nat.{_-_, _≤_}
+use mathlib.Core.Path.{_≡_}
+use native.Mathlib.Omega.{arith}
+use lib.ListN.{length}
+use Rattle.calls.proofs.Loaded.{FirstIn, first-none, first-more, first-all}
 use Rattle.calls.proofs.load.load_layers.Statement.{statement}
 use Rattle.calls.proofs.load.load_layers.Tie as tie
 use Rattle.calls.proofs.load.load_layers.Reads as reads
@@ -5,50 +10,50 @@ use Rattle.calls.proofs.load.load_layers.Lts as lts
 use borrow.Author.Needs.{needs}
 
 abbrev Inv-loop : tie.InvT-loop
-Inv-loop bytes to₀ i₀ to i = ?
+Inv-loop bytes to₀ i₀ to i = (i ≤ length bytes) × (length to ≡ length to₀) × FirstIn bytes to i
 
 abbrev μ-loop : tie.MeasureT-loop
-μ-loop bytes to₀ i₀ to i = ?
+μ-loop bytes to₀ i₀ to i = length bytes - i
 
 -- src/load.rt:121:5
 loop-holds : tie.Need-loop-holds Inv-loop μ-loop
-loop-holds c = ?
+loop-holds c = search needs
 
 -- src/load.rt:122:17
 shared-slice-read-to : tie.Need-shared-slice-read-to Inv-loop μ-loop
-shared-slice-read-to c = ?
+shared-slice-read-to c = search needs
 
 -- src/load.rt:122:17
 cast-to : tie.Need-cast-to Inv-loop μ-loop
-cast-to c = ?
+cast-to c = search needs
 
 -- src/load.rt:122:9
 mul-to : tie.Need-mul-to Inv-loop μ-loop
-mul-to c = ?
+mul-to c = search needs
 
 -- src/load.rt:122:9
 slice-write-to : tie.Need-slice-write-to Inv-loop μ-loop
-slice-write-to c = ?
+slice-write-to c = search needs
 
 -- src/load.rt:123:9
 add-i : tie.Need-add-i Inv-loop μ-loop
-add-i c = ?
+add-i c = search needs
 
 -- src/load.rt:121:5
 loop-less : tie.Need-loop-less Inv-loop μ-loop
-loop-less c = ?
+loop-less c = search needs
 
 -- src/load.rt:121:5
 loop-again : tie.Need-loop-again Inv-loop μ-loop
-loop-again c = ?
+loop-again c = search needs
 
 -- src/load.rt:116:1
 same-length : tie.Need-same-length Inv-loop μ-loop
-same-length c = ?
+same-length c = search needs
 
 -- src/load.rt:116:1
 returns : tie.Need-returns Inv-loop μ-loop
-returns c = ?
+returns c = search needs
 
 pub load-layers-spec : {M : Type 1} → statement M
 load-layers-spec =

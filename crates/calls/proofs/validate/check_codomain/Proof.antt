@@ -8,7 +8,7 @@ use Rattle.nodes.specs.NodeSet.{member, capacity}
 use Rattle.nodes.specs.SetTable.{setAt}
 use Rattle.nodes.proofs.SetTable.{set-past}
 use Rattle.nodes.proofs.Logic.{is-true, is-false, unless-in, unless-out}
-use Rattle.finder.specs.Finder.{jobIn}
+use Rattle.finder.specs.Searches.{jobIn}
 use Rattle.answers.specs.Answer.{Refusal}
 use Rattle.verdicts.specs.Verdict.{each, eachFrom, inputAsk}
 use Rattle.calls.specs.Loaded.{flowIn, noNodes}

@@ -2,7 +2,7 @@ use mathlib.Core.Path.{_≡_, sym, ap, _∙_}
 use mathlib.Core.List.{[]}
 use Prim.Native.Nat.{_-_, _≤_}
 use native.Mathlib.Omega.{arith}
-use Rattle.finder.specs.Finder.{jobIn}
+use Rattle.finder.specs.Searches.{jobIn}
 use Rattle.verdicts.specs.Verdict.{each, eachFrom, layerAsk}
 use Rattle.calls.specs.Loaded.{flowIn, noNodes, askedOf}
 use Rattle.calls.proofs.Asking.{each-start, each-end, each-no, each-yes}
@@ -41,7 +41,7 @@ returns c = let k = c .before .before in
     let l = b .before .before .loop in
     let a = b .before .before .before .before .args in
     let f = layerAsk (jobIn (a .n) [] noNodes (a .outputs) []) (flowIn (a .layers .now) noNodes []) (a .mode) in
-    let here : f (l .u) ≡ askedOf (k .check-layer .result) = sym (k .check-layer .ensures ∙ rw (h .has .ensures, b .byte-at .ensures)) in
+    let here : f (l .u) ≡ askedOf (k .check-layer .result) = sym (k .check-layer .ensures ∙ rw (h .has .ensures, b .layer-at .ensures)) in
     let t = ap askedOf (c .enum-told2 .given .1) in
     t ∙ sym (l .inv .1 ∙ each-no (a .n) (l .u) f (omega arith) _ (here ∙ t))
 
@@ -58,7 +58,7 @@ loop-again c = let k = c .before .before in
     let l = b .before .before .loop in
     let a = b .before .before .before .before .args in
     let f = layerAsk (jobIn (a .n) [] noNodes (a .outputs) []) (flowIn (a .layers .now) noNodes []) (a .mode) in
-    let here : f (l .u) ≡ askedOf (k .check-layer .result) = sym (k .check-layer .ensures ∙ rw (h .has .ensures, b .byte-at .ensures)) in
+    let here : f (l .u) ≡ askedOf (k .check-layer .result) = sym (k .check-layer .ensures ∙ rw (h .has .ensures, b .layer-at .ensures)) in
     (search needs, l .inv .1 ∙ each-yes (a .n) (l .u) f (omega arith) (here ∙ ap askedOf (c .enum-told .given .1)))
 
 returns-2 : tie.Need-returns-2 Inv-loop μ-loop

@@ -2,12 +2,15 @@ use mathlib.Core.Path.{_≡_, sym, ap, _∙_, fun-ext}
 use mathlib.Core.Option.{some}
 use mathlib.Core.List.{[]}
 use Prim.Native.Nat.{ℕ}
+use native.Mathlib.Omega.{arith}
 use lib.ListN.{getD}
 use borrow.Author.Tests.{not-true, not-false}
-use Rattle.nodes.specs.Row.{lowest}
-use Rattle.nodes.specs.NodeSet.{member, wordsOf}
+use Rattle.nodes.specs.Row.{anyBelow, lowest}
+use Rattle.nodes.specs.NodeSet.{member, capacity, wordsOf}
+use Rattle.nodes.proofs.Logic.{from-true}
+use Rattle.nodes.proofs.Members.{lowest-some}
 use Rattle.nodes.proofs.NodeSet.{member-past}
-use Rattle.finder.specs.Finder.{jobIn}
+use Rattle.finder.specs.Searches.{jobIn}
 use Rattle.verdicts.specs.Verdict.{each, measuredAsk}
 use Rattle.calls.specs.Loaded.{flowIn, noNodes, firstIn}
 use Rattle.calls.proofs.Asking.{first-none, first-some}
@@ -51,7 +54,7 @@ lowest-requires : tie.Need-lowest-requires
 lowest-requires c κs = search needs
 
 cast-t10 : tie.Need-cast-t10
-cast-t10 c = search needs
+cast-t10 c = omega (arith, c .lowest .ensures, lowest-some capacity (member (c .before .before .before .difference .result)) (from-true (anyBelow capacity (member (c .before .before .before .difference .result))) (not-false _ (sym (c .before .before .is-empty .ensures) ∙ c .before .if1 .left))))
 
 returns-2 : tie.Need-returns-2
 returns-2 c = let e = c .before .before in

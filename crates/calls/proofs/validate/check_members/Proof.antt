@@ -8,7 +8,7 @@ use Rattle.nodes.specs.Row.{anyBelow}
 use Rattle.nodes.specs.NodeSet.{member, capacity}
 use Rattle.nodes.specs.SetTable.{setAt}
 use Rattle.nodes.proofs.SetTable.{set-past}
-use Rattle.finder.specs.Finder.{jobIn}
+use Rattle.finder.specs.Searches.{jobIn}
 use Rattle.verdicts.specs.Verdict.{each, eachFrom, domainAsk}
 use Rattle.calls.specs.Loaded.{flowIn, noNodes}
 use Rattle.calls.proofs.Asking.{each-start, each-end, each-no, each-yes, ask-yes, ask-no}

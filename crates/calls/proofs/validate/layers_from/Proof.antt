@@ -1,49 +1,55 @@
+use mathlib.Core.Path.{_≡_, ap, ap₂, _∙_, fun-ext}
+use mathlib.Core.Bool.{Bool, _&&_, _||_}
+use Prim.Native.Nat.{ℕ, _-_, _≤_}
+use native.Mathlib.Omega.{arith}
+use lib.Dec.{eqb, leb}
+use lib.ListN.{getD}
+use Rattle.nodes.specs.NodeSet.{member, highest}
+use Rattle.calls.specs.Loaded.{within}
+use Rattle.calls.proofs.AskingNodes.{from-none, from-more}
+use borrow.Author.Needs.{needs}
 use Rattle.calls.proofs.validate.layers_from.Statement.{statement}
 use Rattle.calls.proofs.validate.layers_from.Tie as tie
-use Rattle.calls.proofs.validate.layers_from.Reads as reads
-use Rattle.calls.proofs.validate.layers_from.Lts as lts
-use Rattle.calls.proofs.validate.layer_at.Reads as layer-at-reads
-use Rattle.calls.proofs.validate.with_if.Reads as with-if-reads
-use Rattle.nodes.proofs.utils.NodeSet.empty.Reads as empty-reads
-use borrow.Author.Needs.{needs}
 
 abbrev Inv-loop : tie.InvT-loop
-Inv-loop n layers low s₀ v₀ s v = ?
+Inv-loop n layers low s₀ v₀ s v = (v ≤ n) × ((u : ℕ) → member s u ≡ within v u && leb low (getD layers u 0))
 
 abbrev μ-loop : tie.MeasureT-loop
-μ-loop n layers low s₀ v₀ s v = ?
+μ-loop n layers low s₀ v₀ s v = n - v
 
--- src/validate.rt:82:9
 empty-requires : tie.Need-empty-requires Inv-loop μ-loop
-empty-requires c κs = ?
+empty-requires c κs = search needs
 
--- src/validate.rt:84:5
 loop-holds : tie.Need-loop-holds Inv-loop μ-loop
-loop-holds c = ?
+loop-holds c = let a = c .before .before .args in (search needs, λ u. ap (λ (f : ℕ → Bool). f u) (c .empty .ensures) ∙ from-none (λ k. getD (a .layers .now) k 0) (a .low) u)
 
--- src/validate.rt:85:13
 layer-at-requires : tie.Need-layer-at-requires Inv-loop μ-loop
-layer-at-requires c κs = ?
+layer-at-requires c κs = search needs
 
--- src/validate.rt:86:9
 with-if-requires : tie.Need-with-if-requires Inv-loop μ-loop
-with-if-requires c κs = ?
+with-if-requires c κs = search needs
 
--- src/validate.rt:87:9
 add-v : tie.Need-add-v Inv-loop μ-loop
-add-v c = ?
+add-v c = search needs
 
--- src/validate.rt:84:5
 loop-less : tie.Need-loop-less Inv-loop μ-loop
-loop-less c = ?
+loop-less c = search needs
 
--- src/validate.rt:84:5
 loop-again : tie.Need-loop-again Inv-loop μ-loop
-loop-again c = ?
+loop-again c = let b = c .before .layer-at in
+    let l = c .before .before .before .loop in
+    let a = c .before .before .before .before .before .before .args in (
+      search needs,
+      λ u. ap (λ (f : ℕ → Bool). f u) (c .with-if .ensures)
+          ∙ ap₂ (λ (x : Bool) (y : ℕ). x || (leb (a .low) y && (eqb u (l .v) && leb (l .v) highest))) (l .inv .1 u) (b .ensures)
+          ∙ from-more (λ k. getD (a .layers .now) k 0) (a .low) (l .v) u,
+    )
 
--- src/validate.rt:78:1
 returns : tie.Need-returns Inv-loop μ-loop
-returns c = ?
+returns c = let l = c .before .loop in
+    let a = c .before .before .before .before .args in
+    let e : l .v ≡ a .n = omega arith in
+    fun-ext (λ u. l .inv .1 u ∙ ap (λ (k : ℕ). within k u && leb (a .low) (getD (a .layers .now) u 0)) e)
 
 pub layers-from-spec : {M : Type 1} → statement M
 layers-from-spec =

@@ -1,6 +1,6 @@
 use mathlib.Core.Path.{_≡_, sym, ap, _∙_}
 use Rattle.flows.specs.Job.{Job}
-use Rattle.finder.specs.Finder.{jobIn}
+use Rattle.finder.specs.Searches.{jobIn}
 use Rattle.records.specs.FlowFile.{Flow}
 use Rattle.verdicts.specs.Verdict.{nodeAsk, causalAsk, checkDefinition, verify}
 use Rattle.calls.specs.Loaded.{flowIn, askedOf}
