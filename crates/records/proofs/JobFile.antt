@@ -6,7 +6,7 @@ use mathlib.Core.Logic.{_⊎_, inl, inr}
 use mathlib.Core.List.{List, [], _∷_}
 use native.Mathlib.Omega.{arith}
 use native.Mathlib.Nat.{not-suc-le-zero, le-of-suc-le-suc}
-use borrow.Author.Tests.{leb-true, ltb-true, eqb-true, le-leb, lt-ltb, eq-eqb}
+use borrow.Author.Tests.{leb-true, ltb-true, eqb-true, le-leb, lt-ltb, eq-eqb, ne-eqb}
 use lib.Dec.{T, eqb, ltb, leb, eqb→eq}
 use lib.ListN.{length, getD, List·getD-eq-default}
 use Rattle.nodes.proofs.Logic.{is-false, and-l, and-r, or-out, or-comm, lt-or-ge}
@@ -69,29 +69,71 @@ pub measurements-in : (n mode : ℕ) (output : ℕ → Bool) (p : List ℕ) → 
 unfolding measurementsAsks
 measurements-in n mode output p a b = rw (eq-eqb (length p) n a, b)
 
+-- ---- lists that rise, and measurements that are allowed: their laws, by which all else goes
+pub rises-none : (low : ℕ) → rises low [] ≡ true
+unfolding rises
+rises-none low = refl
+
+pub rises-out : (low x : ℕ) (l : List ℕ) → rises low (x ∷ l) ≡ true → (low ≤ x) × (rises (x + 1) l ≡ true)
+unfolding rises
+rises-out low x l a = let (p, q) = and-out (leb low x) (rises (x + 1) l) a in (leb-true low x p, q)
+
+pub rises-in : (low x : ℕ) (l : List ℕ) → low ≤ x → rises low (x ∷ l) ≡ rises (x + 1) l
+unfolding rises
+rises-in low x l h = rw (le-leb low x h)
+
+pub pairs-out : (low a b : ℕ) (l : List ℕ) → pairsRise low (a ∷ b ∷ l) ≡ true → (a < b) × (low ≤ 256 * a + b) × (pairsRise (256 * a + b + 1) l ≡ true)
+unfolding pairsRise
+pairs-out low a b l h =
+    let (p, q) = and-out (ltb a b && leb low (256 * a + b)) (pairsRise (256 * a + b + 1) l) h in
+    let (r, t) = and-out (ltb a b) (leb low (256 * a + b)) p in
+    (ltb-true a b r, leb-true low (256 * a + b) t, q)
+
+pub output-out : (mode m : ℕ) → allows mode true m ≡ true → m ≡ 0
+unfolding allows
+output-out mode m e = eqb-true m 0 e
+
+pub measured-out : (mode m : ℕ) → allows mode false m ≡ true → (1 ≤ m) × (m ≤ highestOf mode)
+unfolding allows
+measured-out mode m e = let (p, q) = and-out (leb 1 m) (leb m (highestOf mode)) e in (leb-true 1 m p, leb-true m (highestOf mode) q)
+
+pub allows-in : (mode m : ℕ) → m ≤ highestOf mode → allows mode (eqb m 0) m ≡ true
+unfolding allows
+allows-in mode zero h = refl
+allows-in mode (suc m) h = rw (ne-eqb (suc m) 0 (λ e. omega arith), le-leb 1 (suc m) (omega arith), le-leb (suc m) (highestOf mode) h)
+
+pub allowed-none : (mode : ℕ) (output : ℕ → Bool) (i : ℕ) → allAllowed mode output i [] ≡ true
+unfolding allAllowed
+allowed-none mode output i = refl
+
+pub allowed-cons : (mode : ℕ) (output : ℕ → Bool) (i m : ℕ) (l : List ℕ) → allAllowed mode output i (m ∷ l) ≡ allows mode (output i) m && allAllowed mode output (i + 1) l
+unfolding allAllowed
+allowed-cons mode output i m l = refl
+
+pub allowed-each : (mode : ℕ) (output : ℕ → Bool) (i m : ℕ) (l : List ℕ) → allAllowed mode output i (m ∷ l) ≡ true → (allows mode (output i) m ≡ true) × (allAllowed mode output (i + 1) l ≡ true)
+allowed-each mode output i m l a = and-out (allows mode (output i) m) (allAllowed mode output (i + 1) l) (sym (allowed-cons mode output i m l) ∙ a)
+
 -- ---- how long lists of nodes and of pairs can be
 pub rises-length : (low n : ℕ) (l : List ℕ) → low ≤ n → all (λ v. ltb v n) l ≡ true → rises low l ≡ true → length l + low ≤ n
-unfolding all rises
+unfolding all
 rises-length low n [] h a b = omega arith
 rises-length low n (x ∷ l) h a b =
     let (p, q) = and-out (ltb x n) (all (λ v. ltb v n) l) a in
-    let (r, t) = and-out (leb low x) (rises (x + 1) l) b in
+    let (le, t) = rises-out low x l b in
     let lx : x < n = ltb-true x n p in
-    let le : low ≤ x = leb-true low x r in
     let ih : length l + (x + 1) ≤ n = rises-length (x + 1) n l (omega arith) q t in
     omega arith
 
 pub pairs-length : (low n : ℕ) (l : List ℕ) → n ≤ 256 → low ≤ 65536 → all (λ v. ltb v n) l ≡ true → pairsRise low l ≡ true → length l + 2 * low ≤ 131073
-unfolding all pairsRise
+unfolding all
 pairs-length low n [] k h a b = omega arith
 pairs-length low n (x ∷ []) k h a b = omega arith
 pairs-length low n (x ∷ y ∷ l) k h a b =
     let (p, q) = and-out (ltb x n) (all (λ v. ltb v n) (y ∷ l)) a in
     let (p2, q2) = and-out (ltb y n) (all (λ v. ltb v n) l) q in
-    let (r, t) = and-out (ltb x y && leb low (256 * x + y)) (pairsRise (256 * x + y + 1) l) b in
+    let (lt, le, t) = pairs-out low x y l b in
     let lx : x < n = ltb-true x n p in
     let ly : y < n = ltb-true y n p2 in
-    let le : low ≤ 256 * x + y = leb-true low (256 * x + y) (and-out (ltb x y) (leb low (256 * x + y)) r .1) in
     let ih : length l + 2 * (256 * x + y + 1) ≤ 131073 = pairs-length (256 * x + y + 1) n l k (omega arith) q2 t in
     omega arith
 
@@ -160,12 +202,12 @@ joined-below n (a ∷ b ∷ l) u v h t =
     by x y (inr (inr t)) ih = ih t
 
 loop-free : (low : ℕ) (l : List ℕ) (u : ℕ) → pairsRise low l ≡ true → T (joined l u u) → ⊥
-unfolding pairsRise joined
+unfolding joined
 loop-free low [] u h t = t
 loop-free low (a ∷ []) u h t = t
 loop-free low (a ∷ b ∷ l) u h t =
-    let (p, q) = and-out (ltb a b && leb low (256 * a + b)) (pairsRise (256 * a + b + 1) l) h in
-    by (ltb-true a b (and-out (ltb a b) (leb low (256 * a + b)) p .0)) (joined-out a b l u u t) (loop-free (256 * a + b + 1) l u q)
+    let (lt, le, q) = pairs-out low a b l h in
+    by lt (joined-out a b l u u t) (loop-free (256 * a + b + 1) l u q)
   where
     apart : a < b → a ≡ u → b ≡ u → ⊥
     apart x y z = omega arith
@@ -181,19 +223,17 @@ no-loop low l u h = is-false (joined l u u) (loop-free low l u h)
 
 -- the byte of a node
 pub allowed-at : (mode : ℕ) (output : ℕ → Bool) (i : ℕ) (l : List ℕ) (k : ℕ) → allAllowed mode output i l ≡ true → k < length l → allows mode (output (i + k)) (getD l k 0) ≡ true
-unfolding allAllowed
 allowed-at mode output i [] k a h = absurd (not-suc-le-zero h)
 allowed-at mode output i (m ∷ l) zero a h =
     let e : i + 0 ≡ i = omega arith in
-    ap (λ (x : ℕ). allows mode (output x) m) e ∙ and-out (allows mode (output i) m) (allAllowed mode output (i + 1) l) a .0
+    ap (λ (x : ℕ). allows mode (output x) m) e ∙ allowed-each mode output i m l a .0
 allowed-at mode output i (m ∷ l) (suc k) a h =
     let e : i + suc k ≡ i + 1 + k = omega arith in
-    ap (λ (x : ℕ). allows mode (output x) (getD l k 0)) e ∙ allowed-at mode output (i + 1) l k (and-out (allows mode (output i) m) (allAllowed mode output (i + 1) l) a .1) (le-of-suc-le-suc h)
+    ap (λ (x : ℕ). allows mode (output x) (getD l k 0)) e ∙ allowed-at mode output (i + 1) l k (allowed-each mode output i m l a .1) (le-of-suc-le-suc h)
 
 allows-below : (mode : ℕ) (output : Bool) (m : ℕ) → allows mode output m ≡ true → m < highestOf mode + 1
-unfolding allows
-allows-below mode true m e = omega (arith, eqb-true m 0 e)
-allows-below mode false m e = omega (arith, leb-true m (highestOf mode) (and-out (leb 1 m) (leb m (highestOf mode)) e .1))
+allows-below mode true m e = omega (arith, output-out mode m e)
+allows-below mode false m e = omega (arith, measured-out mode m e .1)
 
 highest-most : (mode : ℕ) → highestOf mode ≤ 6
 highest-most mode = by (eqb mode modeCausal) (eqb mode modePlanes)
@@ -207,10 +247,10 @@ pub allows-most : (mode : ℕ) (output : Bool) (m : ℕ) → allows mode output 
 allows-most mode output m e = omega (arith, allows-below mode output m e, highest-most mode)
 
 pub allowed-below : (mode : ℕ) (output : ℕ → Bool) (i : ℕ) (l : List ℕ) → allAllowed mode output i l ≡ true → all (λ v. ltb v (highestOf mode + 1)) l ≡ true
-unfolding allAllowed all
+unfolding all
 allowed-below mode output i [] a = refl
 allowed-below mode output i (m ∷ l) a =
-    let (p, q) = and-out (allows mode (output i) m) (allAllowed mode output (i + 1) l) a in
+    let (p, q) = allowed-each mode output i m l a in
     rw (lt-ltb m (highestOf mode + 1) (allows-below mode (output i) m p), allowed-below mode output (i + 1) l q)
 
 module _ (f : JobFile) (v : ValidJob f) where
@@ -222,15 +262,10 @@ module _ (f : JobFile) (v : ValidJob f) where
 
   -- a node that is measured has a byte from 1 to the highest of the mode
   pub measured-range : (u : ℕ) → u < f .n → jobOf f .output u ≡ false → (1 ≤ jobOf f .measured u) × (jobOf f .measured u ≤ highestOf (f .mode))
-  unfolding allows
-  measured-range u h o =
-      let a : leb 1 (jobOf f .measured u) && leb (jobOf f .measured u) (highestOf (f .mode)) ≡ true = rw o at (byte-allowed u h) in
-      let (p, q) = and-out (leb 1 (jobOf f .measured u)) (leb (jobOf f .measured u) (highestOf (f .mode))) a in
-      (leb-true 1 (jobOf f .measured u) p, leb-true (jobOf f .measured u) (highestOf (f .mode)) q)
+  measured-range u h o = measured-out (f .mode) (jobOf f .measured u) (rw o at (byte-allowed u h))
 
   pub output-zero : (u : ℕ) → u < f .n → jobOf f .output u ≡ true → jobOf f .measured u ≡ 0
-  unfolding allows
-  output-zero u h o = eqb-true (jobOf f .measured u) 0 (rw o at (byte-allowed u h))
+  output-zero u h o = output-out (f .mode) (jobOf f .measured u) (rw o at (byte-allowed u h))
 
   pub measured-most : (u : ℕ) → jobOf f .measured u ≤ 6
   measured-most u = by (lt-or-ge u (f .n))

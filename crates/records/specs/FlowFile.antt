@@ -46,7 +46,7 @@ allEntries p [] = true
 allEntries p (e ∷ es) = p e && allEntries p es
 
 -- the nodes and the members below n
-abbrev pub entryBelow : ℕ → SetEntry → Bool
+unfoldable pub entryBelow : ℕ → SetEntry → Bool
 entryBelow n e = ltb (e .node) n && nodesBelow n (e .set)
 
 -- nodes strictly ascending from `low` on, and the members of each entry

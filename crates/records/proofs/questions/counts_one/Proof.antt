@@ -5,7 +5,7 @@ use native.Mathlib.Omega.{arith}
 use lib.Dec.{eqb}
 use lib.ListN.{length, getD, drop}
 use Rattle.records.specs.FlowFile.{entriesOf, framed, listed, allEntries}
-use Rattle.records.proofs.ReadingEntries.{fits, framed-next, one-no, one-next, one-last}
+use Rattle.records.proofs.ReadingEntries.{fits, framed-next, one-no, one-next, each-last}
 use borrow.Author.Needs.{needs}
 use Rattle.records.proofs.questions.counts_one.Statement.{statement}
 use Rattle.records.proofs.questions.counts_one.Tie as tie
@@ -65,7 +65,7 @@ returns-2 : tie.Need-returns-2 Inv-loop μ-loop
 returns-2 c =
     let l = c .before .loop in
     let p = c .before .before .args .sets .now in
-    sym (l .inv .2 ∙ one-last p (l .i) (omega arith))
+    sym (l .inv .2 ∙ each-last (λ x. eqb (length (x .set)) 1) p (l .i) (omega arith))
 
 pub counts-one-spec : {M : Type 1} → statement M
 counts-one-spec =

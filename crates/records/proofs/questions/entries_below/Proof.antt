@@ -5,7 +5,7 @@ use native.Mathlib.Omega.{arith}
 use lib.ListN.{length, getD, drop}
 use borrow.Author.Tests.{not-true, not-false}
 use Rattle.records.specs.FlowFile.{entriesOf, framed, listed, allEntries, entryBelow}
-use Rattle.records.proofs.ReadingEntries.{fits, framed-next, below-node, below-set, below-next, below-last}
+use Rattle.records.proofs.ReadingEntries.{fits, framed-next, below-node, below-set, below-next, each-last}
 use borrow.Author.Needs.{needs}
 use Rattle.records.proofs.questions.entries_below.Statement.{statement}
 use Rattle.records.proofs.questions.entries_below.Tie as tie
@@ -69,7 +69,7 @@ returns-2 c =
     let p = c .before .before .before .before .before .before .before .before .before .before .before .args .sets .now in
     let y = fits-here (c .before .before .before .before .before .before .before .before) in
     let w = c .before .before .before .before .before .before .number .ensures .0 in
-    sym (l .inv .2 ∙ below-set p (l .i) _ (ap (λ (x : ℕ). l .i + 2 + x) w) (omega arith) (l .inv .1) (c .before .before .before .before .before .before .before .before .before .before .before .args .n) (omega arith) (sym (c .before .below .ensures) ∙ not-true _ (c .if2 .taken)))
+    sym (l .inv .2 ∙ below-set p (l .i) _ (ap (λ (x : ℕ). l .i + 2 + x) w) (omega arith) (l .inv .1) (c .before .before .before .before .before .before .before .before .before .before .before .args .n) (sym (c .before .below .ensures) ∙ not-true _ (c .if2 .taken)))
 
 loop-less : tie.Need-loop-less Inv-loop μ-loop
 loop-less c = search needs
@@ -89,7 +89,7 @@ returns-3 : tie.Need-returns-3 Inv-loop μ-loop
 returns-3 c =
     let l = c .before .loop in
     let p = c .before .before .before .args .sets .now in
-    sym (l .inv .2 ∙ below-last p (l .i) (c .before .before .before .args .n) (omega arith))
+    sym (l .inv .2 ∙ each-last (entryBelow (c .before .before .before .args .n)) p (l .i) (omega arith))
 
 pub entries-below-spec : {M : Type 1} → statement M
 entries-below-spec =

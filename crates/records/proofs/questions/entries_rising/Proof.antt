@@ -69,7 +69,7 @@ returns-2 c =
     let p = c .before .before .before .before .before .before .before .before .before .before .before .args .sets .now in
     let y = fits-here (c .before .before .before .before .before .before .before .before) in
     let w = c .before .before .before .before .number2 .ensures .0 in
-    sym (l .inv .2 ∙ rise-set p (l .i) _ (ap (λ (x : ℕ). l .i + 2 + x) w) (omega arith) (l .inv .1) (l .low) (omega arith) (sym (c .before .rising .ensures) ∙ not-true _ (c .if2 .taken)))
+    sym (l .inv .2 ∙ rise-set p (l .i) _ (ap (λ (x : ℕ). l .i + 2 + x) w) (omega arith) (l .inv .1) (l .low) (sym (c .before .rising .ensures) ∙ not-true _ (c .if2 .taken)))
 
 add-low : tie.Need-add-low Inv-loop μ-loop
 add-low c = search needs
