@@ -11,12 +11,13 @@ use borrow.Author.Tests.{leb-true, ltb-true, eqb-true, le-leb, lt-leb, lt-ltb, l
 use lib.Dec.{T, eqb, ltb, leb, eqb→eq, eqb-refl}
 use lib.ListN.{length, getD, take, drop, length-append, take-append-drop}
 use lib.Seq.{length-take-le, take-append-seam, drop-append-seam}
+use Rattle.nodes.specs.Options.{isSome}
 use Rattle.nodes.proofs.Logic.{is-false, from-false, and-none, and-l, and-r, or-l, or-r, or-out, or-none, eqb-yes}
 use Rattle.answers.specs.Answer.{gives, asks, _>>_}
 use Rattle.records.specs.Records.{allYes}
 use Rattle.nodes.specs.Lists.{has}
 use Rattle.records.specs.JobFile.{modeCausal, nodesBelow, rises}
-use Rattle.records.specs.FlowFile.{SetEntry, addEntry, entriesIn, entriesOf, framed, listed, allEntries, entryBelow, entriesRise, layersAsks, setsAsks, entryBytes, setIn, entryIn, nothingLeft, oneMember}
+use Rattle.records.specs.FlowFile.{SetEntry, addEntry, entriesIn, entriesOf, listed, allEntries, entryBelow, entriesRise, layersAsks, setsAsks, entryBytes, setIn, entryIn, nothingLeft, oneMember}
 use Rattle.answers.proofs.Answer.{asks-yes}
 use Rattle.records.proofs.Records.{and-out, asks-then, asks-last}
 use Rattle.records.proofs.JobFile.{has-below, rises-length}
@@ -65,7 +66,7 @@ pub layers-in : (n : ℕ) (p : List ℕ) → length p ≡ n → allYes (layersAs
 unfolding layersAsks
 layers-in n p e = rw (eq-eqb (length p) n e)
 
-framed-out : (o : Option (List SetEntry)) → framed o ≡ true → o ≡ some (listed o)
+framed-out : (o : Option (List SetEntry)) → isSome o ≡ true → o ≡ some (listed o)
 framed-out none e = absurd (false≢true e)
 framed-out (some es) e = refl
 
@@ -73,7 +74,7 @@ pub sets-out : (n : ℕ) (p : List ℕ) → allYes (setsAsks n p) ≡ true → (
 unfolding setsAsks
 sets-out n p e =
     let es = listed (entriesOf p) in
-    let (a, b) = asks-then 3 (framed (entriesOf p)) (asks 5 (allEntries (entryBelow n) es) >> asks 6 (entriesRise 0 es)) e in
+    let (a, b) = asks-then 3 (isSome (entriesOf p)) (asks 5 (allEntries (entryBelow n) es) >> asks 6 (entriesRise 0 es)) e in
     let (c, d) = asks-then 5 (allEntries (entryBelow n) es) (asks 6 (entriesRise 0 es)) b in
     (framed-out (entriesOf p) a, c, asks-last 6 (entriesRise 0 es) d)
 

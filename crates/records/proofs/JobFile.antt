@@ -9,12 +9,13 @@ use native.Mathlib.Nat.{not-suc-le-zero, le-of-suc-le-suc}
 use borrow.Author.Tests.{leb-true, ltb-true, eqb-true, le-leb, lt-ltb, eq-eqb, ne-eqb}
 use lib.Dec.{T, eqb, ltb, leb, eqb→eq}
 use lib.ListN.{length, getD, List·getD-eq-default}
+use Rattle.flows.specs.Job.{planeXY, planeXZ, pauliZ}
 use Rattle.nodes.proofs.Logic.{is-false, and-l, and-r, or-out, or-comm, lt-or-ge}
 use Rattle.answers.specs.Answer.{asks, _>>_}
 use Rattle.records.specs.Records.{allYes}
 use Rattle.nodes.specs.NodeSet.{highest}
 use Rattle.nodes.specs.Lists.{has, all}
-use Rattle.records.specs.JobFile.{JobFile, mostNodes, modeCausal, modePlanes, modePauli, wholePairs, nodesBelow, rises, pairsRise, highestOf, allows, allAllowed, openingAllowed, openingAsks, edgesAsks, nodesAsks, measurementsAsks, joined, jobOf}
+use Rattle.records.specs.JobFile.{JobFile, mostNodes, modeCausal, modePlanes, modePauli, wholePairs, nodesBelow, rises, pairsRise, highestOf, allows, allAllowed, openingAllowed, openingAsks, edgesAsks, nodesAsks, measurementsAsks, hasEdge, jobOf}
 use Rattle.records.specs.Encoding.{ValidJob}
 use Rattle.records.proofs.Records.{and-out, asks-then, asks-last}
 
@@ -165,61 +166,61 @@ has-small n (a ∷ l) h t u =
     here true e x ih = let p : a ≡ u = eqb-true a u (sym e) in le-leb u highest (omega arith)
     here false e x ih = ih
 
-pub joined-sym : (l : List ℕ) (u v : ℕ) → joined l u v ≡ joined l v u
-unfolding joined
-joined-sym [] u v = refl
-joined-sym (a ∷ []) u v = refl
-joined-sym (a ∷ b ∷ l) u v = ap₂ _||_ (or-comm (eqb a u && eqb b v) (eqb a v && eqb b u)) (joined-sym l u v)
+pub edge-sym : (l : List ℕ) (u v : ℕ) → hasEdge l u v ≡ hasEdge l v u
+unfolding hasEdge
+edge-sym [] u v = refl
+edge-sym (a ∷ []) u v = refl
+edge-sym (a ∷ b ∷ l) u v = ap₂ _||_ (or-comm (eqb a u && eqb b v) (eqb a v && eqb b u)) (edge-sym l u v)
 
--- a joined pair is one of the list's, one way or the other
-joined-out : (a b : ℕ) (l : List ℕ) (u v : ℕ) → T (joined (a ∷ b ∷ l) u v) → ((a ≡ u) × (b ≡ v)) ⊎ (((a ≡ v) × (b ≡ u)) ⊎ T (joined l u v))
-unfolding joined
-joined-out a b l u v t = by (or-out (eqb a u && eqb b v || eqb a v && eqb b u) (joined l u v) t)
+-- a hasEdge pair is one of the list's, one way or the other
+edge-out : (a b : ℕ) (l : List ℕ) (u v : ℕ) → T (hasEdge (a ∷ b ∷ l) u v) → ((a ≡ u) × (b ≡ v)) ⊎ (((a ≡ v) × (b ≡ u)) ⊎ T (hasEdge l u v))
+unfolding hasEdge
+edge-out a b l u v t = by (or-out (eqb a u && eqb b v || eqb a v && eqb b u) (hasEdge l u v) t)
   where
     pair : (c d : ℕ) → T (eqb a c && eqb b d) → (a ≡ c) × (b ≡ d)
     pair c d t = (eqb→eq a c (and-l (eqb a c) (eqb b d) t), eqb→eq b d (and-r (eqb a c) (eqb b d) t))
 
-    one : T (eqb a u && eqb b v) ⊎ T (eqb a v && eqb b u) → ((a ≡ u) × (b ≡ v)) ⊎ (((a ≡ v) × (b ≡ u)) ⊎ T (joined l u v))
+    one : T (eqb a u && eqb b v) ⊎ T (eqb a v && eqb b u) → ((a ≡ u) × (b ≡ v)) ⊎ (((a ≡ v) × (b ≡ u)) ⊎ T (hasEdge l u v))
     one (inl t) = inl (pair u v t)
     one (inr t) = inr (inl (pair v u t))
 
-    by : T (eqb a u && eqb b v || eqb a v && eqb b u) ⊎ T (joined l u v) → ((a ≡ u) × (b ≡ v)) ⊎ (((a ≡ v) × (b ≡ u)) ⊎ T (joined l u v))
+    by : T (eqb a u && eqb b v || eqb a v && eqb b u) ⊎ T (hasEdge l u v) → ((a ≡ u) × (b ≡ v)) ⊎ (((a ≡ v) × (b ≡ u)) ⊎ T (hasEdge l u v))
     by (inl t) = one (or-out (eqb a u && eqb b v) (eqb a v && eqb b u) t)
     by (inr t) = inr (inr t)
 
-pub joined-below : (n : ℕ) (l : List ℕ) (u v : ℕ) → all (λ v. ltb v n) l ≡ true → T (joined l u v) → (u < n) × (v < n)
-unfolding all joined
-joined-below n [] u v h t = absurd t
-joined-below n (a ∷ []) u v h t = absurd t
-joined-below n (a ∷ b ∷ l) u v h t =
+pub edge-below : (n : ℕ) (l : List ℕ) (u v : ℕ) → all (λ v. ltb v n) l ≡ true → T (hasEdge l u v) → (u < n) × (v < n)
+unfolding all hasEdge
+edge-below n [] u v h t = absurd t
+edge-below n (a ∷ []) u v h t = absurd t
+edge-below n (a ∷ b ∷ l) u v h t =
     let (p, q) = and-out (ltb a n) (all (λ v. ltb v n) (b ∷ l)) h in
     let (p2, q2) = and-out (ltb b n) (all (λ v. ltb v n) l) q in
-    by (ltb-true a n p) (ltb-true b n p2) (joined-out a b l u v t) (joined-below n l u v q2)
+    by (ltb-true a n p) (ltb-true b n p2) (edge-out a b l u v t) (edge-below n l u v q2)
   where
-    by : a < n → b < n → ((a ≡ u) × (b ≡ v)) ⊎ (((a ≡ v) × (b ≡ u)) ⊎ T (joined l u v)) → (T (joined l u v) → (u < n) × (v < n)) → (u < n) × (v < n)
+    by : a < n → b < n → ((a ≡ u) × (b ≡ v)) ⊎ (((a ≡ v) × (b ≡ u)) ⊎ T (hasEdge l u v)) → (T (hasEdge l u v) → (u < n) × (v < n)) → (u < n) × (v < n)
     by x y (inl (c, d)) ih = (omega arith, omega arith)
     by x y (inr (inl (c, d))) ih = (omega arith, omega arith)
     by x y (inr (inr t)) ih = ih t
 
-loop-free : (low : ℕ) (l : List ℕ) (u : ℕ) → pairsRise low l ≡ true → T (joined l u u) → ⊥
-unfolding joined
+loop-free : (low : ℕ) (l : List ℕ) (u : ℕ) → pairsRise low l ≡ true → T (hasEdge l u u) → ⊥
+unfolding hasEdge
 loop-free low [] u h t = t
 loop-free low (a ∷ []) u h t = t
 loop-free low (a ∷ b ∷ l) u h t =
     let (lt, le, q) = pairs-out low a b l h in
-    by lt (joined-out a b l u u t) (loop-free (256 * a + b + 1) l u q)
+    by lt (edge-out a b l u u t) (loop-free (256 * a + b + 1) l u q)
   where
     apart : a < b → a ≡ u → b ≡ u → ⊥
     apart x y z = omega arith
 
-    by : a < b → ((a ≡ u) × (b ≡ u)) ⊎ (((a ≡ u) × (b ≡ u)) ⊎ T (joined l u u)) → (T (joined l u u) → ⊥) → ⊥
+    by : a < b → ((a ≡ u) × (b ≡ u)) ⊎ (((a ≡ u) × (b ≡ u)) ⊎ T (hasEdge l u u)) → (T (hasEdge l u u) → ⊥) → ⊥
     by x (inl (c, d)) ih = apart x c d
     by x (inr (inl (c, d))) ih = apart x c d
     by x (inr (inr t)) ih = ih t
 
--- no node is joined to itself
-pub no-loop : (low : ℕ) (l : List ℕ) (u : ℕ) → pairsRise low l ≡ true → joined l u u ≡ false
-no-loop low l u h = is-false (joined l u u) (loop-free low l u h)
+-- no node is hasEdge to itself
+pub no-loop : (low : ℕ) (l : List ℕ) (u : ℕ) → pairsRise low l ≡ true → hasEdge l u u ≡ false
+no-loop low l u h = is-false (hasEdge l u u) (loop-free low l u h)
 
 -- the byte of a node
 pub allowed-at : (mode : ℕ) (output : ℕ → Bool) (i : ℕ) (l : List ℕ) (k : ℕ) → allAllowed mode output i l ≡ true → k < length l → allows mode (output (i + k)) (getD l k 0) ≡ true
@@ -235,15 +236,15 @@ allows-below : (mode : ℕ) (output : Bool) (m : ℕ) → allows mode output m �
 allows-below mode true m e = omega (arith, output-out mode m e)
 allows-below mode false m e = omega (arith, measured-out mode m e .1)
 
-highest-most : (mode : ℕ) → highestOf mode ≤ 6
+highest-most : (mode : ℕ) → highestOf mode ≤ pauliZ
 highest-most mode = by (eqb mode modeCausal) (eqb mode modePlanes)
   where
-    by : (a b : Bool) → cond a 1 (cond b 3 6) ≤ 6
+    by : (a b : Bool) → cond a planeXY (cond b planeXZ pauliZ) ≤ pauliZ
     by true b = omega arith
     by false true = omega arith
     by false false = omega arith
 
-pub allows-most : (mode : ℕ) (output : Bool) (m : ℕ) → allows mode output m ≡ true → m ≤ 6
+pub allows-most : (mode : ℕ) (output : Bool) (m : ℕ) → allows mode output m ≡ true → m ≤ pauliZ
 allows-most mode output m e = omega (arith, allows-below mode output m e, highest-most mode)
 
 pub allowed-below : (mode : ℕ) (output : ℕ → Bool) (i : ℕ) (l : List ℕ) → allAllowed mode output i l ≡ true → all (λ v. ltb v (highestOf mode + 1)) l ≡ true
@@ -267,14 +268,14 @@ module _ (f : JobFile) (v : ValidJob f) where
   pub output-zero : (u : ℕ) → u < f .n → jobOf f .output u ≡ true → jobOf f .measured u ≡ 0
   output-zero u h o = output-out (f .mode) (jobOf f .measured u) (rw o at (byte-allowed u h))
 
-  pub measured-most : (u : ℕ) → jobOf f .measured u ≤ 6
+  pub measured-most : (u : ℕ) → jobOf f .measured u ≤ pauliZ
   measured-most u = by (lt-or-ge u (f .n))
     where
-      by : (u < f .n) ⊎ (f .n ≤ u) → jobOf f .measured u ≤ 6
+      by : (u < f .n) ⊎ (f .n ≤ u) → jobOf f .measured u ≤ pauliZ
       by (inl h) = allows-most (f .mode) (jobOf f .output u) (jobOf f .measured u) (byte-allowed u h)
       by (inr h) = rw (List·getD-eq-default (f .measurements) 0 {n = u} (omega (arith, v .count))) zero-le
 
-  pub measured-plane : f .mode ≡ modePlanes → (u : ℕ) → u < f .n → jobOf f .output u ≡ false → (1 ≤ jobOf f .measured u) × (jobOf f .measured u ≤ 3)
+  pub measured-plane : f .mode ≡ modePlanes → (u : ℕ) → u < f .n → jobOf f .output u ≡ false → (1 ≤ jobOf f .measured u) × (jobOf f .measured u ≤ planeXZ)
   measured-plane m u h o = rw m at (measured-range u h o)
 
   pub edge-loop : (u : ℕ) → jobOf f .edge u u ≡ false

@@ -1,4 +1,4 @@
--- The entries from a place on: the one that starts there, and those after it.
+-- For the questions of sets, and for those who load them: the entry that starts at a place, and those after it.
 use mathlib.Core.Path.{_≡_, refl, sym, ap, _∙_}
 use mathlib.Core.Bool.{Bool, true, false, false≢true}
 use mathlib.Core.Option.{Option, none, some}
@@ -11,8 +11,9 @@ use borrow.Author.Tests.{le-leb, lt-leb, eq-eqb, ne-eqb}
 use lib.Dec.{eqb}
 use lib.ListN.{length, getD, take, drop, length-drop}
 use lib.Seq.{drop-drop}
+use Rattle.nodes.specs.Options.{isSome}
 use Rattle.records.specs.JobFile.{nodesBelow, rises}
-use Rattle.records.specs.FlowFile.{SetEntry, addEntry, entriesIn, entriesOf, allEntries, entryBelow, entriesRise, framed, listed}
+use Rattle.records.specs.FlowFile.{SetEntry, addEntry, entriesIn, entriesOf, allEntries, entryBelow, entriesRise, listed}
 use Rattle.records.specs.Views.{between}
 use Rattle.records.proofs.FlowFile.{node-not-below, set-not-below, below-in, each-none, each-cons, rise-none, rise-cons, node-not-rising, set-not-rising}
 use Rattle.records.proofs.ReadingHead.{between-length}
@@ -57,35 +58,35 @@ module _ (p : List ℕ) (i : ℕ) where
       (fuel (suc (suc (length (drop (i + 2) p)))) (suc (length (drop j p))) (drop j p) (omega arith) (omega arith)))
 
   -- what ends with the record: the next entry lies in it
-  module _ (f : framed (entriesOf (drop i p)) ≡ true) (h : i < length p) where
+  module _ (f : isSome (entriesOf (drop i p)) ≡ true) (h : i < length p) where
     pub two-more : i + 2 ≤ length p
     two-more = by (decLe (i + 2) (length p))
       where
         by : Dec (i + 2 ≤ length p) → i + 2 ≤ length p
         by (yes g) = g
-        by (no g) = absurd (false≢true (sym (ap framed (entries-short h (omega arith))) ∙ f))
+        by (no g) = absurd (false≢true (sym (ap isSome (entries-short h (omega arith))) ∙ f))
 
     pub fits : i + 2 + getD p (i + 1) 0 ≤ length p
     fits = by (decLe (i + 2 + getD p (i + 1) 0) (length p))
       where
         by : Dec (i + 2 + getD p (i + 1) 0 ≤ length p) → i + 2 + getD p (i + 1) 0 ≤ length p
         by (yes g) = g
-        by (no g) = absurd (false≢true (sym (ap framed (entries-cut two-more (omega arith))) ∙ f))
+        by (no g) = absurd (false≢true (sym (ap isSome (entries-cut two-more (omega arith))) ∙ f))
 
 -- one entry more, of what ends with the record
-framed-more : (e : SetEntry) (o : Option (List SetEntry)) → framed (addEntry e o) ≡ framed o
+framed-more : (e : SetEntry) (o : Option (List SetEntry)) → isSome (addEntry e o) ≡ isSome o
 framed-more e none = refl
 framed-more e (some es) = refl
 
-listed-more : (e : SetEntry) (o : Option (List SetEntry)) → framed o ≡ true → listed (addEntry e o) ≡ e ∷ listed o
+listed-more : (e : SetEntry) (o : Option (List SetEntry)) → isSome o ≡ true → listed (addEntry e o) ≡ e ∷ listed o
 listed-more e none f = absurd (false≢true f)
 listed-more e (some es) f = refl
 
 module _ (p : List ℕ) (i j : ℕ) (e : j ≡ i + 2 + getD p (i + 1) 0) (g : j ≤ length p) where
-  pub framed-next : framed (entriesOf (drop i p)) ≡ framed (entriesOf (drop j p))
-  framed-next = ap framed (entries-more p i j e g) ∙ framed-more (record { node = getD p i 0; set = between (i + 2) j p }) (entriesOf (drop j p))
+  pub framed-next : isSome (entriesOf (drop i p)) ≡ isSome (entriesOf (drop j p))
+  framed-next = ap isSome (entries-more p i j e g) ∙ framed-more (record { node = getD p i 0; set = between (i + 2) j p }) (entriesOf (drop j p))
 
-  module _ (f : framed (entriesOf (drop i p)) ≡ true) where
+  module _ (f : isSome (entriesOf (drop i p)) ≡ true) where
     pub listed-next : listed (entriesOf (drop i p)) ≡ record { node = getD p i 0; set = between (i + 2) j p } ∷ listed (entriesOf (drop j p))
     listed-next = ap listed (entries-more p i j e g) ∙ listed-more (record { node = getD p i 0; set = between (i + 2) j p }) (entriesOf (drop j p)) (sym framed-next ∙ f)
 
@@ -148,9 +149,9 @@ pub rise-last : (p : List ℕ) (i low : ℕ) → length p ≤ i → entriesRise 
 rise-last p i low h = ap (λ (o : Option (List SetEntry)). entriesRise low (listed o)) (entries-end p i h) ∙ rise-none low
 
 -- bytes that are no entries
-pub one-none : (p : List ℕ) → framed (entriesOf p) ≡ false → allEntries (λ x. eqb (length (x .set)) 1) (listed (entriesOf p)) ≡ true
+pub one-none : (p : List ℕ) → isSome (entriesOf p) ≡ false → allEntries (λ x. eqb (length (x .set)) 1) (listed (entriesOf p)) ≡ true
 one-none p h = by (entriesOf p) h
   where
-    by : (o : Option (List SetEntry)) → framed o ≡ false → allEntries (λ x. eqb (length (x .set)) 1) (listed o) ≡ true
+    by : (o : Option (List SetEntry)) → isSome o ≡ false → allEntries (λ x. eqb (length (x .set)) 1) (listed o) ≡ true
     by none f = each-none (λ x. eqb (length (x .set)) 1)
     by (some es) f = absurd (false≢true (sym f))

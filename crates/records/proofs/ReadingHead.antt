@@ -1,4 +1,4 @@
--- Bytes at a place of the file, and the record that starts there, from what the code tests.
+-- For the reader: bytes at a place of the file, and the record that starts there, from what the code tests.
 use mathlib.Core.Path.{_≡_, refl, sym, _∙_}
 use mathlib.Core.List.{List, []}
 use Prim.Native.Nat.{ℕ, _+_, _*_, _-_, _<_, _≤_}

@@ -1,4 +1,4 @@
--- Question 7 as the code asks it: no byte is above the mode's highest, and the zeros are those of the outputs.
+-- For question 7 as the code asks it: no byte is above the mode's highest, and the zeros are those of the outputs.
 use Prim.Native.Nat.{ℕ, suc, _+_, _≤_, _<_}
 use mathlib.Core.Path.{_≡_, refl, sym, ap, _∙_}
 use mathlib.Core.Bool.{Bool, true, false, _&&_}

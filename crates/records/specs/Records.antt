@@ -6,8 +6,8 @@ use lib.Dec.{eqb, leb}
 use lib.ListN.{length, getD, take, drop}
 use Rattle.answers.specs.Answer.{Answer, gives, refuses, _>>=_, _>>_, asks}
 
-abbrev pub kindOpen : ℕ
-kindOpen = 0x0001
+abbrev pub kindOpening : ℕ
+kindOpening = 0x0001
 
 abbrev pub kindEdges : ℕ
 kindEdges = 0x0002

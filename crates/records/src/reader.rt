@@ -20,7 +20,7 @@ use crate::common::KIND_EDGES;
 use crate::common::KIND_INPUTS;
 use crate::common::KIND_LAYERS;
 use crate::common::KIND_MEASUREMENTS;
-use crate::common::KIND_OPEN;
+use crate::common::KIND_OPENING;
 use crate::common::KIND_OUTPUTS;
 use crate::common::KIND_SETS;
 use crate::common::Place;
@@ -245,7 +245,7 @@ pub fn read_job(file: &[u8]) -> JobRead
     ensures { λ r. ⌜ jobOfRead (now (file .entry)) r ≡ readJob (now (file .entry)) ⌝ }
     ensures { λ r. ⌜ JobReadInFile (now (file .entry)) r ⌝ }
 {
-    let opening = next(file, start(0), KIND_OPEN, Questions::Opening);
+    let opening = next(file, start(0), KIND_OPENING, Questions::Opening);
     let first = payload(file, place_of(opening));
     let n = number(byte_at(first, 0));
     let mode = byte_at(first, 1);

@@ -4,14 +4,15 @@ use Prim.Native.Nat.{_+_, _-_, _≤_}
 use native.Mathlib.Omega.{arith}
 use lib.Dec.{eqb}
 use lib.ListN.{length, getD, drop}
-use Rattle.records.specs.FlowFile.{entriesOf, framed, listed, allEntries}
+use Rattle.nodes.specs.Options.{isSome}
+use Rattle.records.specs.FlowFile.{entriesOf, listed, allEntries}
 use Rattle.records.proofs.ReadingEntries.{fits, framed-next, one-no, one-next, each-last}
 use borrow.Author.Needs.{needs}
 use Rattle.records.proofs.questions.counts_one.Statement.{statement}
 use Rattle.records.proofs.questions.counts_one.Tie as tie
 
 abbrev Inv-loop : tie.InvT-loop
-Inv-loop p i₀ i = (i ≤ length p) × (framed (entriesOf (drop i p)) ≡ true) × (allEntries (λ e. eqb (length (e .set)) 1) (listed (entriesOf p)) ≡ allEntries (λ e. eqb (length (e .set)) 1) (listed (entriesOf (drop i p))))
+Inv-loop p i₀ i = (i ≤ length p) × (isSome (entriesOf (drop i p)) ≡ true) × (allEntries (λ e. eqb (length (e .set)) 1) (listed (entriesOf p)) ≡ allEntries (λ e. eqb (length (e .set)) 1) (listed (entriesOf (drop i p))))
 
 abbrev μ-loop : tie.MeasureT-loop
 μ-loop p i₀ i = length p - i

@@ -4,14 +4,15 @@ use Prim.Native.Nat.{ℕ, _+_, _-_, _≤_}
 use native.Mathlib.Omega.{arith}
 use lib.ListN.{length, getD, drop}
 use borrow.Author.Tests.{not-true, not-false}
-use Rattle.records.specs.FlowFile.{entriesOf, framed, listed, allEntries, entryBelow}
+use Rattle.nodes.specs.Options.{isSome}
+use Rattle.records.specs.FlowFile.{entriesOf, listed, allEntries, entryBelow}
 use Rattle.records.proofs.ReadingEntries.{fits, framed-next, below-node, below-set, below-next, each-last}
 use borrow.Author.Needs.{needs}
 use Rattle.records.proofs.questions.entries_below.Statement.{statement}
 use Rattle.records.proofs.questions.entries_below.Tie as tie
 
 abbrev Inv-loop : tie.InvT-loop
-Inv-loop p n i₀ i = (i ≤ length p) × (framed (entriesOf (drop i p)) ≡ true) × (allEntries (entryBelow n) (listed (entriesOf p)) ≡ allEntries (entryBelow n) (listed (entriesOf (drop i p))))
+Inv-loop p n i₀ i = (i ≤ length p) × (isSome (entriesOf (drop i p)) ≡ true) × (allEntries (entryBelow n) (listed (entriesOf p)) ≡ allEntries (entryBelow n) (listed (entriesOf (drop i p))))
 
 abbrev μ-loop : tie.MeasureT-loop
 μ-loop p n i₀ i = length p - i

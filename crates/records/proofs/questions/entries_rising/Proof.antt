@@ -4,14 +4,15 @@ use Prim.Native.Nat.{ℕ, _+_, _-_, _≤_}
 use native.Mathlib.Omega.{arith}
 use lib.ListN.{length, getD, drop}
 use borrow.Author.Tests.{not-true, not-false}
-use Rattle.records.specs.FlowFile.{entriesOf, framed, listed, entriesRise}
+use Rattle.nodes.specs.Options.{isSome}
+use Rattle.records.specs.FlowFile.{entriesOf, listed, entriesRise}
 use Rattle.records.proofs.ReadingEntries.{fits, framed-next, rise-node, rise-set, rise-next, rise-last}
 use borrow.Author.Needs.{needs}
 use Rattle.records.proofs.questions.entries_rising.Statement.{statement}
 use Rattle.records.proofs.questions.entries_rising.Tie as tie
 
 abbrev Inv-loop : tie.InvT-loop
-Inv-loop p low₀ i₀ low i = (i ≤ length p) × (framed (entriesOf (drop i p)) ≡ true) × (entriesRise 0 (listed (entriesOf p)) ≡ entriesRise low (listed (entriesOf (drop i p))))
+Inv-loop p low₀ i₀ low i = (i ≤ length p) × (isSome (entriesOf (drop i p)) ≡ true) × (entriesRise 0 (listed (entriesOf p)) ≡ entriesRise low (listed (entriesOf (drop i p))))
 
 abbrev μ-loop : tie.MeasureT-loop
 μ-loop p low₀ i₀ low i = length p - i
