@@ -1,4 +1,4 @@
--- How many numbers below n a set has, and the rank of a member: how many are below it.
+-- How many numbers below n a set has, and the rank of a member: how many are below it. Serves Row.
 use Prim.Native.Nat.{ℕ, zero, suc, _+_, _-_, _%_, _≤_, _<_, zero-le}
 use mathlib.Core.Path.{_≡_, refl, sym, ap, ap₂, _∙_}
 use mathlib.Core.Bool.{Bool, true, false, cond, not}

@@ -1,4 +1,4 @@
--- The machine's counts of a word's digits, one digit of one word of a list, and a number by its digits.
+-- The machine's counts of a word's digits, one digit of one word of a list, and a number by its digits. Serves Bit.
 use mathlib.Core.Path.{_≡_, refl, sym, ap, ap₂, _∙_, subst}
 use mathlib.Core.Bool.{Bool, true, false, cond, not, _&&_}
 use Prim.Native.Nat.{ℕ, zero, suc, _+_, _-_, _*_, _/_, _%_, _^_, _≤_, _<_}

@@ -1,4 +1,4 @@
--- Tests as facts, and the algebra of the sum mod 2.
+-- Tests as facts, and the algebra of the sum mod 2. Serves every file of laws.
 use Prim.Native.Nat.{ℕ, _≤_, _<_}
 use mathlib.Core.Path.{_≡_, refl, sym, ap, _∙_}
 use mathlib.Core.Bool.{Bool, true, false, cond, not, _&&_, _||_, false≢true}
@@ -39,6 +39,10 @@ and-r false b t = absurd t
 pub and-in : (a b : Bool) → T a → T b → T (a && b)
 and-in true b s t = t
 and-in false b s t = s
+
+pub and-out : (a b : Bool) → a && b ≡ true → (a ≡ true) × (b ≡ true)
+and-out true b e = (refl, e)
+and-out false b e = absurd (false≢true e)
 
 pub or-l : (a b : Bool) → T a → T (a || b)
 or-l true b t = tt

@@ -1,4 +1,4 @@
--- The least member of a set, and its members as a list.
+-- The least member of a set, and its members as a list. Serves Row.
 use Prim.Native.Nat.{ℕ, zero, suc, _+_, _-_, _≤_, _<_}
 use mathlib.Core.Path.{_≡_, refl, sym, ap, ap₂, _∙_}
 use mathlib.Core.Bool.{Bool, true, false, cond}

@@ -1,4 +1,4 @@
--- What is counted and found word by word is so of the members, for lists of words of any length.
+-- What is counted and found word by word is so of the members, for lists of words of any length. Serves NodeSet.
 use Prim.Native.Nat.{ℕ, suc, _+_, _-_, _*_, _^_, _≤_, _<_}
 use mathlib.Core.Path.{_≡_, refl, sym, ap, ap₂, _∙_}
 use mathlib.Core.Bool.{Bool, true, false, not, _&&_}

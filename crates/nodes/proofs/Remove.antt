@@ -1,4 +1,4 @@
--- A member is taken out of a set: what is left of its count, its sums and its list.
+-- A member is taken out of a set: what is left of its count, its sums and its list. Serves Row.
 use Prim.Native.Nat.{ℕ, zero, suc, _+_, _≤_, _<_}
 use mathlib.Core.Path.{_≡_, refl, sym, ap, ap₂, _∙_, subst, fun-ext}
 use mathlib.Core.Bool.{Bool, true, false, cond, not, _&&_}

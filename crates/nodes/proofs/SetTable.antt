@@ -10,14 +10,15 @@ use native.Mathlib.Omega.{arith}
 use native.Mathlib.Numerals.{lt-of-le-of-ne}
 use lib.Bits.{bitAnd, bitXor, xor-zero-r}
 use lib.Dec.{T, eqb, leb, ltb, leb→le, le→leb, eqb→eq}
-use lib.ListN.{length, getD, set, take, drop, length-append, length-take, length-drop, length-replicate, length-set, List·getD-append, List·getD-eq-default, getD-replicate, replicate-append-replicate}
-use lib.Seq.{getD-set-same, getD-set-other, length-take-le, take-length, take-at, drop-at, take-suc-set, getD-take, getD-drop, getD-append-add, sets-eq}
+use lib.ListN.{length, getD, set, take, drop, length-append, length-take, length-drop, length-set, List·getD-append, List·getD-eq-default}
+use lib.Seq.{getD-set-same, getD-set-other, length-take-le, take-at, drop-at, getD-take, getD-drop, getD-append-add, sets-eq}
 use Rattle.nodes.specs.Bit.{_⊕_, bit}
 use Rattle.nodes.specs.Row.{parity, anyBelow, lowest, members, membersFrom}
 use Rattle.nodes.specs.NodeSet.{wordBits, capacity, memberOf, member, wordsOf}
 use Rattle.nodes.specs.declared.utils.NodeSet.{NodeSet}
 use Rattle.nodes.specs.Lists.{zeros}
 use Rattle.nodes.specs.SetTable.{setWords, tableWords, setAt, putSet, addWords, addSet, addSets, raised}
+use Rattle.nodes.proofs.Lists.{zeros-at}
 use Rattle.nodes.proofs.Logic.{is-true, is-false, from-false, dec, and-none, and-all, ⊕-none, ⊕-assoc, lt-or-ge, le-or-lt, cond-t, cond-f, eqb-no, eqb-yes}
 use Rattle.nodes.proofs.Row.{parity-none, any-in, any-out, dot-comm, ltb-yes, ltb-no}
 use Rattle.nodes.proofs.Members.{members-snoc, members-ext, members-none}
@@ -385,30 +386,12 @@ added-sets ws among x h v i =
     by (inr l) = ap (λ (b : Bool). (leb 0 v && ltb v (0 + capacity)) && b) (member-past (wordsOf among) v l) ∙ and-none (leb 0 v && ltb v (0 + capacity)) ∙ sym (member-past (wordsOf among) v l)
 
 -- ---- a table of empty sets
-zeros-at : (n i : ℕ) → getD (zeros n) i 0 ≡ 0
-zeros-at n i = by (lt-or-ge i n)
-  where
-    by : (i < n) ⊎ (n ≤ i) → getD (zeros n) i 0 ≡ 0
-    by (inl h) = getD-replicate n i 0 0 h
-    by (inr h) = List·getD-eq-default (zeros n) 0 (omega (arith, length-replicate {A = ℕ} n 0))
-
 pub zeros-empty : (n u : ℕ) → setAt (zeros n) u ≡ (λ v. false)
 zeros-empty n u = fun-ext (λ v. by v (lt-or-ge v capacity))
   where
     by : (v : ℕ) → (v < capacity) ⊎ (capacity ≤ v) → setAt (zeros n) u v ≡ false
     by v (inl h) = set-in (zeros n) u v h ∙ ap (λ (x : ℕ). bit x (v % wordBits)) (zeros-at n (setWords * u + v / wordBits)) ∙ bit-zero (v % wordBits)
     by v (inr h) = set-past (zeros n) u v h
-
--- one word more is 0
-pub zeros-more : (ws : List ℕ) (i : ℕ) → i < length ws → take i ws ≡ zeros i → take (i + 1) (set ws i 0) ≡ zeros (i + 1)
-zeros-more ws i h e =
-    ap (λ (k : ℕ). take k (set ws i 0)) next ∙ take-suc-set ws i 0 h ∙ ap (λ (l : List ℕ). l ++ (0 ∷ [])) e ∙ replicate-append-replicate i 1 0
-  where
-    next : i + 1 ≡ suc i
-    next = omega arith
-
-pub zeros-whole : (ws : List ℕ) (i n : ℕ) → i ≡ length ws → length ws ≡ n → take i ws ≡ zeros i → ws ≡ zeros n
-zeros-whole ws i n a b e = sym (take-length ws) ∙ ap (λ (k : ℕ). take k ws) (sym a) ∙ e ∙ ap zeros (a ∙ b)
 
 -- ---- the sum mod 2 of the sets of s, added up from the least of s on
 abbrev pub sumOf : List ℕ → (ℕ → Bool) → ℕ → Bool

@@ -1,4 +1,4 @@
--- A set is walked through, the least of what is left at a time, and a number counts along: it is the rank of the member at hand.
+-- A set is walked through, the least of what is left at a time, and a number counts along: it is the rank of the member at hand. Serves Row.
 use Prim.Native.Nat.{ℕ, _+_, _≤_, _<_}
 use mathlib.Core.Path.{_≡_, sym, subst}
 use mathlib.Core.Bool.{Bool, not}

@@ -4,7 +4,7 @@ use mathlib.Core.Bool.{Bool, cond}
 use mathlib.Core.List.{List, [], _∷_, _++_}
 use lib.Bits.{bitXor}
 use lib.Dec.{leb}
-use lib.ListN.{length, getD, set, take, drop, replicate}
+use lib.ListN.{length, getD, set, take, drop}
 use Rattle.nodes.specs.NodeSet.{wordBits, capacity, memberOf}
 
 -- the words of a set

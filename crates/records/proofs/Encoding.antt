@@ -7,6 +7,7 @@ use mathlib.Core.List.{List, [], _∷_, _++_}
 use native.Mathlib.Omega.{arith}
 use native.Mathlib.Nat.{mul-le-mul}
 use lib.ListN.{length, getD}
+use Rattle.nodes.proofs.Logic.{and-out}
 use Rattle.nodes.specs.Lists.{has}
 use Rattle.answers.specs.Answer.{Answer, gives, _>>=_}
 use Rattle.answers.proofs.Answer.{give-inj, bind-out}
@@ -15,7 +16,6 @@ use Rattle.records.specs.Format.{Front, front, plain, recordOf}
 use Rattle.records.specs.JobFile.{JobFile, mostNodes, openingAllowed, edgesAsks, nodesAsks, measurementsAsks, opening, JobValue, job, jobFile, jobValue, readJob}
 use Rattle.records.specs.FlowFile.{SetEntry, FlowFile, entriesOf, listed, allEntries, entryBelow, entriesRise, entryBytes, layersAsks, sets, flow, flowFile, flowValue, readFlow}
 use Rattle.records.specs.Encoding.{Bytes, jobBytes, ValidJob, flowFileBytes, ValidFlow}
-use Rattle.records.proofs.Records.{and-out}
 use Rattle.records.proofs.JobFile.{allowed-out, allowed-in, opening-out, opening-in, edges-out, edges-in, nodes-out, nodes-in, measurements-out, measurements-in, rises-length, pairs-length}
 use Rattle.records.proofs.FlowFile.{entries-back, entries-encode, layers-out, layers-in, sets-out, sets-in, entries-few, entry-bytes-length}
 use Rattle.records.proofs.Format.{Sound, Exact, PayloadExact, Appends, exact-iff, record-sound, record-exact, record-appends, record-closed, plain-sound, plain-exact, then-sound, then-exact, then-appends}

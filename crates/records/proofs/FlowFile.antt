@@ -12,14 +12,14 @@ use lib.Dec.{T, eqb, ltb, leb, eqb→eq, eqb-refl}
 use lib.ListN.{length, getD, take, drop, length-append, take-append-drop}
 use lib.Seq.{length-take-le, take-append-seam, drop-append-seam}
 use Rattle.nodes.specs.Options.{isSome}
-use Rattle.nodes.proofs.Logic.{is-false, from-false, and-none, and-l, and-r, or-l, or-r, or-out, or-none, eqb-yes}
+use Rattle.nodes.proofs.Logic.{and-out, is-false, from-false, and-none, and-l, and-r, or-l, or-r, or-out, or-none, eqb-yes}
 use Rattle.answers.specs.Answer.{gives, asks, _>>_}
 use Rattle.records.specs.Records.{allYes}
 use Rattle.nodes.specs.Lists.{has}
 use Rattle.records.specs.JobFile.{modeCausal, nodesBelow, rises}
 use Rattle.records.specs.FlowFile.{SetEntry, addEntry, entriesIn, entriesOf, listed, allEntries, entryBelow, entriesRise, layersAsks, setsAsks, entryBytes, setIn, entryIn, nothingLeft, oneMember}
 use Rattle.answers.proofs.Answer.{asks-yes}
-use Rattle.records.proofs.Records.{and-out, asks-then, asks-last}
+use Rattle.records.proofs.Records.{asks-then, asks-last}
 use Rattle.records.proofs.JobFile.{has-below, rises-length}
 
 -- ---- entries and their bytes

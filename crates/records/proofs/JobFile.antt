@@ -10,14 +10,14 @@ use borrow.Author.Tests.{leb-true, ltb-true, eqb-true, le-leb, lt-ltb, eq-eqb, n
 use lib.Dec.{T, eqb, ltb, leb, eqb→eq}
 use lib.ListN.{length, getD, List·getD-eq-default}
 use Rattle.flows.specs.Job.{planeXY, planeXZ, pauliZ}
-use Rattle.nodes.proofs.Logic.{is-false, and-l, and-r, or-out, or-comm, lt-or-ge}
+use Rattle.nodes.proofs.Logic.{and-out, is-false, and-l, and-r, or-out, or-comm, lt-or-ge}
 use Rattle.answers.specs.Answer.{asks, _>>_}
 use Rattle.records.specs.Records.{allYes}
 use Rattle.nodes.specs.NodeSet.{highest}
 use Rattle.nodes.specs.Lists.{has, all}
 use Rattle.records.specs.JobFile.{JobFile, mostNodes, modeCausal, modePlanes, modePauli, wholePairs, nodesBelow, rises, pairsRise, highestOf, allows, allAllowed, openingAllowed, openingAsks, edgesAsks, nodesAsks, measurementsAsks, hasEdge, jobOf}
 use Rattle.records.specs.Encoding.{ValidJob}
-use Rattle.records.proofs.Records.{and-out, asks-then, asks-last}
+use Rattle.records.proofs.Records.{asks-then, asks-last}
 
 -- ---- the questions of each record, as facts
 pub allowed-out : (n mode : ℕ) → openingAllowed n mode ≡ true → (n ≤ mostNodes) × (modeCausal ≤ mode) × (mode ≤ modePauli)

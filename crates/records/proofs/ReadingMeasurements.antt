@@ -11,11 +11,10 @@ use lib.Dec.{T, eqb, ltb, eqb→eq}
 use lib.ListN.{length, getD}
 use Rattle.nodes.specs.Lists.{has, all}
 use Rattle.nodes.specs.Row.{count}
-use Rattle.nodes.proofs.Logic.{is-true, is-false, from-true, and-l, and-r, and-in, or-l, or-r, or-out, eqb-yes, beq-eq}
+use Rattle.nodes.proofs.Logic.{and-out, is-true, is-false, from-true, and-l, and-r, and-in, or-l, or-r, or-out, eqb-yes, beq-eq}
 use Rattle.nodes.proofs.Count.{count-ext, count-none, grows}
 use Rattle.nodes.proofs.Remove.{removed, removed-same, removed-other, count-remove}
 use Rattle.records.specs.JobFile.{rises, highestOf, allows, allAllowed}
-use Rattle.records.proofs.Records.{and-out}
 use Rattle.records.proofs.JobFile.{rises-out, output-out, measured-out, allows-in, allowed-none, allowed-cons, all-has, has-below, allowed-at, allowed-below}
 
 -- ---- a list that rises has as many members as elements

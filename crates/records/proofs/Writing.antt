@@ -6,12 +6,13 @@ use mathlib.Core.Logic.{_⊎_, inl, inr, _≢_}
 use mathlib.Core.Option.{some}
 use mathlib.Core.List.{List, [], _∷_, _++_, append-nil}
 use native.Mathlib.Omega.{arith}
-use native.Mathlib.Nat.{mul-le-mul, not-suc-le-zero, le-of-suc-le-suc}
+use native.Mathlib.Nat.{mul-le-mul}
 use borrow.Author.Tests.{ltb-true, lt-ltb, ne-eqb}
 use lib.Dec.{T, eqb, ltb, eqb→eq, eqb-refl}
-use lib.ListN.{length, getD, length-append}
+use lib.ListN.{length, length-append}
 use Rattle.nodes.specs.Row.{membersFrom, members}
-use Rattle.nodes.proofs.Logic.{is-false, dec, and-none, and-all, or-none, lt-or-ge, eqb-yes}
+use Rattle.nodes.proofs.Lists.{length-listOf, getD-listOf}
+use Rattle.nodes.proofs.Logic.{and-out, is-false, dec, and-none, and-all, or-none, lt-or-ge, eqb-yes}
 use Rattle.nodes.proofs.Row.{ltb-yes, ltb-no}
 use Rattle.nodes.proofs.Members.{members-snoc}
 use Rattle.flows.specs.Job.{Job}
@@ -24,23 +25,12 @@ use Rattle.records.specs.FlowFile.{SetEntry, allEntries, entryBelow, ent
 use Rattle.records.specs.Encoding.{Bytes, flowFileBytes, ValidFlow, entriesFor, foundFlow}
 use Rattle.records.specs.Writing.{layerBytes, flowBytes, mostOutput}
 use Rattle.answers.proofs.Answer.{never}
-use Rattle.records.proofs.Records.{and-out, all-append, all-more, written-length, written-bytes}
+use Rattle.records.proofs.Records.{all-append, all-more, written-length, written-bytes}
 use Rattle.records.proofs.Encoding.{flow-decodes}
 use Rattle.records.proofs.JobFile.{rises-none, rises-out, rises-in, rises-length}
 use Rattle.records.proofs.FlowFile.{below-out, below-in, each-none, each-cons, each-out, rise-none, rise-out, rise-cons, entries-few, entry-bytes-length}
 
 -- ---- lists of values
-pub list-length : {A : Type 0} (n : ℕ) (f : ℕ → A) → length (listOf n f) ≡ n
-unfolding listOf
-list-length zero f = refl
-list-length (suc n) f = ap suc (list-length n (λ k. f (suc k)))
-
-pub list-at : {A : Type 0} (n : ℕ) (f : ℕ → A) (d : A) (k : ℕ) → k < n → getD (listOf n f) k d ≡ f k
-unfolding listOf
-list-at zero f d k h = absurd (not-suc-le-zero h)
-list-at (suc n) f d zero h = refl
-list-at (suc n) f d (suc k) h = list-at n (λ k. f (suc k)) d k (le-of-suc-le-suc h)
-
 pub list-all : (n : ℕ) (f : ℕ → ℕ) (p : ℕ → Bool) → ((k : ℕ) → k < n → p (f k) ≡ true) → all p (listOf n f) ≡ true
 unfolding listOf all
 list-all zero f p h = refl
@@ -179,7 +169,7 @@ layers-same (x ∷ l) a =
 module _ (j : Job) (s : Progress) where
   pub found-valid : ValidFlow (j .nodes) (foundFlow j s)
   found-valid = record {
-    count = list-length (j .nodes) (s .layer);
+    count = length-listOf (j .nodes) (s .layer);
     below = for-below (j .nodes) (s .set) (members (j .nodes) (λ u. not (j .output u))) (members-under (j .nodes) (λ u. not (j .output u)));
     rise = for-rise 0 (j .nodes) (s .set) (members (j .nodes) (λ u. not (j .output u))) (members-rise (j .nodes) (λ u. not (j .output u)));
   }
@@ -190,7 +180,7 @@ module _ (j : Job) (s : Progress) where
 
   -- as the flow that was found
   pub found-layer : (u : ℕ) → u < j .nodes → flowOf (foundFlow j s) .layer u ≡ s .layer u
-  found-layer u h = list-at (j .nodes) (s .layer) 0 u h
+  found-layer u h = getD-listOf (j .nodes) (s .layer) u h
 
   pub found-entry : (u : ℕ) → u < j .nodes → flowOf (foundFlow j s) .entry u ≡ not (j .output u)
   found-entry u h =

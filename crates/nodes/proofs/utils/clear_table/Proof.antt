@@ -3,7 +3,7 @@ use Prim.Native.Nat.{_-_, _≤_}
 use native.Mathlib.Omega.{arith}
 use lib.ListN.{length, take}
 use Rattle.nodes.specs.Lists.{zeros}
-use Rattle.nodes.proofs.SetTable.{zeros-more, zeros-whole}
+use Rattle.nodes.proofs.Lists.{zeros-more, zeros-whole}
 use borrow.Author.Needs.{needs}
 use Rattle.nodes.proofs.utils.clear_table.Statement.{statement}
 use Rattle.nodes.proofs.utils.clear_table.Tie as tie
