@@ -14,8 +14,8 @@ use Rattle.nodes.proofs.Logic.{and-out}
 use Rattle.nodes.specs.Lists.{all}
 use Rattle.answers.specs.Answer.{Answer, gives, refuses, refusal, _>>=_, _>>_}
 use Rattle.answers.proofs.Answer.{give-inj, never, bind-out}
-use Rattle.records.specs.Records.{Part, allYes, part, checked, headOf, written, kindField, headBytes}
-use Rattle.records.specs.Format.{Front, front, Format, PayloadFormat, plain, recordOf, then, carries, someOf, optional, choice}
+use Rattle.records.specs.Records.{carries, Part, allYes, part, checked, headOf, written, kindField, headBytes}
+use Rattle.records.specs.Format.{Front, front, Format, PayloadFormat, plain, recordOf, then, someOf, optional, choice}
 use Rattle.records.specs.Encoding.{Bytes}
 use Rattle.records.proofs.Records.{all-left, all-right, checked-passed, checked-append, checked-written, record-bytes}
 

@@ -62,7 +62,6 @@ openingAllowed n mode = leb n mostNodes && leb modeCausal mode && leb mode modeP
 
 -- ---- the questions of each record: does the length suit (3), are n and mode allowed (4), is each node below n (5), is the
 -- order strict (6), is each measurement byte allowed (7)
-
 unfoldable pub openingAsks : List ℕ → Answer Bool
 openingAsks p = do
   asks 3 (eqb (length p) 2)
