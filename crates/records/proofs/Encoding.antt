@@ -7,15 +7,15 @@ use mathlib.Core.List.{List, [], _∷_, _++_}
 use native.Mathlib.Omega.{arith}
 use native.Mathlib.Nat.{mul-le-mul}
 use lib.ListN.{length, getD}
+use Rattle.nodes.proofs.Logic.{and-out}
 use Rattle.nodes.specs.Lists.{has}
 use Rattle.answers.specs.Answer.{Answer, gives, _>>=_}
 use Rattle.answers.proofs.Answer.{give-inj, bind-out}
-use Rattle.records.specs.Records.{allYes, kindOpen, kindEdges, kindInputs, kindOutputs, kindMeasurements, kindLayers, kindSets}
+use Rattle.records.specs.Records.{allYes, kindOpening, kindEdges, kindInputs, kindOutputs, kindMeasurements, kindLayers, kindSets}
 use Rattle.records.specs.Format.{Front, front, plain, recordOf}
 use Rattle.records.specs.JobFile.{JobFile, mostNodes, openingAllowed, edgesAsks, nodesAsks, measurementsAsks, opening, JobValue, job, jobFile, jobValue, readJob}
 use Rattle.records.specs.FlowFile.{SetEntry, FlowFile, entriesOf, listed, allEntries, entryBelow, entriesRise, entryBytes, layersAsks, sets, flow, flowFile, flowValue, readFlow}
 use Rattle.records.specs.Encoding.{Bytes, jobBytes, ValidJob, flowFileBytes, ValidFlow}
-use Rattle.records.proofs.Records.{and-out}
 use Rattle.records.proofs.JobFile.{allowed-out, allowed-in, opening-out, opening-in, edges-out, edges-in, nodes-out, nodes-in, measurements-out, measurements-in, rises-length, pairs-length}
 use Rattle.records.proofs.FlowFile.{entries-back, entries-encode, layers-out, layers-in, sets-out, sets-in, entries-few, entry-bytes-length}
 use Rattle.records.proofs.Format.{Sound, Exact, PayloadExact, Appends, exact-iff, record-sound, record-exact, record-appends, record-closed, plain-sound, plain-exact, then-sound, then-exact, then-appends}
@@ -66,7 +66,7 @@ module _ (n : ℕ) (small : n ≤ 256) where
 -- ---- a job
 job-format : Exact job
 job-format =
-    then-exact _ _ (record-exact kindOpen opening opening-exact) (λ o v. let small : o .n ≤ 256 = omega (arith, allowed-out (o .n) (o .mode) v .0) in
+    then-exact _ _ (record-exact kindOpening opening opening-exact) (λ o v. let small : o .n ≤ 256 = omega (arith, allowed-out (o .n) (o .mode) v .0) in
     then-exact _ _ (edges-exact (o .n) small) (λ e w.
     then-exact _ _ (nodes-exact (o .n) small kindInputs) (λ i w.
     then-exact _ _ (nodes-exact (o .n) small kindOutputs) (λ u w.
@@ -74,7 +74,7 @@ job-format =
 
 job-appends : Appends job
 job-appends =
-    then-appends _ _ (record-appends kindOpen opening) (record-closed kindOpen opening) (λ o.
+    then-appends _ _ (record-appends kindOpening opening) (record-closed kindOpening opening) (λ o.
     then-appends _ _ (record-appends kindEdges (plain (edgesAsks (o .n)))) (record-closed kindEdges (plain (edgesAsks (o .n)))) (λ e.
     then-appends _ _ (record-appends kindInputs (plain (nodesAsks (o .n)))) (record-closed kindInputs (plain (nodesAsks (o .n)))) (λ i.
     then-appends _ _ (record-appends kindOutputs (plain (nodesAsks (o .n)))) (record-closed kindOutputs (plain (nodesAsks (o .n)))) (λ u.

@@ -7,18 +7,19 @@ use mathlib.Core.Option.{Option, none, some, Option·some-injective, Option·non
 use mathlib.Core.List.{List, [], _∷_, _++_}
 use native.Mathlib.Omega.{arith}
 use native.Mathlib.Nat.{not-suc-le-zero, lt-suc-self, le-of-suc-le-suc}
-use borrow.Author.Tests.{leb-true, ltb-true, eqb-true, le-leb, eq-eqb, ne-eqb}
+use borrow.Author.Tests.{leb-true, ltb-true, eqb-true, le-leb, lt-leb, lt-ltb, le-ltb, eq-eqb, ne-eqb}
 use lib.Dec.{T, eqb, ltb, leb, eqb→eq, eqb-refl}
 use lib.ListN.{length, getD, take, drop, length-append, take-append-drop}
 use lib.Seq.{length-take-le, take-append-seam, drop-append-seam}
-use Rattle.nodes.proofs.Logic.{is-false, from-false, and-l, and-r, or-l, or-r, or-out, or-none, eqb-yes}
+use Rattle.nodes.specs.Options.{isSome}
+use Rattle.nodes.proofs.Logic.{and-out, is-false, from-false, and-none, and-l, and-r, or-l, or-r, or-out, or-none, eqb-yes}
 use Rattle.answers.specs.Answer.{gives, asks, _>>_}
 use Rattle.records.specs.Records.{allYes}
-use Rattle.nodes.specs.Lists.{has, all}
-use Rattle.records.specs.JobFile.{modeCausal, rises}
-use Rattle.records.specs.FlowFile.{SetEntry, addEntry, entriesIn, entriesOf, framed, listed, allEntries, entryBelow, entriesRise, layersAsks, setsAsks, entryBytes, setIn, entryIn, nothingLeft, oneMember}
+use Rattle.nodes.specs.Lists.{has}
+use Rattle.records.specs.JobFile.{modeCausal, nodesBelow, rises}
+use Rattle.records.specs.FlowFile.{SetEntry, addEntry, entriesIn, entriesOf, listed, allEntries, entryBelow, entriesRise, layersAsks, setsAsks, entryBytes, setIn, entryIn, nothingLeft, oneMember}
 use Rattle.answers.proofs.Answer.{asks-yes}
-use Rattle.records.proofs.Records.{and-out, asks-then, asks-last}
+use Rattle.records.proofs.Records.{asks-then, asks-last}
 use Rattle.records.proofs.JobFile.{has-below, rises-length}
 
 -- ---- entries and their bytes
@@ -65,7 +66,7 @@ pub layers-in : (n : ℕ) (p : List ℕ) → length p ≡ n → allYes (layersAs
 unfolding layersAsks
 layers-in n p e = rw (eq-eqb (length p) n e)
 
-framed-out : (o : Option (List SetEntry)) → framed o ≡ true → o ≡ some (listed o)
+framed-out : (o : Option (List SetEntry)) → isSome o ≡ true → o ≡ some (listed o)
 framed-out none e = absurd (false≢true e)
 framed-out (some es) e = refl
 
@@ -73,7 +74,7 @@ pub sets-out : (n : ℕ) (p : List ℕ) → allYes (setsAsks n p) ≡ true → (
 unfolding setsAsks
 sets-out n p e =
     let es = listed (entriesOf p) in
-    let (a, b) = asks-then 3 (framed (entriesOf p)) (asks 5 (allEntries (entryBelow n) es) >> asks 6 (entriesRise 0 es)) e in
+    let (a, b) = asks-then 3 (isSome (entriesOf p)) (asks 5 (allEntries (entryBelow n) es) >> asks 6 (entriesRise 0 es)) e in
     let (c, d) = asks-then 5 (allEntries (entryBelow n) es) (asks 6 (entriesRise 0 es)) b in
     (framed-out (entriesOf p) a, c, asks-last 6 (entriesRise 0 es) d)
 
@@ -81,35 +82,84 @@ pub sets-in : (n : ℕ) (es : List SetEntry) → allEntries (entryBelow n) es �
 unfolding setsAsks
 sets-in n es a b = rw (entries-back es, a, b)
 
+-- ---- entries below n and entries that rise: their laws, by which all else goes
+pub below-out : (n : ℕ) (e : SetEntry) → entryBelow n e ≡ true → (e .node < n) × (nodesBelow n (e .set) ≡ true)
+unfolding entryBelow
+below-out n e a = let (p, q) = and-out (ltb (e .node) n) (nodesBelow n (e .set)) a in (ltb-true (e .node) n p, q)
+
+pub below-in : (n : ℕ) (e : SetEntry) → e .node < n → nodesBelow n (e .set) ≡ true → entryBelow n e ≡ true
+unfolding entryBelow
+below-in n e h a = rw (lt-ltb (e .node) n h, a)
+
+pub node-not-below : (n : ℕ) (e : SetEntry) → n ≤ e .node → entryBelow n e ≡ false
+unfolding entryBelow
+node-not-below n e h = rw (le-ltb (e .node) n h)
+
+pub set-not-below : (n : ℕ) (e : SetEntry) → nodesBelow n (e .set) ≡ false → entryBelow n e ≡ false
+unfolding entryBelow
+set-not-below n e a = rw a (and-none (ltb (e .node) n))
+
+pub each-none : (f : SetEntry → Bool) → allEntries f [] ≡ true
+unfolding allEntries
+each-none f = refl
+
+pub each-cons : (f : SetEntry → Bool) (e : SetEntry) (es : List SetEntry) → allEntries f (e ∷ es) ≡ f e && allEntries f es
+unfolding allEntries
+each-cons f e es = refl
+
+pub each-out : (f : SetEntry → Bool) (e : SetEntry) (es : List SetEntry) → allEntries f (e ∷ es) ≡ true → (f e ≡ true) × (allEntries f es ≡ true)
+each-out f e es a = and-out (f e) (allEntries f es) (sym (each-cons f e es) ∙ a)
+
+pub rise-none : (low : ℕ) → entriesRise low [] ≡ true
+unfolding entriesRise
+rise-none low = refl
+
+pub rise-out : (low : ℕ) (e : SetEntry) (es : List SetEntry) → entriesRise low (e ∷ es) ≡ true → (low ≤ e .node) × (rises 0 (e .set) ≡ true) × (entriesRise (e .node + 1) es ≡ true)
+unfolding entriesRise
+rise-out low e es a =
+    let (p, q) = and-out (leb low (e .node) && rises 0 (e .set)) (entriesRise (e .node + 1) es) a in
+    let (r, t) = and-out (leb low (e .node)) (rises 0 (e .set)) p in
+    (leb-true low (e .node) r, t, q)
+
+module _ (low : ℕ) (e : SetEntry) (es : List SetEntry) where
+  pub rise-cons : low ≤ e .node → rises 0 (e .set) ≡ true → entriesRise low (e ∷ es) ≡ entriesRise (e .node + 1) es
+  unfolding entriesRise
+  rise-cons h a = rw (le-leb low (e .node) h, a)
+
+  pub node-not-rising : e .node < low → entriesRise low (e ∷ es) ≡ false
+  unfolding entriesRise
+  node-not-rising h = rw (lt-leb low (e .node) h)
+
+  pub set-not-rising : rises 0 (e .set) ≡ false → entriesRise low (e ∷ es) ≡ false
+  unfolding entriesRise
+  set-not-rising a = rw (a, and-none (leb low (e .node)))
+
 -- ---- how many entries and bytes there can be
 pub entries-few : (low n : ℕ) (es : List SetEntry) → low ≤ n → allEntries (entryBelow n) es ≡ true → entriesRise low es ≡ true → length es + low ≤ n
-unfolding allEntries entriesRise
 entries-few low n [] h a b = omega arith
 entries-few low n (e ∷ es) h a b =
-    let (p, q) = and-out (ltb (e .node) n && all (λ v. ltb v n) (e .set)) (allEntries (entryBelow n) es) a in
-    let (r, t) = and-out (leb low (e .node) && rises 0 (e .set)) (entriesRise (e .node + 1) es) b in
-    let lt : e .node < n = ltb-true (e .node) n (and-out (ltb (e .node) n) (all (λ v. ltb v n) (e .set)) p .0) in
-    let le : low ≤ e .node = leb-true low (e .node) (and-out (leb low (e .node)) (rises 0 (e .set)) r .0) in
+    let (p, q) = each-out (entryBelow n) e es a in
+    let (le, r, t) = rise-out low e es b in
+    let lt = below-out n e p .0 in
     let ih : length es + (e .node + 1) ≤ n = entries-few (e .node + 1) n es (omega arith) q t in
     omega arith
 
 pub entry-bytes-length : (low n : ℕ) (es : List SetEntry) → allEntries (entryBelow n) es ≡ true → entriesRise low es ≡ true → length (entryBytes es) ≤ length es * (n + 2)
-unfolding allEntries entriesRise entryBytes
+unfolding entryBytes
 entry-bytes-length low n [] a b = omega arith
 entry-bytes-length low n (e ∷ es) a b =
-    let (p, q) = and-out (ltb (e .node) n && all (λ v. ltb v n) (e .set)) (allEntries (entryBelow n) es) a in
-    let (r, t) = and-out (leb low (e .node) && rises 0 (e .set)) (entriesRise (e .node + 1) es) b in
-    let m : length (e .set) + 0 ≤ n = rises-length 0 n (e .set) zero-le (and-out (ltb (e .node) n) (all (λ v. ltb v n) (e .set)) p .1) (and-out (leb low (e .node)) (rises 0 (e .set)) r .1) in
+    let (p, q) = each-out (entryBelow n) e es a in
+    let (le, r, t) = rise-out low e es b in
+    let m : length (e .set) + 0 ≤ n = rises-length 0 n (e .set) zero-le (below-out n e p .1) r in
     let ih : length (entryBytes es) ≤ length es * (n + 2) = entry-bytes-length (e .node + 1) n es q t in
     let l : length (e .set ++ entryBytes es) ≡ length (e .set) + length (entryBytes es) = length-append (e .set) (entryBytes es) in
     omega arith
 
 -- ---- what follows for the nodes
 pub entries-at : (f : SetEntry → Bool) (es : List SetEntry) (d : SetEntry) (i : ℕ) → allEntries f es ≡ true → i < length es → f (getD es i d) ≡ true
-unfolding allEntries
 entries-at f [] d i a h = absurd (not-suc-le-zero h)
-entries-at f (e ∷ es) d zero a h = and-out (f e) (allEntries f es) a .0
-entries-at f (e ∷ es) d (suc i) a h = entries-at f es d i (and-out (f e) (allEntries f es) a .1) (le-of-suc-le-suc h)
+entries-at f (e ∷ es) d zero a h = each-out f e es a .0
+entries-at f (e ∷ es) d (suc i) a h = entries-at f es d i (each-out f e es a .1) (le-of-suc-le-suc h)
 
 -- a node with a member has an entry
 pub set-entry : (es : List SetEntry) (u k : ℕ) → T (setIn es u k) → T (entryIn es u)
@@ -139,21 +189,18 @@ place-entry (e ∷ es) d (suc i) h = or-r (eqb (e .node) (getD es i d .node)) (e
 
 -- the nodes of the entries, from where they start to rise
 pub entries-above : (low : ℕ) (es : List SetEntry) (d : SetEntry) (i : ℕ) → entriesRise low es ≡ true → i < length es → low ≤ getD es i d .node
-unfolding entriesRise
 entries-above low [] d i a h = absurd (not-suc-le-zero h)
-entries-above low (e ∷ es) d zero a h = leb-true low (e .node) (and-out (leb low (e .node)) (rises 0 (e .set)) (and-out (leb low (e .node) && rises 0 (e .set)) (entriesRise (e .node + 1) es) a .0) .0)
+entries-above low (e ∷ es) d zero a h = rise-out low e es a .0
 entries-above low (e ∷ es) d (suc i) a h =
-    let (p, q) = and-out (leb low (e .node) && rises 0 (e .set)) (entriesRise (e .node + 1) es) a in
-    let le : low ≤ e .node = leb-true low (e .node) (and-out (leb low (e .node)) (rises 0 (e .set)) p .0) in
+    let (le, r, q) = rise-out low e es a in
     let ih : e .node + 1 ≤ getD es i d .node = entries-above (e .node + 1) es d i q (le-of-suc-le-suc h) in
     omega arith
 
 pub entries-ascend : (low : ℕ) (es : List SetEntry) (d : SetEntry) (i j : ℕ) → entriesRise low es ≡ true → i < j → j < length es → getD es i d .node < getD es j d .node
-unfolding entriesRise
 entries-ascend low [] d i j a h l = absurd (not-suc-le-zero l)
 entries-ascend low (e ∷ es) d i zero a h l = absurd (not-suc-le-zero h)
-entries-ascend low (e ∷ es) d zero (suc j) a h l = omega (arith, entries-above (e .node + 1) es d j (and-out (leb low (e .node) && rises 0 (e .set)) (entriesRise (e .node + 1) es) a .1) (le-of-suc-le-suc l))
-entries-ascend low (e ∷ es) d (suc i) (suc j) a h l = entries-ascend (e .node + 1) es d i j (and-out (leb low (e .node) && rises 0 (e .set)) (entriesRise (e .node + 1) es) a .1) (le-of-suc-le-suc h) (le-of-suc-le-suc l)
+entries-ascend low (e ∷ es) d zero (suc j) a h l = omega (arith, entries-above (e .node + 1) es d j (rise-out low e es a .2) (le-of-suc-le-suc l))
+entries-ascend low (e ∷ es) d (suc i) (suc j) a h l = entries-ascend (e .node + 1) es d i j (rise-out low e es a .2) (le-of-suc-le-suc h) (le-of-suc-le-suc l)
 
 pub entries-none : (low : ℕ) (es : List SetEntry) (u : ℕ) → entriesRise low es ≡ true → u < low → entryIn es u ≡ false
 entries-none low es u a h = is-false (entryIn es u) (λ t. by (entry-place es d u t))
@@ -172,35 +219,35 @@ no-entry-no-set es u k e = is-false (setIn es u k) (λ t. from-false (entryIn es
 
 -- the members at an entry's node are that entry's: each node has one entry at most
 pub set-at : (low : ℕ) (es : List SetEntry) (d : SetEntry) (i k : ℕ) → entriesRise low es ≡ true → i < length es → setIn es (getD es i d .node) k ≡ has (getD es i d .set) k
-unfolding entriesRise setIn
+unfolding setIn
 set-at low [] d i k a h = absurd (not-suc-le-zero h)
 set-at low (e ∷ es) d zero k a h =
-    let (p, q) = and-out (leb low (e .node) && rises 0 (e .set)) (entriesRise (e .node + 1) es) a in
+    let q = rise-out low e es a .2 in
     rw (eqb-yes (e .node), no-entry-no-set es (e .node) k (entries-none (e .node + 1) es (e .node) q (omega arith))) (or-none (has (e .set) k))
 set-at low (e ∷ es) d (suc i) k a h =
-    let (p, q) = and-out (leb low (e .node) && rises 0 (e .set)) (entriesRise (e .node + 1) es) a in
+    let q = rise-out low e es a .2 in
     let l : e .node + 1 ≤ getD es i d .node = entries-above (e .node + 1) es d i q (le-of-suc-le-suc h) in
     rw (ne-eqb (e .node) (getD es i d .node) (omega arith)) (set-at (e .node + 1) es d i k q (le-of-suc-le-suc h))
 
 pub nodes-below : (n : ℕ) (es : List SetEntry) (u : ℕ) → allEntries (entryBelow n) es ≡ true → T (entryIn es u) → u < n
-unfolding allEntries entryIn
+unfolding entryIn
 nodes-below n [] u a t = absurd t
 nodes-below n (e ∷ es) u a t =
-    let (p, q) = and-out (ltb (e .node) n && all (λ v. ltb v n) (e .set)) (allEntries (entryBelow n) es) a in
-    by (ltb-true (e .node) n (and-out (ltb (e .node) n) (all (λ v. ltb v n) (e .set)) p .0)) (or-out (eqb (e .node) u) (entryIn es u) t) (nodes-below n es u q)
+    let (p, q) = each-out (entryBelow n) e es a in
+    by (below-out n e p .0) (or-out (eqb (e .node) u) (entryIn es u) t) (nodes-below n es u q)
   where
     by : e .node < n → T (eqb (e .node) u) ⊎ T (entryIn es u) → (T (entryIn es u) → u < n) → u < n
     by l (inl t) ih = rw (← eqb→eq (e .node) u t) l
     by l (inr t) ih = ih t
 
 pub members-below : (n : ℕ) (es : List SetEntry) (u k : ℕ) → allEntries (entryBelow n) es ≡ true → T (setIn es u k) → k < n
-unfolding allEntries setIn
+unfolding setIn
 members-below n [] u k a t = absurd t
 members-below n (e ∷ es) u k a t =
-    let (p, q) = and-out (ltb (e .node) n && all (λ v. ltb v n) (e .set)) (allEntries (entryBelow n) es) a in
-    by (and-out (ltb (e .node) n) (all (λ v. ltb v n) (e .set)) p .1) (or-out (eqb (e .node) u && has (e .set) k) (setIn es u k) t) (members-below n es u k q)
+    let (p, q) = each-out (entryBelow n) e es a in
+    by (below-out n e p .1) (or-out (eqb (e .node) u && has (e .set) k) (setIn es u k) t) (members-below n es u k q)
   where
-    by : all (λ v. ltb v n) (e .set) ≡ true → T (eqb (e .node) u && has (e .set) k) ⊎ T (setIn es u k) → (T (setIn es u k) → k < n) → k < n
+    by : nodesBelow n (e .set) ≡ true → T (eqb (e .node) u && has (e .set) k) ⊎ T (setIn es u k) → (T (setIn es u k) → k < n) → k < n
     by l (inl t) ih = has-below n (e .set) k l (and-r (eqb (e .node) u) (has (e .set) k) t)
     by l (inr t) ih = ih t
 

@@ -10,13 +10,14 @@ use mathlib.Core.Option.{Option, none, some}
 use mathlib.Core.List.{List, [], _++_, append-assoc}
 use lib.Dec.{ltb, leb, eqb}
 use lib.ListN.{length, length-append, List·getD-append}
+use Rattle.nodes.proofs.Logic.{and-out}
 use Rattle.nodes.specs.Lists.{all}
 use Rattle.answers.specs.Answer.{Answer, gives, refuses, refusal, _>>=_, _>>_}
 use Rattle.answers.proofs.Answer.{give-inj, never, bind-out}
-use Rattle.records.specs.Records.{Part, allYes, part, checked, headOf, written, kindField, headBytes}
-use Rattle.records.specs.Format.{Front, front, Format, PayloadFormat, plain, recordOf, then, carries, someOf, optional, choice}
+use Rattle.records.specs.Records.{carries, Part, allYes, part, checked, headOf, written, kindField, headBytes}
+use Rattle.records.specs.Format.{Front, front, Format, PayloadFormat, plain, recordOf, then, someOf, optional, choice}
 use Rattle.records.specs.Encoding.{Bytes}
-use Rattle.records.proofs.Records.{and-out, all-left, all-right, checked-passed, checked-append, checked-written, record-bytes}
+use Rattle.records.proofs.Records.{all-left, all-right, checked-passed, checked-append, checked-written, record-bytes}
 
 -- what is read is valid
 pub record Sound {A : Type 0} (f : Format A) : Type 0 where

@@ -6,17 +6,18 @@ use mathlib.Core.Logic.{_⊎_, inl, inr}
 use mathlib.Core.List.{List, [], _∷_}
 use native.Mathlib.Omega.{arith}
 use native.Mathlib.Nat.{not-suc-le-zero, le-of-suc-le-suc}
-use borrow.Author.Tests.{leb-true, ltb-true, eqb-true, le-leb, lt-ltb, eq-eqb}
+use borrow.Author.Tests.{leb-true, ltb-true, eqb-true, le-leb, lt-ltb, eq-eqb, ne-eqb}
 use lib.Dec.{T, eqb, ltb, leb, eqb→eq}
 use lib.ListN.{length, getD, List·getD-eq-default}
-use Rattle.nodes.proofs.Logic.{is-false, and-l, and-r, or-out, or-comm, lt-or-ge}
+use Rattle.flows.specs.Job.{planeXY, planeXZ, pauliZ}
+use Rattle.nodes.proofs.Logic.{and-out, is-false, and-l, and-r, or-out, or-comm, lt-or-ge}
 use Rattle.answers.specs.Answer.{asks, _>>_}
 use Rattle.records.specs.Records.{allYes}
 use Rattle.nodes.specs.NodeSet.{highest}
 use Rattle.nodes.specs.Lists.{has, all}
-use Rattle.records.specs.JobFile.{JobFile, mostNodes, modeCausal, modePlanes, modePauli, wholePairs, nodesBelow, rises, pairsRise, highestOf, allows, allAllowed, openingAllowed, openingAsks, edgesAsks, nodesAsks, measurementsAsks, joined, jobOf}
+use Rattle.records.specs.JobFile.{JobFile, mostNodes, modeCausal, modePlanes, modePauli, wholePairs, nodesBelow, rises, pairsRise, highestOf, allows, allAllowed, openingAllowed, openingAsks, edgesAsks, nodesAsks, measurementsAsks, hasEdge, jobOf}
 use Rattle.records.specs.Encoding.{ValidJob}
-use Rattle.records.proofs.Records.{and-out, asks-then, asks-last}
+use Rattle.records.proofs.Records.{asks-then, asks-last}
 
 -- ---- the questions of each record, as facts
 pub allowed-out : (n mode : ℕ) → openingAllowed n mode ≡ true → (n ≤ mostNodes) × (modeCausal ≤ mode) × (mode ≤ modePauli)
@@ -69,29 +70,71 @@ pub measurements-in : (n mode : ℕ) (output : ℕ → Bool) (p : List ℕ) → 
 unfolding measurementsAsks
 measurements-in n mode output p a b = rw (eq-eqb (length p) n a, b)
 
+-- ---- lists that rise, and measurements that are allowed: their laws, by which all else goes
+pub rises-none : (low : ℕ) → rises low [] ≡ true
+unfolding rises
+rises-none low = refl
+
+pub rises-out : (low x : ℕ) (l : List ℕ) → rises low (x ∷ l) ≡ true → (low ≤ x) × (rises (x + 1) l ≡ true)
+unfolding rises
+rises-out low x l a = let (p, q) = and-out (leb low x) (rises (x + 1) l) a in (leb-true low x p, q)
+
+pub rises-in : (low x : ℕ) (l : List ℕ) → low ≤ x → rises low (x ∷ l) ≡ rises (x + 1) l
+unfolding rises
+rises-in low x l h = rw (le-leb low x h)
+
+pub pairs-out : (low a b : ℕ) (l : List ℕ) → pairsRise low (a ∷ b ∷ l) ≡ true → (a < b) × (low ≤ 256 * a + b) × (pairsRise (256 * a + b + 1) l ≡ true)
+unfolding pairsRise
+pairs-out low a b l h =
+    let (p, q) = and-out (ltb a b && leb low (256 * a + b)) (pairsRise (256 * a + b + 1) l) h in
+    let (r, t) = and-out (ltb a b) (leb low (256 * a + b)) p in
+    (ltb-true a b r, leb-true low (256 * a + b) t, q)
+
+pub output-out : (mode m : ℕ) → allows mode true m ≡ true → m ≡ 0
+unfolding allows
+output-out mode m e = eqb-true m 0 e
+
+pub measured-out : (mode m : ℕ) → allows mode false m ≡ true → (1 ≤ m) × (m ≤ highestOf mode)
+unfolding allows
+measured-out mode m e = let (p, q) = and-out (leb 1 m) (leb m (highestOf mode)) e in (leb-true 1 m p, leb-true m (highestOf mode) q)
+
+pub allows-in : (mode m : ℕ) → m ≤ highestOf mode → allows mode (eqb m 0) m ≡ true
+unfolding allows
+allows-in mode zero h = refl
+allows-in mode (suc m) h = rw (ne-eqb (suc m) 0 (λ e. omega arith), le-leb 1 (suc m) (omega arith), le-leb (suc m) (highestOf mode) h)
+
+pub allowed-none : (mode : ℕ) (output : ℕ → Bool) (i : ℕ) → allAllowed mode output i [] ≡ true
+unfolding allAllowed
+allowed-none mode output i = refl
+
+pub allowed-cons : (mode : ℕ) (output : ℕ → Bool) (i m : ℕ) (l : List ℕ) → allAllowed mode output i (m ∷ l) ≡ allows mode (output i) m && allAllowed mode output (i + 1) l
+unfolding allAllowed
+allowed-cons mode output i m l = refl
+
+pub allowed-each : (mode : ℕ) (output : ℕ → Bool) (i m : ℕ) (l : List ℕ) → allAllowed mode output i (m ∷ l) ≡ true → (allows mode (output i) m ≡ true) × (allAllowed mode output (i + 1) l ≡ true)
+allowed-each mode output i m l a = and-out (allows mode (output i) m) (allAllowed mode output (i + 1) l) (sym (allowed-cons mode output i m l) ∙ a)
+
 -- ---- how long lists of nodes and of pairs can be
 pub rises-length : (low n : ℕ) (l : List ℕ) → low ≤ n → all (λ v. ltb v n) l ≡ true → rises low l ≡ true → length l + low ≤ n
-unfolding all rises
+unfolding all
 rises-length low n [] h a b = omega arith
 rises-length low n (x ∷ l) h a b =
     let (p, q) = and-out (ltb x n) (all (λ v. ltb v n) l) a in
-    let (r, t) = and-out (leb low x) (rises (x + 1) l) b in
+    let (le, t) = rises-out low x l b in
     let lx : x < n = ltb-true x n p in
-    let le : low ≤ x = leb-true low x r in
     let ih : length l + (x + 1) ≤ n = rises-length (x + 1) n l (omega arith) q t in
     omega arith
 
 pub pairs-length : (low n : ℕ) (l : List ℕ) → n ≤ 256 → low ≤ 65536 → all (λ v. ltb v n) l ≡ true → pairsRise low l ≡ true → length l + 2 * low ≤ 131073
-unfolding all pairsRise
+unfolding all
 pairs-length low n [] k h a b = omega arith
 pairs-length low n (x ∷ []) k h a b = omega arith
 pairs-length low n (x ∷ y ∷ l) k h a b =
     let (p, q) = and-out (ltb x n) (all (λ v. ltb v n) (y ∷ l)) a in
     let (p2, q2) = and-out (ltb y n) (all (λ v. ltb v n) l) q in
-    let (r, t) = and-out (ltb x y && leb low (256 * x + y)) (pairsRise (256 * x + y + 1) l) b in
+    let (lt, le, t) = pairs-out low x y l b in
     let lx : x < n = ltb-true x n p in
     let ly : y < n = ltb-true y n p2 in
-    let le : low ≤ 256 * x + y = leb-true low (256 * x + y) (and-out (ltb x y) (leb low (256 * x + y)) r .1) in
     let ih : length l + 2 * (256 * x + y + 1) ≤ 131073 = pairs-length (256 * x + y + 1) n l k (omega arith) q2 t in
     omega arith
 
@@ -123,94 +166,92 @@ has-small n (a ∷ l) h t u =
     here true e x ih = let p : a ≡ u = eqb-true a u (sym e) in le-leb u highest (omega arith)
     here false e x ih = ih
 
-pub joined-sym : (l : List ℕ) (u v : ℕ) → joined l u v ≡ joined l v u
-unfolding joined
-joined-sym [] u v = refl
-joined-sym (a ∷ []) u v = refl
-joined-sym (a ∷ b ∷ l) u v = ap₂ _||_ (or-comm (eqb a u && eqb b v) (eqb a v && eqb b u)) (joined-sym l u v)
+pub edge-sym : (l : List ℕ) (u v : ℕ) → hasEdge l u v ≡ hasEdge l v u
+unfolding hasEdge
+edge-sym [] u v = refl
+edge-sym (a ∷ []) u v = refl
+edge-sym (a ∷ b ∷ l) u v = ap₂ _||_ (or-comm (eqb a u && eqb b v) (eqb a v && eqb b u)) (edge-sym l u v)
 
--- a joined pair is one of the list's, one way or the other
-joined-out : (a b : ℕ) (l : List ℕ) (u v : ℕ) → T (joined (a ∷ b ∷ l) u v) → ((a ≡ u) × (b ≡ v)) ⊎ (((a ≡ v) × (b ≡ u)) ⊎ T (joined l u v))
-unfolding joined
-joined-out a b l u v t = by (or-out (eqb a u && eqb b v || eqb a v && eqb b u) (joined l u v) t)
+-- a hasEdge pair is one of the list's, one way or the other
+edge-out : (a b : ℕ) (l : List ℕ) (u v : ℕ) → T (hasEdge (a ∷ b ∷ l) u v) → ((a ≡ u) × (b ≡ v)) ⊎ (((a ≡ v) × (b ≡ u)) ⊎ T (hasEdge l u v))
+unfolding hasEdge
+edge-out a b l u v t = by (or-out (eqb a u && eqb b v || eqb a v && eqb b u) (hasEdge l u v) t)
   where
     pair : (c d : ℕ) → T (eqb a c && eqb b d) → (a ≡ c) × (b ≡ d)
     pair c d t = (eqb→eq a c (and-l (eqb a c) (eqb b d) t), eqb→eq b d (and-r (eqb a c) (eqb b d) t))
 
-    one : T (eqb a u && eqb b v) ⊎ T (eqb a v && eqb b u) → ((a ≡ u) × (b ≡ v)) ⊎ (((a ≡ v) × (b ≡ u)) ⊎ T (joined l u v))
+    one : T (eqb a u && eqb b v) ⊎ T (eqb a v && eqb b u) → ((a ≡ u) × (b ≡ v)) ⊎ (((a ≡ v) × (b ≡ u)) ⊎ T (hasEdge l u v))
     one (inl t) = inl (pair u v t)
     one (inr t) = inr (inl (pair v u t))
 
-    by : T (eqb a u && eqb b v || eqb a v && eqb b u) ⊎ T (joined l u v) → ((a ≡ u) × (b ≡ v)) ⊎ (((a ≡ v) × (b ≡ u)) ⊎ T (joined l u v))
+    by : T (eqb a u && eqb b v || eqb a v && eqb b u) ⊎ T (hasEdge l u v) → ((a ≡ u) × (b ≡ v)) ⊎ (((a ≡ v) × (b ≡ u)) ⊎ T (hasEdge l u v))
     by (inl t) = one (or-out (eqb a u && eqb b v) (eqb a v && eqb b u) t)
     by (inr t) = inr (inr t)
 
-pub joined-below : (n : ℕ) (l : List ℕ) (u v : ℕ) → all (λ v. ltb v n) l ≡ true → T (joined l u v) → (u < n) × (v < n)
-unfolding all joined
-joined-below n [] u v h t = absurd t
-joined-below n (a ∷ []) u v h t = absurd t
-joined-below n (a ∷ b ∷ l) u v h t =
+pub edge-below : (n : ℕ) (l : List ℕ) (u v : ℕ) → all (λ v. ltb v n) l ≡ true → T (hasEdge l u v) → (u < n) × (v < n)
+unfolding all hasEdge
+edge-below n [] u v h t = absurd t
+edge-below n (a ∷ []) u v h t = absurd t
+edge-below n (a ∷ b ∷ l) u v h t =
     let (p, q) = and-out (ltb a n) (all (λ v. ltb v n) (b ∷ l)) h in
     let (p2, q2) = and-out (ltb b n) (all (λ v. ltb v n) l) q in
-    by (ltb-true a n p) (ltb-true b n p2) (joined-out a b l u v t) (joined-below n l u v q2)
+    by (ltb-true a n p) (ltb-true b n p2) (edge-out a b l u v t) (edge-below n l u v q2)
   where
-    by : a < n → b < n → ((a ≡ u) × (b ≡ v)) ⊎ (((a ≡ v) × (b ≡ u)) ⊎ T (joined l u v)) → (T (joined l u v) → (u < n) × (v < n)) → (u < n) × (v < n)
+    by : a < n → b < n → ((a ≡ u) × (b ≡ v)) ⊎ (((a ≡ v) × (b ≡ u)) ⊎ T (hasEdge l u v)) → (T (hasEdge l u v) → (u < n) × (v < n)) → (u < n) × (v < n)
     by x y (inl (c, d)) ih = (omega arith, omega arith)
     by x y (inr (inl (c, d))) ih = (omega arith, omega arith)
     by x y (inr (inr t)) ih = ih t
 
-loop-free : (low : ℕ) (l : List ℕ) (u : ℕ) → pairsRise low l ≡ true → T (joined l u u) → ⊥
-unfolding pairsRise joined
+loop-free : (low : ℕ) (l : List ℕ) (u : ℕ) → pairsRise low l ≡ true → T (hasEdge l u u) → ⊥
+unfolding hasEdge
 loop-free low [] u h t = t
 loop-free low (a ∷ []) u h t = t
 loop-free low (a ∷ b ∷ l) u h t =
-    let (p, q) = and-out (ltb a b && leb low (256 * a + b)) (pairsRise (256 * a + b + 1) l) h in
-    by (ltb-true a b (and-out (ltb a b) (leb low (256 * a + b)) p .0)) (joined-out a b l u u t) (loop-free (256 * a + b + 1) l u q)
+    let (lt, le, q) = pairs-out low a b l h in
+    by lt (edge-out a b l u u t) (loop-free (256 * a + b + 1) l u q)
   where
     apart : a < b → a ≡ u → b ≡ u → ⊥
     apart x y z = omega arith
 
-    by : a < b → ((a ≡ u) × (b ≡ u)) ⊎ (((a ≡ u) × (b ≡ u)) ⊎ T (joined l u u)) → (T (joined l u u) → ⊥) → ⊥
+    by : a < b → ((a ≡ u) × (b ≡ u)) ⊎ (((a ≡ u) × (b ≡ u)) ⊎ T (hasEdge l u u)) → (T (hasEdge l u u) → ⊥) → ⊥
     by x (inl (c, d)) ih = apart x c d
     by x (inr (inl (c, d))) ih = apart x c d
     by x (inr (inr t)) ih = ih t
 
--- no node is joined to itself
-pub no-loop : (low : ℕ) (l : List ℕ) (u : ℕ) → pairsRise low l ≡ true → joined l u u ≡ false
-no-loop low l u h = is-false (joined l u u) (loop-free low l u h)
+-- no node is hasEdge to itself
+pub no-loop : (low : ℕ) (l : List ℕ) (u : ℕ) → pairsRise low l ≡ true → hasEdge l u u ≡ false
+no-loop low l u h = is-false (hasEdge l u u) (loop-free low l u h)
 
 -- the byte of a node
 pub allowed-at : (mode : ℕ) (output : ℕ → Bool) (i : ℕ) (l : List ℕ) (k : ℕ) → allAllowed mode output i l ≡ true → k < length l → allows mode (output (i + k)) (getD l k 0) ≡ true
-unfolding allAllowed
 allowed-at mode output i [] k a h = absurd (not-suc-le-zero h)
 allowed-at mode output i (m ∷ l) zero a h =
     let e : i + 0 ≡ i = omega arith in
-    ap (λ (x : ℕ). allows mode (output x) m) e ∙ and-out (allows mode (output i) m) (allAllowed mode output (i + 1) l) a .0
+    ap (λ (x : ℕ). allows mode (output x) m) e ∙ allowed-each mode output i m l a .0
 allowed-at mode output i (m ∷ l) (suc k) a h =
     let e : i + suc k ≡ i + 1 + k = omega arith in
-    ap (λ (x : ℕ). allows mode (output x) (getD l k 0)) e ∙ allowed-at mode output (i + 1) l k (and-out (allows mode (output i) m) (allAllowed mode output (i + 1) l) a .1) (le-of-suc-le-suc h)
+    ap (λ (x : ℕ). allows mode (output x) (getD l k 0)) e ∙ allowed-at mode output (i + 1) l k (allowed-each mode output i m l a .1) (le-of-suc-le-suc h)
 
 allows-below : (mode : ℕ) (output : Bool) (m : ℕ) → allows mode output m ≡ true → m < highestOf mode + 1
-unfolding allows
-allows-below mode true m e = omega (arith, eqb-true m 0 e)
-allows-below mode false m e = omega (arith, leb-true m (highestOf mode) (and-out (leb 1 m) (leb m (highestOf mode)) e .1))
+allows-below mode true m e = omega (arith, output-out mode m e)
+allows-below mode false m e = omega (arith, measured-out mode m e .1)
 
-highest-most : (mode : ℕ) → highestOf mode ≤ 6
+highest-most : (mode : ℕ) → highestOf mode ≤ pauliZ
 highest-most mode = by (eqb mode modeCausal) (eqb mode modePlanes)
   where
-    by : (a b : Bool) → cond a 1 (cond b 3 6) ≤ 6
+    by : (a b : Bool) → cond a planeXY (cond b planeXZ pauliZ) ≤ pauliZ
     by true b = omega arith
     by false true = omega arith
     by false false = omega arith
 
-pub allows-most : (mode : ℕ) (output : Bool) (m : ℕ) → allows mode output m ≡ true → m ≤ 6
+pub allows-most : (mode : ℕ) (output : Bool) (m : ℕ) → allows mode output m ≡ true → m ≤ pauliZ
 allows-most mode output m e = omega (arith, allows-below mode output m e, highest-most mode)
 
 pub allowed-below : (mode : ℕ) (output : ℕ → Bool) (i : ℕ) (l : List ℕ) → allAllowed mode output i l ≡ true → all (λ v. ltb v (highestOf mode + 1)) l ≡ true
-unfolding allAllowed all
+unfolding all
 allowed-below mode output i [] a = refl
 allowed-below mode output i (m ∷ l) a =
-    let (p, q) = and-out (allows mode (output i) m) (allAllowed mode output (i + 1) l) a in
+    let (p, q) = allowed-each mode output i m l a in
     rw (lt-ltb m (highestOf mode + 1) (allows-below mode (output i) m p), allowed-below mode output (i + 1) l q)
 
 module _ (f : JobFile) (v : ValidJob f) where
@@ -222,24 +263,19 @@ module _ (f : JobFile) (v : ValidJob f) where
 
   -- a node that is measured has a byte from 1 to the highest of the mode
   pub measured-range : (u : ℕ) → u < f .n → jobOf f .output u ≡ false → (1 ≤ jobOf f .measured u) × (jobOf f .measured u ≤ highestOf (f .mode))
-  unfolding allows
-  measured-range u h o =
-      let a : leb 1 (jobOf f .measured u) && leb (jobOf f .measured u) (highestOf (f .mode)) ≡ true = rw o at (byte-allowed u h) in
-      let (p, q) = and-out (leb 1 (jobOf f .measured u)) (leb (jobOf f .measured u) (highestOf (f .mode))) a in
-      (leb-true 1 (jobOf f .measured u) p, leb-true (jobOf f .measured u) (highestOf (f .mode)) q)
+  measured-range u h o = measured-out (f .mode) (jobOf f .measured u) (rw o at (byte-allowed u h))
 
   pub output-zero : (u : ℕ) → u < f .n → jobOf f .output u ≡ true → jobOf f .measured u ≡ 0
-  unfolding allows
-  output-zero u h o = eqb-true (jobOf f .measured u) 0 (rw o at (byte-allowed u h))
+  output-zero u h o = output-out (f .mode) (jobOf f .measured u) (rw o at (byte-allowed u h))
 
-  pub measured-most : (u : ℕ) → jobOf f .measured u ≤ 6
+  pub measured-most : (u : ℕ) → jobOf f .measured u ≤ pauliZ
   measured-most u = by (lt-or-ge u (f .n))
     where
-      by : (u < f .n) ⊎ (f .n ≤ u) → jobOf f .measured u ≤ 6
+      by : (u < f .n) ⊎ (f .n ≤ u) → jobOf f .measured u ≤ pauliZ
       by (inl h) = allows-most (f .mode) (jobOf f .output u) (jobOf f .measured u) (byte-allowed u h)
       by (inr h) = rw (List·getD-eq-default (f .measurements) 0 {n = u} (omega (arith, v .count))) zero-le
 
-  pub measured-plane : f .mode ≡ modePlanes → (u : ℕ) → u < f .n → jobOf f .output u ≡ false → (1 ≤ jobOf f .measured u) × (jobOf f .measured u ≤ 3)
+  pub measured-plane : f .mode ≡ modePlanes → (u : ℕ) → u < f .n → jobOf f .output u ≡ false → (1 ≤ jobOf f .measured u) × (jobOf f .measured u ≤ planeXZ)
   measured-plane m u h o = rw m at (measured-range u h o)
 
   pub edge-loop : (u : ℕ) → jobOf f .edge u u ≡ false

@@ -1,4 +1,4 @@
--- The places of a job and of a flow are decided, those of empty payloads too: by where the first record starts and by what lies there.
+-- For the reader's contracts: the places of a job and of a flow, those of empty payloads too, are decided by where the first record starts and by what lies there.
 use Prim.Native.Nat.{ℕ, _-_}
 use mathlib.Core.Path.{_≡_, sym, ap, ap₂, _∙_}
 use mathlib.Core.List.{List}

@@ -7,7 +7,7 @@ use native.Mathlib.Omega.{arith}
 use lib.ListN.{length, getD, drop}
 use Rattle.nodes.specs.Lists.{has, all}
 use Rattle.answers.specs.Answer.{gives, _>>=_}
-use Rattle.records.specs.Records.{allYes, kindOpen, kindEdges, kindInputs, kindOutputs, kindMeasurements, kindLayers, kindSets}
+use Rattle.records.specs.Records.{allYes, kindOpening, kindEdges, kindInputs, kindOutputs, kindMeasurements, kindLayers, kindSets}
 use Rattle.records.specs.Format.{front, plain, recordOf}
 use Rattle.records.specs.JobFile.{mostNodes, rises, openingAsks, edgesAsks, nodesAsks, measurementsAsks, Opening, opening, fromEdges, fromInputs, fromOutputs, lastRecord, jobFile, readJob}
 use Rattle.records.specs.FlowFile.{layersAsks, setsAsks, sets, flowFile, readFlow}
@@ -26,14 +26,14 @@ module _ (s : List ℕ) where
   unfolding all rises
   outputs-passed n i u h = payload-passed s kindOutputs (nodesAsks n) i u h (λ p. allYes (nodesAsks n p) ≡ true) (nodes-in n [] refl refl) (λ p z. z)
 
-  module _ (o : RecordRead) (ho : recordOfRead s o ≡ recordBehind s (startAt 0) kindOpen openingAsks) where
+  module _ (o : RecordRead) (ho : recordOfRead s o ≡ recordBehind s (startAt 0) kindOpening openingAsks) where
     pub opening-few : getD (payloadOf s o) 0 0 ≤ mostNodes
-    opening-few = payload-passed s kindOpen openingAsks (startAt 0) o ho (λ p. getD p 0 0 ≤ mostNodes) zero-le (λ p z. allowed-out (getD p 0 0) (getD p 1 0) (opening-out p z .1) .0)
+    opening-few = payload-passed s kindOpening openingAsks (startAt 0) o ho (λ p. getD p 0 0 ≤ mostNodes) zero-le (λ p z. allowed-out (getD p 0 0) (getD p 1 0) (opening-out p z .1) .0)
 
     opening-end : RecordAt s 0 o → o ≡ Payload (placeOf o) → placeOf o .end ≡ openingBytes
     opening-end h e =
         let (f, (a, b)) = read-at s 0 o h e in
-        let l : length (payloadOf s o) ≡ 2 = opening-out (payloadOf s o) (checked-passed kindOpen openingAsks s _ (sym ho ∙ ap (recordOfRead s) e) .1) .0 in
+        let l : length (payloadOf s o) ≡ 2 = opening-out (payloadOf s o) (checked-passed kindOpening openingAsks s _ (sym ho ∙ ap (recordOfRead s) e) .1) .0 in
         omega (arith, between-length (placeOf o .start) (placeOf o .end) s a b)
 
     module _ (v : Opening) (e i u m : RecordRead)
@@ -46,7 +46,7 @@ module _ (s : List ℕ) where
         pub job-steps : jobOfRead s (jobFrom (v .n) (v .mode) e i u m) ≡ readJob s
         unfolding readJob
         job-steps =
-            let h1 = step (recordOf kindOpen opening) fromEdges (λ p. gives (jobFile p)) (readJob s) (gives s) v (restOf s o) refl (subst (λ (w : Opening). Took (recordOf kindOpen opening) (gives s) w (restOf s o)) hv (next-took s kindOpen opening (startAt 0) o ho)) in
+            let h1 = step (recordOf kindOpening opening) fromEdges (λ p. gives (jobFile p)) (readJob s) (gives s) v (restOf s o) refl (subst (λ (w : Opening). Took (recordOf kindOpening opening) (gives s) w (restOf s o)) hv (next-took s kindOpening opening (startAt 0) o ho)) in
             let h2 = step (recordOf kindEdges (plain (edgesAsks (v .n)))) (λ e. fromInputs v) _ (readJob s) (restOf s o) (payloadOf s e) (restOf s e) h1 (next-took s kindEdges (plain (edgesAsks (v .n))) o e he) in
             let h3 = step (recordOf kindInputs (plain (nodesAsks (v .n)))) (λ i. fromOutputs v) _ (readJob s) (restOf s e) (payloadOf s i) (restOf s i) h2 (next-took s kindInputs (plain (nodesAsks (v .n))) e i hi) in
             let h4 = step (recordOf kindOutputs (plain (nodesAsks (v .n)))) (lastRecord v) _ (readJob s) (restOf s i) (payloadOf s u) (restOf s u) h3 (next-took s kindOutputs (plain (nodesAsks (v .n))) i u hu) in

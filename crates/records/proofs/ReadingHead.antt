@@ -1,14 +1,17 @@
--- Bytes at a place of the file, and the record that starts there, from what the code tests.
+-- For the reader: bytes at a place of the file, and the record that starts there, from what the code tests.
 use mathlib.Core.Path.{_≡_, refl, sym, _∙_}
+use mathlib.Core.Bool.{true, false}
 use mathlib.Core.List.{List, []}
 use Prim.Native.Nat.{ℕ, _+_, _*_, _-_, _<_, _≤_}
 use native.Mathlib.Nat.{add-zero}
 use native.Mathlib.Omega.{arith}
-use borrow.Author.Tests.{le-leb, lt-leb, eq-eqb, ne-eqb}
+use borrow.Author.Tests.{leb-true, le-leb, lt-leb}
+use lib.Dec.{eqb, leb}
+use Rattle.nodes.proofs.Logic.{and-out}
 use lib.ListN.{length, getD, drop, length-drop, drop-of-length-le}
 use lib.Seq.{take-all, take-nil, getD-take, getD-drop, drop-drop, length-take-le}
 use Rattle.answers.specs.Answer.{gives, refuses, refusal}
-use Rattle.records.specs.Records.{part, lengthField, kindField}
+use Rattle.records.specs.Records.{headBytes, carries, part, lengthField, kindField}
 use Rattle.records.specs.Views.{between}
 
 pub between-at : (a b : ℕ) (s : List ℕ) (k : ℕ) → k < b - a → getD (between a b s) k 0 ≡ getD s (a + k) 0
@@ -36,31 +39,39 @@ pub kind-at : (s : List ℕ) (at : ℕ) → getD s (at + 4) 0 + 256 * getD s (at
 kind-at s at = simp getD-drop
 
 module _ (s : List ℕ) (at kind : ℕ) where
-  pub part-short : length s < at + 6 → refuses (refusal 1) ≡ part kind (drop at s)
+  -- ---- the kind of the next six bytes, from what the code tests
+  pub carries-short : length s < at + headBytes → false ≡ carries kind (drop at s)
+  carries-short h =
+      let e : length (drop at s) < headBytes = simp length-drop (omega arith) in
+      simp (lt-leb headBytes (length (drop at s)) e)
+
+  pub carries-at : at + headBytes ≤ length s → eqb (kindField (drop at s)) kind ≡ carries kind (drop at s)
+  carries-at h =
+      let e : headBytes ≤ length (drop at s) = simp length-drop (omega arith) in
+      simp (le-leb headBytes (length (drop at s)) e)
+
+  -- ---- the record
+  pub part-missing : carries kind (drop at s) ≡ false → refuses (refusal 1) ≡ part kind (drop at s)
   unfolding part
-  part-short h =
-      let e : length (drop at s) < 6 = simp length-drop (omega arith) in
-      simp (lt-leb 6 (length (drop at s)) e)
+  part-missing c = rw c refl
 
-  module _ (room : at + 6 ≤ length s) where
-    six : 6 ≤ length (drop at s)
-    six = simp length-drop (omega arith)
+  module _ (c : carries kind (drop at s) ≡ true) where
+    pub head-room : at + headBytes ≤ length s
+    head-room =
+        let l : headBytes ≤ length (drop at s) = leb-true headBytes (length (drop at s)) (and-out (leb headBytes (length (drop at s))) (eqb (kindField (drop at s)) kind) c .0) in
+        omega (arith, length-drop at s)
 
-    pub part-other : (kindField (drop at s) ≡ kind → ⊥) → refuses (refusal 1) ≡ part kind (drop at s)
-    unfolding part
-    part-other h = simp (le-leb 6 (length (drop at s)) six, ne-eqb (kindField (drop at s)) kind h)
-
-    module _ (same : kindField (drop at s) ≡ kind) (n : ℕ) (e : n ≡ lengthField (drop at s)) where
-      pub part-cut : length s < at + 6 + n → refuses (refusal 2) ≡ part kind (drop at s)
+    module _ (n : ℕ) (e : n ≡ lengthField (drop at s)) where
+      pub part-cut : length s < at + headBytes + n → refuses (refusal 2) ≡ part kind (drop at s)
       unfolding part
       part-cut h =
-          let g : length (drop at s) < 6 + n = simp length-drop (omega arith) in
-          simp (← e, le-leb 6 (length (drop at s)) six, lt-leb (6 + n) (length (drop at s)) g, eq-eqb (kindField (drop at s)) kind same)
+          let g : length (drop at s) < headBytes + n = simp length-drop (omega (arith, head-room)) in
+          rw (c, ← e, lt-leb (headBytes + n) (length (drop at s)) g) refl
 
-      pub part-whole : at + 6 + n ≤ length s → gives (record { payload = between (at + 6) (at + 6 + n) s; rest = drop (at + 6 + n) s }) ≡ part kind (drop at s)
+      pub part-whole : at + headBytes + n ≤ length s → gives (record { payload = between (at + headBytes) (at + headBytes + n) s; rest = drop (at + headBytes + n) s }) ≡ part kind (drop at s)
       unfolding part
       part-whole h =
-          let g : 6 + n ≤ length (drop at s) = simp length-drop (omega arith) in
-          let d : at + 6 + n - (at + 6) ≡ n = omega arith in
-          let f : at + (6 + n) ≡ at + 6 + n = omega arith in
-          simp (← e, le-leb 6 (length (drop at s)) six, le-leb (6 + n) (length (drop at s)) g, drop-drop, d, f, eq-eqb (kindField (drop at s)) kind same)
+          let g : headBytes + n ≤ length (drop at s) = simp length-drop (omega arith) in
+          let d : at + headBytes + n - (at + headBytes) ≡ n = omega arith in
+          let f : at + (headBytes + n) ≡ at + headBytes + n = omega arith in
+          rw (c, ← e, le-leb (headBytes + n) (length (drop at s)) g, drop-drop headBytes at s, drop-drop (headBytes + n) at s, d, f) refl

@@ -1,4 +1,4 @@
--- A loop over a payload: what is asked of the whole is what is asked of the rest.
+-- For the questions of a payload: a loop over it, where what is asked of the whole is what is asked of the rest.
 use mathlib.Core.Path.{_≡_, refl, sym, ap, _∙_}
 use mathlib.Core.Bool.{Bool, true, false, _&&_, _||_}
 use mathlib.Core.List.{List, [], _∷_}

@@ -1,4 +1,4 @@
--- Question 7 as the code asks it: no byte is above the mode's highest, and the zeros are those of the outputs.
+-- For question 7 as the code asks it: no byte is above the mode's highest, and the zeros are those of the outputs.
 use Prim.Native.Nat.{ℕ, suc, _+_, _≤_, _<_}
 use mathlib.Core.Path.{_≡_, refl, sym, ap, _∙_}
 use mathlib.Core.Bool.{Bool, true, false, _&&_}
@@ -6,25 +6,24 @@ use mathlib.Core.Logic.{_⊎_, inl, inr}
 use mathlib.Core.List.{List, [], _∷_}
 use native.Mathlib.Omega.{arith}
 use native.Mathlib.Decide.{ℕ-discrete}
-use borrow.Author.Tests.{leb-true, ltb-true, eqb-true, le-leb, eq-eqb, ne-eqb}
-use lib.Dec.{T, eqb, ltb, leb, eqb→eq}
+use borrow.Author.Tests.{ltb-true, eqb-true, eq-eqb, ne-eqb}
+use lib.Dec.{T, eqb, ltb, eqb→eq}
 use lib.ListN.{length, getD}
 use Rattle.nodes.specs.Lists.{has, all}
 use Rattle.nodes.specs.Row.{count}
-use Rattle.nodes.proofs.Logic.{is-true, is-false, from-true, and-l, and-r, and-in, or-l, or-r, or-out, eqb-yes, beq-eq}
+use Rattle.nodes.proofs.Logic.{and-out, is-true, is-false, from-true, and-l, and-r, and-in, or-l, or-r, or-out, eqb-yes, beq-eq}
 use Rattle.nodes.proofs.Count.{count-ext, count-none, grows}
 use Rattle.nodes.proofs.Remove.{removed, removed-same, removed-other, count-remove}
 use Rattle.records.specs.JobFile.{rises, highestOf, allows, allAllowed}
-use Rattle.records.proofs.Records.{and-out}
-use Rattle.records.proofs.JobFile.{all-has, has-below, allowed-at, allowed-below}
+use Rattle.records.proofs.JobFile.{rises-out, output-out, measured-out, allows-in, allowed-none, allowed-cons, all-has, has-below, allowed-at, allowed-below}
 
 -- ---- a list that rises has as many members as elements
 rises-least : (low : ℕ) (l : List ℕ) (u : ℕ) → rises low l ≡ true → T (has l u) → low ≤ u
-unfolding rises has
+unfolding has
 rises-least low [] u r t = absurd t
 rises-least low (x ∷ l) u r t =
-    let (p, q) = and-out (leb low x) (rises (x + 1) l) r in
-    by (leb-true low x p) (or-out (eqb x u) (has l u) t) (rises-least (x + 1) l u q)
+    let (p, q) = rises-out low x l r in
+    by p (or-out (eqb x u) (has l u) t) (rises-least (x + 1) l u q)
   where
     by : low ≤ x → T (eqb x u) ⊎ T (has l u) → (T (has l u) → x + 1 ≤ u) → low ≤ u
     by p (inl e) ih = rw (← eqb→eq x u e) p
@@ -44,11 +43,11 @@ unfolding has
 first-in x l = or-l (eqb x x) (has l x) (from-true (eqb x x) (eqb-yes x))
 
 has-count : (n low : ℕ) (l : List ℕ) → all (λ v. ltb v n) l ≡ true → rises low l ≡ true → count n (has l) ≡ length l
-unfolding all rises has
+unfolding all has
 has-count n low [] a r = count-none n (has []) (λ k h t. t)
 has-count n low (x ∷ l) a r =
     let (p, q) = and-out (ltb x n) (all (λ v. ltb v n) l) a in
-    let (g, h) = and-out (leb low x) (rises (x + 1) l) r in
+    let (g, h) = rises-out low x l r in
     count-remove n (has (x ∷ l)) x (ltb-true x n p) (first-in x l)
     ∙ ap suc (count-ext n (removed (has (x ∷ l)) x) (has l) (λ u k. without-first x l h u) ∙ has-count n (x + 1) l q h)
 
@@ -63,26 +62,18 @@ abbrev pub zeroAt : List ℕ → ℕ → Bool
 zeroAt l u = eqb (getD l u 0) 0
 
 allows-zero : (mode : ℕ) (output : Bool) (m : ℕ) → allows mode output m ≡ true → output ≡ eqb m 0
-unfolding allows
-allows-zero mode true m e = sym e
-allows-zero mode false m e = sym (ne-eqb m 0 (λ z. omega (arith, leb-true 1 m (and-out (leb 1 m) (leb m (highestOf mode)) e .0))))
-
-allows-in : (mode m : ℕ) → m < highestOf mode + 1 → allows mode (eqb m 0) m ≡ true
-unfolding allows
-allows-in mode m h = by (ℕ-discrete m 0)
-  where
-    by : Dec (m ≡ 0) → allows mode (eqb m 0) m ≡ true
-    by (yes e) = rw e
-    by (no n) = rw (ne-eqb m 0 n, le-leb 1 m (omega arith), le-leb m (highestOf mode) (omega arith))
+allows-zero mode true m e = rw (output-out mode m e)
+allows-zero mode false m e = sym (ne-eqb m 0 (λ z. omega (arith, measured-out mode m e .0)))
 
 allowed-in : (mode : ℕ) (output : ℕ → Bool) (i : ℕ) (l : List ℕ) → all (λ v. ltb v (highestOf mode + 1)) l ≡ true → ((k : ℕ) → k < length l → output (i + k) ≡ zeroAt l k) → allAllowed mode output i l ≡ true
-unfolding allAllowed all
-allowed-in mode output i [] a z = refl
+unfolding all
+allowed-in mode output i [] a z = allowed-none mode output i
 allowed-in mode output i (m ∷ l) a z =
     let (p, q) = and-out (ltb m (highestOf mode + 1)) (all (λ v. ltb v (highestOf mode + 1)) l) a in
     let e : i + 0 ≡ i = omega arith in
     let here : output i ≡ eqb m 0 = rw e at (z 0 (omega arith)) in
-    rw (here, allows-in mode m (ltb-true m (highestOf mode + 1) p)) (allowed-in mode output (i + 1) l q (λ k h. let d : i + 1 + k ≡ i + suc k = omega arith in rw d (z (suc k) (omega arith))))
+    let below : m < highestOf mode + 1 = ltb-true m (highestOf mode + 1) p in
+    allowed-cons mode output i m l ∙ rw (here, allows-in mode m (omega arith)) (allowed-in mode output (i + 1) l q (λ k h. let d : i + 1 + k ≡ i + suc k = omega arith in rw d (z (suc k) (omega arith))))
 
 -- ---- the zeros are those of the outputs: as many, and one at each
 module _ (l outs : List ℕ) (a : all (λ v. ltb v (length l)) outs ≡ true) (r : rises 0 outs ≡ true) where

@@ -9,15 +9,11 @@ use borrow.Author.Tests.{leb-true, ltb-true, eqb-true, le-leb, lt-ltb, eq-eqb}
 use lib.Dec.{eqb, ltb, leb}
 use lib.ListN.{length, getD, take, drop, length-append, length-drop, take-append-drop, List·getD-append}
 use lib.Seq.{length-take-le, take-append-le, drop-append-le, take-append-seam, drop-append-seam}
+use Rattle.nodes.proofs.Logic.{and-out}
 use Rattle.answers.specs.Answer.{Answer, gives, refuses, _>>_, asks}
 use Rattle.answers.proofs.Answer.{give-inj, never, asks-out, bind-out}
 use Rattle.records.specs.Records.{Part, part, allYes, checked, written, lengthField, kindField}
 use Rattle.nodes.specs.Lists.{all}
-
--- ---- tests
-pub and-out : (a b : Bool) → a && b ≡ true → (a ≡ true) × (b ≡ true)
-and-out true b e = (refl, e)
-and-out false b e = absurd (false≢true e)
 
 -- ---- every element passes
 pub all-append : (f : ℕ → Bool) (l g : List ℕ) → all f l ≡ true → all f g ≡ true → all f (l ++ g) ≡ true

@@ -1,12 +1,11 @@
 -- The views of what was read: one record, from what the code found and asked; and a format, record after record.
-use Prim.Native.Nat.{ℕ, _+_, _-_, _<_, _≤_}
+use Prim.Native.Nat.{ℕ, _+_, _-_}
 use mathlib.Core.Path.{_≡_, refl, sym, ap, ap₂, _∙_}
 use mathlib.Core.Bool.{Bool, true, false, cond}
 use mathlib.Core.Option.{some}
 use mathlib.Core.List.{List, [], _++_}
 use native.Mathlib.Omega.{arith}
-use borrow.Author.Tests.{le-leb, lt-leb}
-use lib.Dec.{eqb, ltb}
+use lib.Dec.{ltb}
 use lib.ListN.{length, take, drop, length-append, length-drop, take-append-drop}
 use lib.Seq.{take-append-seam}
 use Rattle.nodes.specs.Lists.{all}
@@ -14,8 +13,8 @@ use Rattle.answers.specs.Answer.{Refusal, Answer, gives, refuses, _>>=_, _>>_}
 use Rattle.answers.specs.Refusals.{refusalOf}
 use Rattle.answers.specs.declared.Refusal as Code
 use Rattle.answers.proofs.Answer.{never}
-use Rattle.records.specs.Records.{Part, allYes, part, checked, headBytes, kindField}
-use Rattle.records.specs.Format.{Front, front, Format, PayloadFormat, recordOf, then, carries, choice}
+use Rattle.records.specs.Records.{carries, Part, allYes, part, checked}
+use Rattle.records.specs.Format.{Front, front, Format, PayloadFormat, recordOf, then, choice}
 use Rattle.records.specs.Views.{bytesAt, InFile, PayloadAt, keptAround, checkedOf, partAt, recordOfRead, RecordAt, restOf, recordBehind, placeOf, payloadOf, startAt, optionalOfRead, optionalBehind, marked, choiceOfRead, choiceBehind}
 use Rattle.records.specs.declared.common.Place.{Place}
 use Rattle.records.specs.declared.questions.Checked.{Checked}
@@ -151,17 +150,6 @@ module _ (s : List ℕ) where
 
       pub choice-refused : (q : Code.Refusal) → read ≡ NoRecord q → choiceOfRead s (record { taken = false; read = NoRecord q }) ≡ choiceBehind s read kind questions second others
       choice-refused q h = rw h refl
-
--- ---- the kind of the next six bytes, from what the code tests
-pub carries-short : (s : List ℕ) (at kind : ℕ) → length s < at + headBytes → false ≡ carries kind (drop at s)
-carries-short s at kind h =
-    let e : length (drop at s) < headBytes = simp length-drop (omega arith) in
-    simp (lt-leb headBytes (length (drop at s)) e)
-
-pub carries-at : (s : List ℕ) (at kind : ℕ) → at + headBytes ≤ length s → eqb (kindField (drop at s)) kind ≡ carries kind (drop at s)
-carries-at s at kind h =
-    let e : headBytes ≤ length (drop at s) = simp length-drop (omega arith) in
-    simp (le-leb headBytes (length (drop at s)) e)
 
 -- ---- parts of a file that are kept
 -- a place between two steps of reading holds the bytes of the value that was read there

@@ -6,12 +6,13 @@ use mathlib.Core.Logic.{_⊎_, inl, inr, _≢_}
 use mathlib.Core.Option.{some}
 use mathlib.Core.List.{List, [], _∷_, _++_, append-nil}
 use native.Mathlib.Omega.{arith}
-use native.Mathlib.Nat.{mul-le-mul, not-suc-le-zero, le-of-suc-le-suc}
-use borrow.Author.Tests.{ltb-true, le-leb, lt-ltb, ne-eqb}
-use lib.Dec.{T, eqb, ltb, leb, eqb→eq, eqb-refl}
-use lib.ListN.{length, getD, length-append}
+use native.Mathlib.Nat.{mul-le-mul}
+use borrow.Author.Tests.{ltb-true, lt-ltb, ne-eqb}
+use lib.Dec.{T, eqb, ltb, eqb→eq, eqb-refl}
+use lib.ListN.{length, length-append}
 use Rattle.nodes.specs.Row.{membersFrom, members}
-use Rattle.nodes.proofs.Logic.{is-false, dec, and-none, and-all, or-none, lt-or-ge, eqb-yes}
+use Rattle.nodes.proofs.Lists.{length-listOf, getD-listOf}
+use Rattle.nodes.proofs.Logic.{and-out, is-false, dec, and-none, and-all, or-none, lt-or-ge, eqb-yes}
 use Rattle.nodes.proofs.Row.{ltb-yes, ltb-no}
 use Rattle.nodes.proofs.Members.{members-snoc}
 use Rattle.flows.specs.Job.{Job}
@@ -21,26 +22,15 @@ use Rattle.records.specs.Records.{headBytes, part, checked, written, kin
 use Rattle.nodes.specs.Lists.{has, listOf, all}
 use Rattle.records.specs.JobFile.{mostNodes, rises}
 use Rattle.records.specs.FlowFile.{SetEntry, allEntries, entryBelow, entriesRise, entryBytes, FlowFile, readFlow, setIn, entryIn, flowOf}
-use Rattle.records.specs.Encoding.{flowFileBytes, ValidFlow, entriesFor, foundFlow}
+use Rattle.records.specs.Encoding.{Bytes, flowFileBytes, ValidFlow, entriesFor, foundFlow}
 use Rattle.records.specs.Writing.{layerBytes, flowBytes, mostOutput}
 use Rattle.answers.proofs.Answer.{never}
-use Rattle.records.proofs.Records.{and-out, all-append, all-more, written-length, written-bytes}
+use Rattle.records.proofs.Records.{all-append, all-more, written-length, written-bytes}
 use Rattle.records.proofs.Encoding.{flow-decodes}
-use Rattle.records.proofs.JobFile.{rises-length}
-use Rattle.records.proofs.FlowFile.{entries-few, entry-bytes-length}
+use Rattle.records.proofs.JobFile.{rises-none, rises-out, rises-in, rises-length}
+use Rattle.records.proofs.FlowFile.{below-out, below-in, each-none, each-cons, each-out, rise-none, rise-out, rise-cons, entries-few, entry-bytes-length}
 
 -- ---- lists of values
-pub list-length : {A : Type 0} (n : ℕ) (f : ℕ → A) → length (listOf n f) ≡ n
-unfolding listOf
-list-length zero f = refl
-list-length (suc n) f = ap suc (list-length n (λ k. f (suc k)))
-
-pub list-at : {A : Type 0} (n : ℕ) (f : ℕ → A) (d : A) (k : ℕ) → k < n → getD (listOf n f) k d ≡ f k
-unfolding listOf
-list-at zero f d k h = absurd (not-suc-le-zero h)
-list-at (suc n) f d zero h = refl
-list-at (suc n) f d (suc k) h = list-at n (λ k. f (suc k)) d k (le-of-suc-le-suc h)
-
 pub list-all : (n : ℕ) (f : ℕ → ℕ) (p : ℕ → Bool) → ((k : ℕ) → k < n → p (f k) ≡ true) → all p (listOf n f) ≡ true
 unfolding listOf all
 list-all zero f p h = refl
@@ -92,13 +82,13 @@ pub members-under : (n : ℕ) (s : ℕ → Bool) → all (λ v. ltb v n) (member
 members-under n s = from-below 0 n n s (omega arith)
 
 from-rise : (low i n : ℕ) (s : ℕ → Bool) → low ≤ i → rises low (membersFrom i n s) ≡ true
-unfolding rises membersFrom
-from-rise low i zero s h = refl
+unfolding membersFrom
+from-rise low i zero s h = rises-none low
 from-rise low i (suc n) s h = by (s i) (from-rise (i + 1) (i + 1) n s (omega arith)) (from-rise low (i + 1) n s (omega arith))
   where
     by : (c : Bool) → rises (i + 1) (membersFrom (i + 1) n s) ≡ true → rises low (membersFrom (i + 1) n s) ≡ true
         → rises low (cond c (i ∷ membersFrom (i + 1) n s) (membersFrom (i + 1) n s)) ≡ true
-    by true a b = rw (le-leb low i h) a
+    by true a b = rises-in low i (membersFrom (i + 1) n s) h ∙ a
     by false a b = b
 
 pub members-rise : (n : ℕ) (s : ℕ → Bool) → rises 0 (members n s) ≡ true
@@ -106,14 +96,19 @@ members-rise n s = from-rise 0 0 n s zero-le
 
 -- ---- the entries of the nodes in a list
 for-below : (n : ℕ) (set : ℕ → ℕ → Bool) (us : List ℕ) → all (λ v. ltb v n) us ≡ true → allEntries (entryBelow n) (entriesFor n set us) ≡ true
-unfolding all allEntries entriesFor
-for-below n set [] a = refl
-for-below n set (u ∷ us) a = let (p, q) = and-out (ltb u n) (all (λ v. ltb v n) us) a in rw (p, members-under n (set u), for-below n set us q)
+unfolding all entriesFor
+for-below n set [] a = each-none (entryBelow n)
+for-below n set (u ∷ us) a =
+    let (p, q) = and-out (ltb u n) (all (λ v. ltb v n) us) a in
+    let e : SetEntry = record { node = u; set = members n (set u) } in
+    each-cons (entryBelow n) e (entriesFor n set us) ∙ rw (below-in n e (ltb-true u n p) (members-under n (set u))) (for-below n set us q)
 
 for-rise : (low n : ℕ) (set : ℕ → ℕ → Bool) (us : List ℕ) → rises low us ≡ true → entriesRise low (entriesFor n set us) ≡ true
-unfolding rises entriesRise entriesFor
-for-rise low n set [] a = refl
-for-rise low n set (u ∷ us) a = let (p, q) = and-out (leb low u) (rises (u + 1) us) a in rw (p, members-rise n (set u), for-rise (u + 1) n set us q)
+unfolding entriesFor
+for-rise low n set [] a = rise-none low
+for-rise low n set (u ∷ us) a =
+    let (p, q) = rises-out low u us a in
+    rise-cons low (record { node = u; set = members n (set u) }) (entriesFor n set us) p (members-rise n (set u)) ∙ for-rise (u + 1) n set us q
 
 for-entry : (n : ℕ) (set : ℕ → ℕ → Bool) (us : List ℕ) (u : ℕ) → entryIn (entriesFor n set us) u ≡ has us u
 unfolding entryIn has entriesFor
@@ -135,20 +130,19 @@ for-set n set (a ∷ us) u k = by (dec (eqb a u)) (for-set n set us u k)
     by (inr f) ih = rw (is-false (eqb a u) f) ih
 
 -- ---- bytes and lengths
-entry-bytes : (low n : ℕ) (es : List SetEntry) → n < 256 → allEntries (entryBelow n) es ≡ true → entriesRise low es ≡ true → all (λ b. ltb b 256) (entryBytes es) ≡ true
-unfolding all allEntries entriesRise entryBytes
+entry-bytes : (low n : ℕ) (es : List SetEntry) → n < 256 → allEntries (entryBelow n) es ≡ true → entriesRise low es ≡ true → Bytes (entryBytes es)
+unfolding all entryBytes
 entry-bytes low n [] h a b = refl
 entry-bytes low n (e ∷ es) h a b =
-    let (p, q) = and-out (ltb (e .node) n && all (λ v. ltb v n) (e .set)) (allEntries (entryBelow n) es) a in
-    let (p1, p2) = and-out (ltb (e .node) n) (all (λ v. ltb v n) (e .set)) p in
-    let (r, t) = and-out (leb low (e .node) && rises 0 (e .set)) (entriesRise (e .node + 1) es) b in
-    let m : length (e .set) + 0 ≤ n = rises-length 0 n (e .set) zero-le p2 (and-out (leb low (e .node)) (rises 0 (e .set)) r .1) in
-    let l : e .node < n = ltb-true (e .node) n p1 in
+    let (p, q) = each-out (entryBelow n) e es a in
+    let (l, p2) = below-out n e p in
+    let (le, r, t) = rise-out low e es b in
+    let m : length (e .set) + 0 ≤ n = rises-length 0 n (e .set) zero-le p2 r in
     rw (lt-ltb (e .node) 256 (omega arith), lt-ltb (length (e .set)) 256 (omega arith))
     (all-append (λ b. ltb b 256) (e .set) (entryBytes es) (all-more (λ v. ltb v n) (λ v. ltb v 256) (e .set) (λ v x. let y : v < n = ltb-true v n x in lt-ltb v 256 (omega arith)) p2) (entry-bytes (e .node + 1) n es h q t))
 
 -- the bytes of a valid flow whose layers are bytes
-pub flow-file-bytes : (n : ℕ) (g : FlowFile) → n < 256 → ValidFlow n g → all (λ b. ltb b 256) (g .layers) ≡ true → all (λ b. ltb b 256) (flowFileBytes g) ≡ true
+pub flow-file-bytes : (n : ℕ) (g : FlowFile) → n < 256 → ValidFlow n g → Bytes (g .layers) → Bytes (flowFileBytes g)
 flow-file-bytes n g h v a =
     all-append (λ b. ltb b 256) (written kindLayers (g .layers)) (written kindSets (entryBytes (g .sets)))
     (written-bytes kindLayers (g .layers) (omega arith) a)
@@ -162,7 +156,7 @@ flow-file-length n g v =
     omega (arith, v .count, length-append (written kindLayers (g .layers)) (written kindSets (entryBytes (g .sets))), written-length kindLayers (g .layers), written-length kindSets (entryBytes (g .sets)))
 
 -- layers of one byte are written as they are
-pub layers-same : (l : List ℕ) → all (λ b. ltb b 256) l ≡ true → layerBytes l ≡ l
+pub layers-same : (l : List ℕ) → Bytes l → layerBytes l ≡ l
 unfolding all
 layers-same [] a = refl
 layers-same (x ∷ l) a =
@@ -175,7 +169,7 @@ layers-same (x ∷ l) a =
 module _ (j : Job) (s : Progress) where
   pub found-valid : ValidFlow (j .nodes) (foundFlow j s)
   found-valid = record {
-    count = list-length (j .nodes) (s .layer);
+    count = length-listOf (j .nodes) (s .layer);
     below = for-below (j .nodes) (s .set) (members (j .nodes) (λ u. not (j .output u))) (members-under (j .nodes) (λ u. not (j .output u)));
     rise = for-rise 0 (j .nodes) (s .set) (members (j .nodes) (λ u. not (j .output u))) (members-rise (j .nodes) (λ u. not (j .output u)));
   }
@@ -186,7 +180,7 @@ module _ (j : Job) (s : Progress) where
 
   -- as the flow that was found
   pub found-layer : (u : ℕ) → u < j .nodes → flowOf (foundFlow j s) .layer u ≡ s .layer u
-  found-layer u h = list-at (j .nodes) (s .layer) 0 u h
+  found-layer u h = getD-listOf (j .nodes) (s .layer) u h
 
   pub found-entry : (u : ℕ) → u < j .nodes → flowOf (foundFlow j s) .entry u ≡ not (j .output u)
   found-entry u h =
@@ -199,7 +193,7 @@ module _ (j : Job) (s : Progress) where
       ∙ ap₂ _&&_ (members-has (j .nodes) (λ u. not (j .output u)) u ∙ ap (λ (b : Bool). b && not (j .output u)) (ltb-yes u (j .nodes) h))
       (members-has (j .nodes) (s .set u) k ∙ ap (λ (b : Bool). b && s .set u k) (ltb-yes k (j .nodes) l))
 
-  pub found-bytes : j .nodes ≤ mostNodes → ((u : ℕ) → u < j .nodes → s .layer u < 256) → all (λ b. ltb b 256) (flowBytes j (some s)) ≡ true
+  pub found-bytes : j .nodes ≤ mostNodes → ((u : ℕ) → u < j .nodes → s .layer u < 256) → Bytes (flowBytes j (some s))
   found-bytes h a =
       flow-file-bytes (j .nodes) (foundFlow j s) (omega arith) found-valid (list-all (j .nodes) (s .layer) (λ b. ltb b 256) (λ k l. lt-ltb (s .layer k) 256 (a k l)))
 

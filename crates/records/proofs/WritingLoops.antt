@@ -1,4 +1,4 @@
--- The loops of the writer: what is left to write from here on makes the whole.
+-- For the writer: what is left to write from here on makes the whole.
 use Prim.Native.Nat.{ℕ, suc, _+_, _*_, _-_, _≤_, _<_}
 use mathlib.Core.Path.{_≡_, refl, sym, ap, ap₂, _∙_}
 use mathlib.Core.Bool.{Bool}

@@ -5,6 +5,7 @@ use mathlib.Core.Option.{Option, none, some}
 use mathlib.Core.List.{List, [], _∷_, _++_}
 use lib.Dec.{eqb, ltb, leb}
 use lib.ListN.{length, getD, take, drop}
+use Rattle.nodes.specs.Options.{isSome}
 use Rattle.answers.specs.Answer.{Answer, gives, asks, _>>=_, _>>_}
 use Rattle.records.specs.Format.{Front, Format, PayloadFormat, plain, recordOf, then}
 use Rattle.records.specs.Records.{kindLayers, kindSets}
@@ -33,10 +34,6 @@ entriesIn (suc k) (u ∷ c ∷ s) =
 abbrev pub entriesOf : List ℕ → Option (List SetEntry)
 entriesOf s = entriesIn (suc (length s)) s
 
-abbrev pub framed : Option (List SetEntry) → Bool
-framed none = false
-framed (some es) = true
-
 abbrev pub listed : Option (List SetEntry) → List SetEntry
 listed none = []
 listed (some es) = es
@@ -46,7 +43,7 @@ allEntries p [] = true
 allEntries p (e ∷ es) = p e && allEntries p es
 
 -- the nodes and the members below n
-abbrev pub entryBelow : ℕ → SetEntry → Bool
+unfoldable pub entryBelow : ℕ → SetEntry → Bool
 entryBelow n e = ltb (e .node) n && nodesBelow n (e .set)
 
 -- nodes strictly ascending from `low` on, and the members of each entry
@@ -60,7 +57,7 @@ layersAsks n p = asks 3 (eqb (length p) n)
 
 unfoldable pub setsAsks : ℕ → List ℕ → Answer Bool
 setsAsks n p = do
-  asks 3 (framed (entriesOf p))
+  asks 3 (isSome (entriesOf p))
   asks 5 (allEntries (entryBelow n) (listed (entriesOf p)))
   asks 6 (entriesRise 0 (listed (entriesOf p)))
 

@@ -3,10 +3,8 @@ use Prim.Native.Nat.{ℕ}
 use mathlib.Core.Bool.{Bool, true, cond, not, _&&_}
 use mathlib.Core.Option.{Option, none, some}
 use mathlib.Core.List.{List, [], _++_}
-use lib.Dec.{eqb, leb}
-use lib.ListN.{length}
 use Rattle.answers.specs.Answer.{Answer, gives, _>>=_}
-use Rattle.records.specs.Records.{allYes, checked, written, kindField, headBytes}
+use Rattle.records.specs.Records.{carries, allYes, checked, written}
 
 -- a value at the front of some bytes, and the bytes behind it
 pub record Front (A : Type 0) : Type 0 where
@@ -53,10 +51,6 @@ then f g = record {
   mayFollow = λ x t. f .mayFollow (x .0) (g (x .0) .encode (x .1) ++ t) && g (x .0) .mayFollow (x .1) t;
   decode = λ s. f .decode s >>= λ p. g (p .value) .decode (p .rest) >>= λ q. gives (front (p .value, q .value) (q .rest));
 }
-
--- the next six bytes carry this kind
-abbrev pub carries : ℕ → List ℕ → Bool
-carries kind s = leb headBytes (length s) && eqb (kindField s) kind
 
 -- ---- an optional format is there where the next six bytes carry its first kind
 abbrev pub someOf : {A : Type 0} → Answer (Front A) → Answer (Front (Option A))

@@ -9,7 +9,7 @@ use Rattle.nodes.specs.Lists.{has, all}
 use Rattle.flows.specs.Job.{Job, planeXY, planeXZ, pauliZ}
 use Rattle.answers.specs.Answer.{Answer, gives, asks, _>>=_, _>>_}
 use Rattle.records.specs.Format.{Front, Format, PayloadFormat, plain, recordOf, then}
-use Rattle.records.specs.Records.{kindOpen, kindEdges, kindInputs, kindOutputs, kindMeasurements}
+use Rattle.records.specs.Records.{kindOpening, kindEdges, kindInputs, kindOutputs, kindMeasurements}
 
 -- the most nodes a job may have: as many as a set can have
 abbrev pub mostNodes : ℕ
@@ -62,7 +62,6 @@ openingAllowed n mode = leb n mostNodes && leb modeCausal mode && leb mode modeP
 
 -- ---- the questions of each record: does the length suit (3), are n and mode allowed (4), is each node below n (5), is the
 -- order strict (6), is each measurement byte allowed (7)
-
 unfoldable pub openingAsks : List ℕ → Answer Bool
 openingAsks p = do
   asks 3 (eqb (length p) 2)
@@ -124,7 +123,7 @@ abbrev pub JobValue : Type 0
 JobValue = Opening × (List ℕ × (List ℕ × (List ℕ × List ℕ)))
 
 abbrev pub job : Format JobValue
-job = then (recordOf kindOpen opening) fromEdges
+job = then (recordOf kindOpening opening) fromEdges
 
 abbrev pub jobFile : Front JobValue → JobFile
 jobFile p = record {
@@ -144,24 +143,24 @@ unfoldable pub readJob : List ℕ → Answer JobFile
 readJob s = job .decode s >>= λ p. gives (jobFile p)
 
 -- ---- what the file means: the graph is symmetric, since a pair joins both ways
-unfoldable pub joined : List ℕ → ℕ → ℕ → Bool
-joined [] u v = false
-joined (a ∷ []) u v = false
-joined (a ∷ b ∷ l) u v = eqb a u && eqb b v || eqb a v && eqb b u || joined l u v
+unfoldable pub hasEdge : List ℕ → ℕ → ℕ → Bool
+hasEdge [] u v = false
+hasEdge (a ∷ []) u v = false
+hasEdge (a ∷ b ∷ l) u v = eqb a u && eqb b v || eqb a v && eqb b u || hasEdge l u v
 
 -- the mode and the measurements to work with: today those of the file
-pub record Measured : Type 0 where
+pub record Working : Type 0 where
   pub mode : ℕ
   pub measurements : List ℕ
 
-abbrev pub measuredOf : JobFile → Measured
-measuredOf f = record { mode = f .mode; measurements = f .measurements }
+abbrev pub workingOf : JobFile → Working
+workingOf f = record { mode = f .mode; measurements = f .measurements }
 
 abbrev pub jobOf : JobFile → Job
 jobOf f = record {
   nodes = f .n;
-  edge = joined (f .edges);
+  edge = hasEdge (f .edges);
   input = has (f .inputs);
   output = has (f .outputs);
-  measured = λ u. getD (measuredOf f .measurements) u 0;
+  measured = λ u. getD (workingOf f .measurements) u 0;
 }

@@ -6,8 +6,8 @@ use lib.Dec.{eqb, leb}
 use lib.ListN.{length, getD, take, drop}
 use Rattle.answers.specs.Answer.{Answer, gives, refuses, _>>=_, _>>_, asks}
 
-abbrev pub kindOpen : ℕ
-kindOpen = 0x0001
+abbrev pub kindOpening : ℕ
+kindOpening = 0x0001
 
 abbrev pub kindEdges : ℕ
 kindEdges = 0x0002
@@ -47,6 +47,10 @@ lengthField s = getD s 0 0 + 256 * getD s 1 0 + 65536 * getD s 2 0 + 16777216 * 
 abbrev pub kindField : List ℕ → ℕ
 kindField s = getD s 4 0 + 256 * getD s 5 0
 
+-- six bytes are left, and they carry this kind
+abbrev pub carries : ℕ → List ℕ → Bool
+carries kind s = leb headBytes (length s) && eqb (kindField s) kind
+
 -- a record at the front of a file: its payload and what follows
 pub record Part : Type 0 where
   pub payload : List ℕ
@@ -55,7 +59,7 @@ pub record Part : Type 0 where
 -- Are six bytes left with the expected kind (1)? Is the whole payload there (2)?
 unfoldable pub part : ℕ → List ℕ → Answer Part
 part kind s = do
-  asks 1 (leb headBytes (length s) && eqb (kindField s) kind)
+  asks 1 (carries kind s)
   asks 2 (leb (headBytes + lengthField s) (length s))
   gives (record { payload = take (lengthField s) (drop headBytes s); rest = drop (headBytes + lengthField s) s })
 

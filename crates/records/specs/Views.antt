@@ -8,8 +8,8 @@ use lib.ListN.{length, take, drop}
 use Rattle.nodes.specs.Lists.{has}
 use Rattle.answers.specs.Answer.{Answer, gives, refuses, _>>=_}
 use Rattle.answers.specs.Refusals.{refusalOf}
-use Rattle.records.specs.Records.{Part, allYes, checked, headBytes}
-use Rattle.records.specs.Format.{Front, front, plain, recordOf, optional, carries}
+use Rattle.records.specs.Records.{carries, Part, allYes, checked, headBytes}
+use Rattle.records.specs.Format.{Front, front, plain, recordOf, optional}
 use Rattle.records.specs.JobFile.{JobFile, mostNodes, openingAsks, edgesAsks, nodesAsks, measurementsAsks}
 use Rattle.records.specs.FlowFile.{FlowFile, entriesOf, listed, layersAsks, setsAsks}
 use Rattle.records.specs.declared.common.Place.{Place}

@@ -12,7 +12,7 @@ pub const HEAD_BYTES: usize = 6;
 // The bytes of an entry's node and count.
 pub const ENTRY_HEAD_BYTES: usize = 2;
 
-pub(crate) const KIND_OPEN: u16 = 0x0001;
+pub(crate) const KIND_OPENING: u16 = 0x0001;
 
 pub(crate) const KIND_EDGES: u16 = 0x0002;
 

@@ -4,11 +4,12 @@ ghost use mathlib.Core.Bool.{true};
 ghost use Prim.Native.Nat.{_%_, _≤_};
 ghost use lib.Dec.{eqb, ltb};
 ghost use lib.ListN.{length, getD};
+ghost use Rattle.nodes.specs.Options.{isSome};
 ghost use Rattle.nodes.specs.Lists.{has, all};
 ghost use Rattle.nodes.specs.Row.{count};
 ghost use Rattle.records.specs.Records.{allYes};
 ghost use Rattle.records.specs.JobFile.{mostNodes, rises, pairsRise, highestOf, allAllowed, openingAllowed, openingAsks, edgesAsks, nodesAsks, measurementsAsks};
-ghost use Rattle.records.specs.FlowFile.{entriesOf, framed, listed, allEntries, entryBelow, entriesRise, layersAsks, setsAsks};
+ghost use Rattle.records.specs.FlowFile.{entriesOf, listed, allEntries, entryBelow, entriesRise, layersAsks, setsAsks};
 ghost use Rattle.records.specs.Views.{checkedOf, asksOf, Granted};
 use crate::common::ENTRY_HEAD_BYTES;
 use crate::common::MODE_CAUSAL;
@@ -164,7 +165,7 @@ fn all_allowed(measurements: &[u8], mode: u8, outputs: &[u8]) -> bool
 
 // Do the entries end exactly with the payload?
 pub fn entries_end(sets: &[u8]) -> bool
-    ensures { λ r. ⌜ r ≡ framed (entriesOf (now (sets .entry))) ⌝ }
+    ensures { λ r. ⌜ r ≡ isSome (entriesOf (now (sets .entry))) ⌝ }
 {
     let mut i = 0;
     while i < sets.len() {
@@ -183,7 +184,7 @@ pub fn entries_end(sets: &[u8]) -> bool
 
 // Is each node and each member below n?
 fn entries_below(sets: &[u8], n: usize) -> bool
-    requires { ⌜ framed (entriesOf (now sets)) ≡ true ⌝ }
+    requires { ⌜ isSome (entriesOf (now sets)) ≡ true ⌝ }
     ensures { λ r. ⌜ r ≡ allEntries (entryBelow n) (listed (entriesOf (now (sets .entry)))) ⌝ }
 {
     let mut i = 0;
@@ -204,7 +205,7 @@ fn entries_below(sets: &[u8], n: usize) -> bool
 
 // Are the nodes strictly ascending, and the members of each entry?
 fn entries_rising(sets: &[u8]) -> bool
-    requires { ⌜ framed (entriesOf (now sets)) ≡ true ⌝ }
+    requires { ⌜ isSome (entriesOf (now sets)) ≡ true ⌝ }
     ensures { λ r. ⌜ r ≡ entriesRise 0 (listed (entriesOf (now (sets .entry)))) ⌝ }
 {
     let mut low: usize = 0;
@@ -228,7 +229,7 @@ fn entries_rising(sets: &[u8]) -> bool
 
 // Is the count of each entry 1?
 fn counts_one(sets: &[u8]) -> bool
-    requires { ⌜ framed (entriesOf (now sets)) ≡ true ⌝ }
+    requires { ⌜ isSome (entriesOf (now sets)) ≡ true ⌝ }
     ensures { λ r. ⌜ r ≡ allEntries (λ e. eqb (length (e .set)) 1) (listed (entriesOf (now (sets .entry)))) ⌝ }
 {
     let mut i = 0;

@@ -6,8 +6,7 @@ ghost use lib.Dec.{leb};
 ghost use lib.ListN.{length, drop};
 ghost use Rattle.nodes.specs.NodeSet.{member, highest};
 ghost use Rattle.nodes.specs.Lists.{has};
-ghost use Rattle.records.specs.Records.{lengthField, kindField, headBytes, part, checked};
-ghost use Rattle.records.specs.Format.{carries};
+ghost use Rattle.records.specs.Records.{carries, lengthField, kindField, headBytes, part, checked};
 ghost use Rattle.records.specs.JobFile.{readJob};
 ghost use Rattle.records.specs.FlowFile.{readFlow};
 ghost use Rattle.records.specs.Views.{asksOf, Granted, recordOfRead, recordBehind, startAt, placeOf, RecordAt, optionalOfRead, optionalBehind, choiceOfRead, choiceBehind, jobFrom, jobOfRead, JobReadInFile, flowFrom, flowOfRead, FlowReadInFile};
@@ -20,7 +19,7 @@ use crate::common::KIND_EDGES;
 use crate::common::KIND_INPUTS;
 use crate::common::KIND_LAYERS;
 use crate::common::KIND_MEASUREMENTS;
-use crate::common::KIND_OPEN;
+use crate::common::KIND_OPENING;
 use crate::common::KIND_OUTPUTS;
 use crate::common::KIND_SETS;
 use crate::common::Place;
@@ -67,24 +66,31 @@ fn kind_field(file: &[u8], at: usize) -> usize
     a + 256 * b
 }
 
-// Are six bytes left with the expected kind (1)? Is the whole payload there (2)?
+// Are six bytes left with this kind?
+fn carried(file: &[u8], at: usize, kind: u16) -> bool
+    ensures { λ r. ⌜ r ≡ carries kind (drop at (now (file .entry))) ⌝ }
+{
+    let len = file.len();
+    if len < HEAD_BYTES {
+        return false;
+    }
+    if at > len - HEAD_BYTES {
+        return false;
+    }
+    kind_field(file, at) == kind as usize
+}
+
+// Is the record there (1), and its whole payload (2)?
 fn head(file: &[u8], at: usize, kind: u16) -> RecordRead
     ensures { λ r. ⌜ recordOfRead (now (file .entry)) r ≡ part kind (drop at (now (file .entry))) ⌝ }
     ensures { λ r. ⌜ RecordAt (now (file .entry)) at r ⌝ }
 {
-    let len = file.len();
-    if len < HEAD_BYTES {
-        return RecordRead::Refused(Refusal::NO_RECORD);
-    }
-    if at > len - HEAD_BYTES {
-        return RecordRead::Refused(Refusal::NO_RECORD);
-    }
-    if kind_field(file, at) != kind as usize {
+    if !carried(file, at, kind) {
         return RecordRead::Refused(Refusal::NO_RECORD);
     }
     let count = length_field(file, at);
     let start = at + HEAD_BYTES;
-    if count > len - start {
+    if count > file.len() - start {
         return RecordRead::Refused(Refusal::CUT_PAYLOAD);
     }
     RecordRead::Payload(Place {
@@ -130,20 +136,6 @@ fn next(file: &[u8], read: RecordRead, kind: u16, questions: Questions) -> Recor
         }
         RecordRead::Refused(q) => RecordRead::Refused(q),
     }
-}
-
-// Do the next six bytes carry this kind?
-fn carried(file: &[u8], at: usize, kind: u16) -> bool
-    ensures { λ r. ⌜ r ≡ carries kind (drop at (now (file .entry))) ⌝ }
-{
-    let len = file.len();
-    if len < HEAD_BYTES {
-        return false;
-    }
-    if at > len - HEAD_BYTES {
-        return false;
-    }
-    kind_field(file, at) == kind as usize
 }
 
 // The record behind the one that was read, where it is there; else the place where it would be.
@@ -245,7 +237,7 @@ pub fn read_job(file: &[u8]) -> JobRead
     ensures { λ r. ⌜ jobOfRead (now (file .entry)) r ≡ readJob (now (file .entry)) ⌝ }
     ensures { λ r. ⌜ JobReadInFile (now (file .entry)) r ⌝ }
 {
-    let opening = next(file, start(0), KIND_OPEN, Questions::Opening);
+    let opening = next(file, start(0), KIND_OPENING, Questions::Opening);
     let first = payload(file, place_of(opening));
     let n = number(byte_at(first, 0));
     let mode = byte_at(first, 1);

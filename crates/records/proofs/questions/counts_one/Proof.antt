@@ -4,14 +4,15 @@ use Prim.Native.Nat.{_+_, _-_, _≤_}
 use native.Mathlib.Omega.{arith}
 use lib.Dec.{eqb}
 use lib.ListN.{length, getD, drop}
-use Rattle.records.specs.FlowFile.{entriesOf, framed, listed, allEntries}
-use Rattle.records.proofs.ReadingEntries.{fits, framed-next, one-no, one-next, one-last}
+use Rattle.nodes.specs.Options.{isSome}
+use Rattle.records.specs.FlowFile.{entriesOf, listed, allEntries}
+use Rattle.records.proofs.ReadingEntries.{fits, framed-next, one-no, one-next, each-last}
 use borrow.Author.Needs.{needs}
 use Rattle.records.proofs.questions.counts_one.Statement.{statement}
 use Rattle.records.proofs.questions.counts_one.Tie as tie
 
 abbrev Inv-loop : tie.InvT-loop
-Inv-loop p i₀ i = (i ≤ length p) × (framed (entriesOf (drop i p)) ≡ true) × (allEntries (λ e. eqb (length (e .set)) 1) (listed (entriesOf p)) ≡ allEntries (λ e. eqb (length (e .set)) 1) (listed (entriesOf (drop i p))))
+Inv-loop p i₀ i = (i ≤ length p) × (isSome (entriesOf (drop i p)) ≡ true) × (allEntries (λ e. eqb (length (e .set)) 1) (listed (entriesOf p)) ≡ allEntries (λ e. eqb (length (e .set)) 1) (listed (entriesOf (drop i p))))
 
 abbrev μ-loop : tie.MeasureT-loop
 μ-loop p i₀ i = length p - i
@@ -65,7 +66,7 @@ returns-2 : tie.Need-returns-2 Inv-loop μ-loop
 returns-2 c =
     let l = c .before .loop in
     let p = c .before .before .args .sets .now in
-    sym (l .inv .2 ∙ one-last p (l .i) (omega arith))
+    sym (l .inv .2 ∙ each-last (λ x. eqb (length (x .set)) 1) p (l .i) (omega arith))
 
 pub counts-one-spec : {M : Type 1} → statement M
 counts-one-spec =

@@ -4,14 +4,15 @@ use Prim.Native.Nat.{ℕ, _+_, _-_, _≤_}
 use native.Mathlib.Omega.{arith}
 use lib.ListN.{length, getD, drop}
 use borrow.Author.Tests.{not-true, not-false}
-use Rattle.records.specs.FlowFile.{entriesOf, framed, listed, allEntries, entryBelow}
-use Rattle.records.proofs.ReadingEntries.{fits, framed-next, below-node, below-set, below-next, below-last}
+use Rattle.nodes.specs.Options.{isSome}
+use Rattle.records.specs.FlowFile.{entriesOf, listed, allEntries, entryBelow}
+use Rattle.records.proofs.ReadingEntries.{fits, framed-next, below-node, below-set, below-next, each-last}
 use borrow.Author.Needs.{needs}
 use Rattle.records.proofs.questions.entries_below.Statement.{statement}
 use Rattle.records.proofs.questions.entries_below.Tie as tie
 
 abbrev Inv-loop : tie.InvT-loop
-Inv-loop p n i₀ i = (i ≤ length p) × (framed (entriesOf (drop i p)) ≡ true) × (allEntries (entryBelow n) (listed (entriesOf p)) ≡ allEntries (entryBelow n) (listed (entriesOf (drop i p))))
+Inv-loop p n i₀ i = (i ≤ length p) × (isSome (entriesOf (drop i p)) ≡ true) × (allEntries (entryBelow n) (listed (entriesOf p)) ≡ allEntries (entryBelow n) (listed (entriesOf (drop i p))))
 
 abbrev μ-loop : tie.MeasureT-loop
 μ-loop p n i₀ i = length p - i
@@ -69,7 +70,7 @@ returns-2 c =
     let p = c .before .before .before .before .before .before .before .before .before .before .before .args .sets .now in
     let y = fits-here (c .before .before .before .before .before .before .before .before) in
     let w = c .before .before .before .before .before .before .number .ensures .0 in
-    sym (l .inv .2 ∙ below-set p (l .i) _ (ap (λ (x : ℕ). l .i + 2 + x) w) (omega arith) (l .inv .1) (c .before .before .before .before .before .before .before .before .before .before .before .args .n) (omega arith) (sym (c .before .below .ensures) ∙ not-true _ (c .if2 .taken)))
+    sym (l .inv .2 ∙ below-set p (l .i) _ (ap (λ (x : ℕ). l .i + 2 + x) w) (omega arith) (l .inv .1) (c .before .before .before .before .before .before .before .before .before .before .before .args .n) (sym (c .before .below .ensures) ∙ not-true _ (c .if2 .taken)))
 
 loop-less : tie.Need-loop-less Inv-loop μ-loop
 loop-less c = search needs
@@ -89,7 +90,7 @@ returns-3 : tie.Need-returns-3 Inv-loop μ-loop
 returns-3 c =
     let l = c .before .loop in
     let p = c .before .before .before .args .sets .now in
-    sym (l .inv .2 ∙ below-last p (l .i) (c .before .before .before .args .n) (omega arith))
+    sym (l .inv .2 ∙ each-last (entryBelow (c .before .before .before .args .n)) p (l .i) (omega arith))
 
 pub entries-below-spec : {M : Type 1} → statement M
 entries-below-spec =

@@ -2,14 +2,15 @@ use mathlib.Core.Path.{_≡_, refl, sym, ap, _∙_}
 use Prim.Native.Nat.{_+_, _-_, _≤_}
 use native.Mathlib.Omega.{arith}
 use lib.ListN.{length, drop}
-use Rattle.records.specs.FlowFile.{entriesOf, framed}
+use Rattle.nodes.specs.Options.{isSome}
+use Rattle.records.specs.FlowFile.{entriesOf}
 use Rattle.records.proofs.ReadingEntries.{entries-end, entries-short, entries-cut, framed-next}
 use borrow.Author.Needs.{needs}
 use Rattle.records.proofs.questions.entries_end.Statement.{statement}
 use Rattle.records.proofs.questions.entries_end.Tie as tie
 
 abbrev Inv-loop : tie.InvT-loop
-Inv-loop p i₀ i = (i ≤ length p) × (framed (entriesOf p) ≡ framed (entriesOf (drop i p)))
+Inv-loop p i₀ i = (i ≤ length p) × (isSome (entriesOf p) ≡ isSome (entriesOf (drop i p)))
 
 abbrev μ-loop : tie.MeasureT-loop
 μ-loop p i₀ i = length p - i
@@ -24,7 +25,7 @@ returns : tie.Need-returns Inv-loop μ-loop
 returns c =
     let l = c .before .before .loop in
     let p = c .before .before .before .before .args .sets .now in
-    sym (l .inv .1 ∙ ap framed (entries-short p (l .i) (omega arith) (omega arith)))
+    sym (l .inv .1 ∙ ap isSome (entries-short p (l .i) (omega arith) (omega arith)))
 
 add-number : tie.Need-add-number Inv-loop μ-loop
 add-number c = search needs
@@ -39,7 +40,7 @@ returns-2 : tie.Need-returns-2 Inv-loop μ-loop
 returns-2 c =
     let l = c .before .before .before .before .before .loop in
     let p = c .before .before .before .before .before .before .before .args .sets .now in
-    sym (l .inv .1 ∙ ap framed (entries-cut p (l .i) (omega arith) (omega arith)))
+    sym (l .inv .1 ∙ ap isSome (entries-cut p (l .i) (omega arith) (omega arith)))
 
 add-i : tie.Need-add-i Inv-loop μ-loop
 add-i c = search needs
@@ -60,7 +61,7 @@ returns-3 : tie.Need-returns-3 Inv-loop μ-loop
 returns-3 c =
     let l = c .before .loop in
     let p = c .before .before .before .args .sets .now in
-    sym (l .inv .1 ∙ ap framed (entries-end p (l .i) (omega arith)))
+    sym (l .inv .1 ∙ ap isSome (entries-end p (l .i) (omega arith)))
 
 pub entries-end-spec : {M : Type 1} → statement M
 entries-end-spec =

@@ -4,14 +4,15 @@ use Prim.Native.Nat.{ℕ, _+_, _-_, _≤_}
 use native.Mathlib.Omega.{arith}
 use lib.ListN.{length, getD, drop}
 use borrow.Author.Tests.{not-true, not-false}
-use Rattle.records.specs.FlowFile.{entriesOf, framed, listed, entriesRise}
+use Rattle.nodes.specs.Options.{isSome}
+use Rattle.records.specs.FlowFile.{entriesOf, listed, entriesRise}
 use Rattle.records.proofs.ReadingEntries.{fits, framed-next, rise-node, rise-set, rise-next, rise-last}
 use borrow.Author.Needs.{needs}
 use Rattle.records.proofs.questions.entries_rising.Statement.{statement}
 use Rattle.records.proofs.questions.entries_rising.Tie as tie
 
 abbrev Inv-loop : tie.InvT-loop
-Inv-loop p low₀ i₀ low i = (i ≤ length p) × (framed (entriesOf (drop i p)) ≡ true) × (entriesRise 0 (listed (entriesOf p)) ≡ entriesRise low (listed (entriesOf (drop i p))))
+Inv-loop p low₀ i₀ low i = (i ≤ length p) × (isSome (entriesOf (drop i p)) ≡ true) × (entriesRise 0 (listed (entriesOf p)) ≡ entriesRise low (listed (entriesOf (drop i p))))
 
 abbrev μ-loop : tie.MeasureT-loop
 μ-loop p low₀ i₀ low i = length p - i
@@ -69,7 +70,7 @@ returns-2 c =
     let p = c .before .before .before .before .before .before .before .before .before .before .before .args .sets .now in
     let y = fits-here (c .before .before .before .before .before .before .before .before) in
     let w = c .before .before .before .before .number2 .ensures .0 in
-    sym (l .inv .2 ∙ rise-set p (l .i) _ (ap (λ (x : ℕ). l .i + 2 + x) w) (omega arith) (l .inv .1) (l .low) (omega arith) (sym (c .before .rising .ensures) ∙ not-true _ (c .if2 .taken)))
+    sym (l .inv .2 ∙ rise-set p (l .i) _ (ap (λ (x : ℕ). l .i + 2 + x) w) (omega arith) (l .inv .1) (l .low) (sym (c .before .rising .ensures) ∙ not-true _ (c .if2 .taken)))
 
 add-low : tie.Need-add-low Inv-loop μ-loop
 add-low c = search needs

@@ -1,5 +1,5 @@
 use native.Mathlib.Omega.{arith}
-use Rattle.records.proofs.Views.{carries-short, carries-at}
+use Rattle.records.proofs.ReadingHead.{carries-short, carries-at}
 use borrow.Author.Needs.{needs}
 use Rattle.records.proofs.reader.carried.Statement.{statement}
 use Rattle.records.proofs.reader.carried.Tie as tie

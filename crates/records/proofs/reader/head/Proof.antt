@@ -1,57 +1,64 @@
-use mathlib.Core.Path.{sym, _∙_}
+use Prim.Native.Nat.{_+_, _≤_}
+use mathlib.Core.Path.{_≡_, sym, _∙_}
+use mathlib.Core.Bool.{true}
 use native.Mathlib.Omega.{arith}
-use Rattle.records.proofs.ReadingHead.{part-short, part-other, part-cut, part-whole}
+use borrow.Author.Tests.{not-true, not-false}
+use lib.ListN.{length, drop}
+use Rattle.records.specs.Records.{headBytes, carries}
+use Rattle.records.proofs.ReadingHead.{part-missing, head-room, part-cut, part-whole}
 use borrow.Author.Needs.{needs}
 use Rattle.records.proofs.reader.head.Statement.{statement}
 use Rattle.records.proofs.reader.head.Tie as tie
 
+-- the record is there, and so are its six bytes
+there : (c : tie.Else1) → let a = c .before .before .before .args in carries (a .kind) (drop (a .at) (a .file .now)) ≡ true
+there c = sym (c .before .carried .ensures) ∙ not-false _ (c .if1 .left)
+
+room : (c : tie.Else1) → let a = c .before .before .before .args in a .at + headBytes ≤ length (a .file .now)
+room c = let a = c .before .before .before .args in head-room (a .file .now) (a .at) (a .kind) (there c)
+
+carried-requires : tie.Need-carried-requires
+carried-requires c κs = search needs
+
 returns : tie.Need-returns
-returns c = let a = c .before .before .args in (part-short (a .file .now) (a .at) (a .kind) (omega arith), tt)
-
-returns-2 : tie.Need-returns-2
-returns-2 c = let a = c .before .before .before .args in (part-short (a .file .now) (a .at) (a .kind) (omega arith), tt)
-
-kind-field-requires : tie.Need-kind-field-requires
-kind-field-requires c κs = search needs
-
-returns-3 : tie.Need-returns-3
-returns-3 c = let a = c .before .before .before .before .before .args in (part-other (a .file .now) (a .at) (a .kind) (omega arith) (λ e. c .if3 .taken (c .before .kind-field .ensures ∙ e)), tt)
+returns c =
+    let a = c .before .before .before .args in
+    (part-missing (a .file .now) (a .at) (a .kind) (sym (c .before .carried .ensures) ∙ not-true _ (c .if1 .taken)), tt)
 
 length-field-requires : tie.Need-length-field-requires
-length-field-requires c κs = search needs
+length-field-requires c κs = room c
 
 add-start : tie.Need-add-start
-add-start c = search needs
+add-start c = omega (arith, room (c .before))
 
-sub-if4 : tie.Need-sub-if4
-sub-if4 c = search needs
+sub-if2 : tie.Need-sub-if2
+sub-if2 c = omega (arith, room (c .before))
 
-returns-4 : tie.Need-returns-4
-returns-4 c =
-    let a = c .before .before .before .before .before .before .before .args in
+returns-2 : tie.Need-returns-2
+returns-2 c =
+    let a = c .before .before .before .before .before .args in
     let f = c .before .length-field in
-    (part-cut (a .file .now) (a .at) (a .kind) (omega arith) (sym (c .before .before .before .kind-field .ensures) ∙ c .before .before .if3 .left) (f .result) (f .ensures .0) (omega arith), tt)
+    (part-cut (a .file .now) (a .at) (a .kind) (there (c .before .before)) (f .result) (f .ensures .0) (omega (arith, room (c .before .before))), tt)
 
-add-t11 : tie.Need-add-t11
-add-t11 c = search needs
+add-t9 : tie.Need-add-t9
+add-t9 c = omega (arith, room (c .before .before))
 
-returns-5 : tie.Need-returns-5
-returns-5 c =
-    let a = c .before .before .before .before .before .before .before .args in
+returns-3 : tie.Need-returns-3
+returns-3 c =
+    let a = c .before .before .before .before .before .args in
     let f = c .before .length-field in
-    (part-whole (a .file .now) (a .at) (a .kind) (omega arith) (sym (c .before .before .before .kind-field .ensures) ∙ c .before .before .if3 .left) (f .result) (f .ensures .0) (omega arith), search needs)
+    let r = room (c .before .before) in
+    (part-whole (a .file .now) (a .at) (a .kind) (there (c .before .before)) (f .result) (f .ensures .0) (omega (arith, r)), omega (arith, r))
 
 pub head-spec : {M : Type 1} → statement M
 head-spec =
     tie.close
     (tie.spec
+    carried-requires
     returns
-    returns-2
-    kind-field-requires
-    returns-3
     length-field-requires
     add-start
-    sub-if4
-    returns-4
-    add-t11
-    returns-5)
+    sub-if2
+    returns-2
+    add-t9
+    returns-3)

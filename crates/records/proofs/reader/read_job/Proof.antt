@@ -1,5 +1,5 @@
 use mathlib.Core.Path.{_≡_, refl, ap, _∙_}
-use Rattle.records.specs.Records.{kindOpen}
+use Rattle.records.specs.Records.{kindOpening}
 use Rattle.records.specs.JobFile.{Opening, opening, openingAsks}
 use Rattle.records.specs.Views.{recordBehind, payloadOf, startAt, recordOfRead}
 use Rattle.records.specs.declared.reader.RecordRead.{RecordRead}
@@ -10,8 +10,8 @@ use Rattle.records.proofs.reader.read_job.Tie as tie
 
 -- the first record is read from the start of the file, and n and mode are its bytes
 first : (c : tie.After-next) → let s = c .before .before .before .args .file .now in
-    recordOfRead s (c .next .result) ≡ recordBehind s (startAt 0) kindOpen openingAsks
-first c = c .next .ensures .0 ∙ ap (λ (f : RecordRead). recordBehind (c .before .before .before .args .file .now) f kindOpen openingAsks) (c .before .start .ensures)
+    recordOfRead s (c .next .result) ≡ recordBehind s (startAt 0) kindOpening openingAsks
+first c = c .next .ensures .0 ∙ ap (λ (f : RecordRead). recordBehind (c .before .before .before .args .file .now) f kindOpening openingAsks) (c .before .start .ensures)
 
 opened : (c : tie.After-byte-at2) → let s = c .before .before .before .before .before .before .before .before .args .file .now in
     opening .value (payloadOf s (c .before .before .before .before .before .next .result)) ≡ record { n = c .before .number .result; mode = c .byte-at2 .result }
