@@ -10,13 +10,13 @@ use native.Mathlib.Omega.{arith}
 use lib.Dec.{T, eqb, ltb, leb, eqb→eq}
 use lib.ListN.{length, take, drop}
 use lib.Seq.{take-append-seam}
-use Rattle.nodes.proofs.Logic.{is-true, is-false, from-true, from-false, dec, or-out, not-in, not-out}
+use Rattle.nodes.proofs.Logic.{is-false, from-true, or-out, not-in, not-out}
 use Rattle.flows.specs.Job.{Job}
 use Rattle.flows.specs.Search.{Progress, firstRound, laterThan}
 use Rattle.flows.specs.Conditions.{corrects}
 use Rattle.flows.specs.Flows.{findAt}
 use Rattle.flows.proofs.Conditions.{corrects-ext}
-use Rattle.flows.proofs.Flows.{FoundAt, found-flow, found-corrects, found-smallest}
+use Rattle.flows.proofs.Flows.{FoundAt, found-flow, found-corrects}
 use Rattle.answers.specs.Answer.{Answer, gives, refuses, refusal, asks, _>>_}
 use Rattle.records.specs.Records.{written, kindNoFlow}
 use Rattle.records.specs.JobFile.{JobFile, mostNodes, readJob, jobOf, modeCausal, modePlanes, modePauli}
@@ -31,13 +31,13 @@ use Rattle.verdicts.specs.Published.{Measured, LayerRule}
 use Rattle.verdicts.specs.Rule.{FlowRule}
 use Rattle.demands.specs.Demand.{premise, Accepted, FlowBytes, layerIn, DemandHolds, Demand3}
 use Rattle.answers.proofs.Answer.{give-inj, never, bind-out, asks-out}
-use Rattle.records.proofs.JobFile.{job-asked, measured-most, output-zero, measured-plane, edge-loop}
+use Rattle.records.proofs.JobFile.{job-asked, measured-most, edge-loop}
 use Rattle.records.proofs.FlowFile.{flow-asked, nothing-left, one-member-other}
 use Rattle.records.proofs.Records.{written-length}
 use Rattle.records.proofs.Writing.{found-most, found-reads, found-valid, found-layer, found-entry, found-set, no-flow-unread}
 use Rattle.verdicts.proofs.Verdict.{domain-asked, initial-asked, definition-asked}
-use Rattle.verdicts.proofs.Rule.{Readable, rule-corrects, corrects-rule, verify-rule}
-use Rattle.demands.proofs.Judging.{Judged, judged-in, judged-out, searched-works, works-planes, causal-works, readable}
+use Rattle.verdicts.proofs.Rule.{Readable, corrects-rule, verify-rule, rule-smallest}
+use Rattle.demands.proofs.Judging.{Judged, judged-in, judged-out, searched-works, causal-works, readable, planes}
 
 -- ---- a job in mode 2 or 3
 module _ (file : List ℕ) (f : JobFile) (reads : readJob file ≡ gives f) (ends : f .after ≡ []) (searched : (modeOf f ≡ modePlanes) ⊎ (modeOf f ≡ modePauli)) where
@@ -51,17 +51,11 @@ module _ (file : List ℕ) (f : JobFile) (reads : readJob file ≡ gives f) (end
   valid = job-asked file f reads
 
   not-causal : modeOf f ≢ modeCausal
-  not-causal e = go searched e
+  not-causal e = go searched
     where
-      go : (modeOf f ≡ modePlanes) ⊎ (modeOf f ≡ modePauli) → modeOf f ≡ modeCausal → ⊥
-      go (inl p) e = apart (modeOf f) p e
-        where
-          apart : (m : ℕ) → m ≡ 2 → m ≡ 1 → ⊥
-          apart m p q = omega arith
-      go (inr p) e = apart (modeOf f) p e
-        where
-          apart : (m : ℕ) → m ≡ 3 → m ≡ 1 → ⊥
-          apart m p q = omega arith
+      go : (modeOf f ≡ modePlanes) ⊎ (modeOf f ≡ modePauli) → ⊥
+      go (inl p) = omega (arith, p, e)
+      go (inr p) = omega (arith, p, e)
 
   by-mode : search (modeOf f) j ≡ findAt j pauli
   by-mode = go searched
@@ -70,25 +64,11 @@ module _ (file : List ℕ) (f : JobFile) (reads : readJob file ≡ gives f) (end
       go (inl e) = rw e
       go (inr e) = rw e
 
-  is-planes : pauli ≡ false → modeOf f ≡ modePlanes
-  is-planes p = go searched
-    where
-      go : (modeOf f ≡ modePlanes) ⊎ (modeOf f ≡ modePauli) → modeOf f ≡ modePlanes
-      go (inl e) = e
-      go (inr e) = absurd (from-false pauli p (subst (λ (m : ℕ). T (eqb m modePauli)) (sym e) tt))
-
   measured : (u : ℕ) → u < j .nodes → j .measured u < 7
   measured u l = below (j .measured u) (measured-most f valid u)
     where
       below : (m : ℕ) → m ≤ 6 → m < 7
       below m h = omega arith
-
-  low : pauli ≡ false → (u : ℕ) → u < j .nodes → j .measured u ≤ 3
-  low p u l = go (dec (j .output u))
-    where
-      go : T (j .output u) ⊎ (T (j .output u) → ⊥) → j .measured u ≤ 3
-      go (inl t) = rw (output-zero f valid u l (is-true (j .output u) t)) (omega arith)
-      go (inr o) = measured-plane f valid (works-planes f (is-planes p)) u l (is-false (j .output u) o) .1
 
   -- ---- (a) the found flow is accepted
   module _ (s : Progress) (e : findAt j pauli ≡ some s) where
@@ -136,13 +116,10 @@ module _ (file : List ℕ) (f : JobFile) (reads : readJob file ≡ gives f) (end
     reads-other : Readable j (flowOf h)
     reads-other = readable f valid h (flow-asked (f .n) other h (q .reads))
 
-    rule : FlowRule (modeOf f) j (flowOf h)
-    rule = verify-rule j (flowOf h) reads-other (modeOf f) searched .0 (q .accepted)
-
     pub smallest-found : (s : Progress) × (findAt j pauli ≡ some s) × ((u : ℕ) → u < j .nodes → s .layer u ≤ flowOf h .layer u)
     smallest-found =
-        found-smallest j pauli measured low (λ u. edge-loop f valid u) p (flowOf h .layer) (flowOf h .set) (rule .layers .outputs)
-        (λ e u l o. rule .layers .others (is-planes e) u (l, o)) (λ u l o. rule-corrects j (flowOf h) reads-other (modeOf f) searched rule u (l, o))
+        rule-smallest j (flowOf h) reads-other (modeOf f) searched (planes f valid) (λ u. edge-loop f valid u) p
+        (verify-rule j (flowOf h) reads-other (modeOf f) searched .0 (q .accepted))
 
   -- ---- the three parts, of the bytes that the finder writes
   bytes-of : (o : Option Progress) → search (modeOf f) j ≡ o → foundBytes f ≡ flowBytes j o
