@@ -31,12 +31,12 @@ use Rattle.verdicts.specs.Published.{Measured, LayerRule}
 use Rattle.verdicts.specs.Rule.{FlowRule}
 use Rattle.demands.specs.Demand.{premise, Accepted, FlowBytes, layerIn, DemandHolds, Demand3}
 use Rattle.answers.proofs.Answer.{give-inj, never, bind-out, asks-out}
-use Rattle.records.proofs.JobFile.{job-asked, measured-most, edge-loop}
+use Rattle.records.proofs.JobFile.{job-asked, edge-loop}
 use Rattle.records.proofs.FlowFile.{flow-asked, nothing-left, one-member-other}
 use Rattle.records.proofs.Records.{written-length}
 use Rattle.records.proofs.Writing.{found-most, found-reads, found-valid, found-layer, found-entry, found-set, no-flow-unread}
 use Rattle.verdicts.proofs.Verdict.{domain-asked, initial-asked, definition-asked}
-use Rattle.verdicts.proofs.Rule.{Readable, corrects-rule, verify-rule, rule-smallest}
+use Rattle.verdicts.proofs.Rule.{Readable, measured-known, corrects-rule, verify-rule, rule-smallest}
 use Rattle.demands.proofs.Judging.{Judged, judged-in, judged-out, searched-works, causal-works, readable, planes}
 
 -- ---- a job in mode 2 or 3
@@ -64,12 +64,6 @@ module _ (file : List ℕ) (f : JobFile) (reads : readJob file ≡ gives f) (end
       go (inl e) = rw e
       go (inr e) = rw e
 
-  measured : (u : ℕ) → u < j .nodes → j .measured u < 7
-  measured u l = below (j .measured u) (measured-most f valid u)
-    where
-      below : (m : ℕ) → m ≤ 6 → m < 7
-      below m h = omega arith
-
   -- ---- (a) the found flow is accepted
   module _ (s : Progress) (e : findAt j pauli ≡ some s) where
     flow-found : FoundAt j pauli s
@@ -85,7 +79,7 @@ module _ (file : List ℕ) (f : JobFile) (reads : readJob file ≡ gives f) (end
     node-right u m =
         corrects-ext j (s .set u) (flowOf g .set u) (λ k l. sym (found-set j s u k (m .0) l ∙ rw (is-false (j .output u) (m .1))))
         pauli (laterThan (s .layer) u) (laterThan (flowOf g .layer) u) (λ k l. sym (ap₂ ltb (found-layer j s k l) (found-layer j s u (m .0)))) u (m .0)
-        (found-corrects j pauli measured s flow-found u (m .0) (m .1))
+        (found-corrects j pauli (measured-known j (flowOf g) reading) s flow-found u (m .0) (m .1))
 
     layer-rule : LayerRule (modeOf f) j (flowOf g .layer)
     layer-rule = record {

@@ -46,8 +46,9 @@ module _ (j : Job) (f : Flow) (r : Readable j f) where
           empty : (k : ℕ) → k < j .nodes → f .set i k ≡ false
           empty k l = is-false (f .set i k) (λ q. d (any-in (j .nodes) (f .set i) k l q))
 
-  measured : (u : ℕ) → u < j .nodes → j .measured u < 7
-  measured u l = go (dec (j .output u))
+  -- each node's measurement is one of the table
+  pub measured-known : (u : ℕ) → u < j .nodes → j .measured u < 7
+  measured-known u l = go (dec (j .output u))
     where
       go : T (j .output u) ⊎ (T (j .output u) → ⊥) → j .measured u < 7
       go (inl t) = rw (r .unmeasured u l t) (omega arith)
@@ -125,7 +126,7 @@ module _ (j : Job) (f : Flow) (r : Readable j f) where
     pub rule-smallest : (mode ≡ modePlanes → (u : ℕ) → Measured j u → j .measured u ≤ planeXZ) → ((u : ℕ) → j .edge u u ≡ false) → T (premiseAt j pauli)
         → FlowRule mode j f → (s : Progress) × (findAt j pauli ≡ some s) × ((u : ℕ) → u < j .nodes → s .layer u ≤ f .layer u)
     rule-smallest planes loopless premise p =
-        found-smallest j pauli measured low loopless premise (f .layer) (f .set) (p .layers .outputs)
+        found-smallest j pauli measured-known low loopless premise (f .layer) (f .set) (p .layers .outputs)
         (λ e u l o. p .layers .others (is-planes e) u (l, o)) (λ u l o. rule-corrects p u (l, o))
       where
         is-planes : pauli ≡ false → mode ≡ modePlanes
