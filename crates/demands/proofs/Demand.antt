@@ -2,7 +2,7 @@
 -- the finder's, and 'no flow' is said exactly where no flow is accepted.
 use Prim.Native.Nat.{ℕ, _+_, _≤_, _<_}
 use mathlib.Core.Path.{_≡_, refl, sym, ap, ap₂, _∙_, subst}
-use mathlib.Core.Bool.{Bool, true, false, cond, _||_}
+use mathlib.Core.Bool.{Bool, true, false, cond}
 use mathlib.Core.Option.{Option, none, some}
 use mathlib.Core.List.{List, [], _++_}
 use mathlib.Core.Logic.{_⊎_, inl, inr, _≢_}
@@ -25,7 +25,7 @@ use Rattle.records.specs.Encoding.{ValidJob, foundFlow}
 use Rattle.verdicts.specs.Verdict.{verify, checkDomain, checkInitial, checkDefinition}
 use Rattle.nodes.specs.Lists.{zeros}
 use Rattle.solver.specs.Solver.{workBytes}
-use Rattle.demands.specs.Calls.{modeOf, Outcome, put, findOutcome, findAsks, findCall, foundBytes, search}
+use Rattle.demands.specs.Calls.{modeOf, hasSearch, Outcome, put, findOutcome, findAsks, findCall, foundBytes, search}
 use Rattle.records.specs.Writing.{flowBytes, mostOutput}
 use Rattle.verdicts.specs.Published.{Measured, LayerRule}
 use Rattle.verdicts.specs.Rule.{FlowRule}
@@ -173,13 +173,13 @@ module _ (file : List ℕ) (f : JobFile) (reads : readJob file ≡ gives f) (end
 pub asked-find : (file work : List ℕ) (f : JobFile) → findAsks file work ≡ gives f → (readJob file ≡ gives f) × (f .after ≡ []) × ((f .mode ≡ modePlanes) ⊎ (f .mode ≡ modePauli)) × (length work ≡ workBytes)
 unfolding findAsks
 asked-find file work f e =
-    let (g, p, q) = bind-out (readJob file) (λ f. nothingLeft (f .after) >> (asks 10 (eqb (f .mode) modePlanes || eqb (f .mode) modePauli) >> (asks 11 (eqb (length work) workBytes) >> gives f))) f e in
-    let (a, b) = asks-out 8 (eqb (length (g .after)) 0) (asks 10 (eqb (g .mode) modePlanes || eqb (g .mode) modePauli) >> (asks 11 (eqb (length work) workBytes) >> gives g)) f q in
-    let (c, d) = asks-out 10 (eqb (g .mode) modePlanes || eqb (g .mode) modePauli) (asks 11 (eqb (length work) workBytes) >> gives g) f b in
+    let (g, p, q) = bind-out (readJob file) (λ f. nothingLeft (f .after) >> (asks 10 (hasSearch (f .mode)) >> (asks 11 (eqb (length work) workBytes) >> gives f))) f e in
+    let (a, b) = asks-out 8 (eqb (length (g .after)) 0) (asks 10 (hasSearch (g .mode)) >> (asks 11 (eqb (length work) workBytes) >> gives g)) f q in
+    let (c, d) = asks-out 10 (hasSearch (g .mode)) (asks 11 (eqb (length work) workBytes) >> gives g) f b in
     let (h, k) = asks-out 11 (eqb (length work) workBytes) (gives g) f d in
     let same : g ≡ f = give-inj k in
     subst (λ (g : JobFile). (readJob file ≡ gives g) × (g .after ≡ []) × ((g .mode ≡ modePlanes) ⊎ (g .mode ≡ modePauli)) × (length work ≡ workBytes)) same
-    (p, nothing-left (g .after) true (ap (asks 8) a), modes (g .mode) (or-out (eqb (g .mode) modePlanes) (eqb (g .mode) modePauli) (from-true (eqb (g .mode) modePlanes || eqb (g .mode) modePauli) c)), eqb→eq (length work) workBytes (from-true (eqb (length work) workBytes) h))
+    (p, nothing-left (g .after) true (ap (asks 8) a), modes (g .mode) (or-out (eqb (g .mode) modePlanes) (eqb (g .mode) modePauli) (from-true (hasSearch (g .mode)) c)), eqb→eq (length work) workBytes (from-true (eqb (length work) workBytes) h))
   where
     modes : (m : ℕ) → T (eqb m modePlanes) ⊎ T (eqb m modePauli) → (m ≡ modePlanes) ⊎ (m ≡ modePauli)
     modes m (inl t) = inl (eqb→eq m modePlanes t)

@@ -11,7 +11,7 @@ use lib.ListN.{length, getD, length-append, List·getD-append}
 use Rattle.answers.specs.Answer.{Refusal, Answer, gives, refuses, refusal, asks, no, passed, _>>=_, _>>_}
 use Rattle.records.specs.Records.{headBytes, lengthField, kindField, part, checked, written, kindLayers}
 use Rattle.nodes.specs.Lists.{all}
-use Rattle.records.specs.JobFile.{JobFile, rises, pairsRise, allAllowed, openNo, edgesNo, nodesNo, measurementsNo, mostNodes, readJob, readEdges, readInputs, readOutputs, readMeasurements, jobOf, modeCausal, modePlanes, modePauli}
+use Rattle.records.specs.JobFile.{JobFile, rises, pairsRise, allAllowed, openNo, edgesNo, nodesNo, measurementsNo, mostNodes, readJob, readEdges, readInputs, readOutputs, readMeasurements, jobOf, modeCausal, modePauli}
 use Rattle.records.specs.Encoding.{Bytes, jobBytes}
 use Rattle.records.specs.FlowFile.{FlowFile, Flow, allEntries, entriesOf, framed, listed, entryBelow, entriesRise, layersNo, setsNo, readFlow, readSets, flowOf}
 use Rattle.records.proofs.Records.{below-at, all-right, record-bytes}
@@ -21,7 +21,7 @@ use Rattle.flows.specs.Job.{Job}
 use Rattle.solver.specs.Solver.{workBytes}
 use Rattle.verdicts.specs.Verdict as Q
 use Rattle.verdicts.specs.Verdict.{ask, _next_, eachFrom, each}
-use Rattle.demands.specs.Calls.{modeOf, findAsks, verdict, verifyAsks}
+use Rattle.demands.specs.Calls.{modeOf, hasSearch, findAsks, verdict, verifyAsks}
 
 pub record Numbered (bytes : Type 0) (r : Refusal) : Type 0 where
   pub number : 1 ≤ r .number
@@ -119,7 +119,7 @@ module _ (bytes : Type 0) where
   find-numbered file work =
       bind-numbered (readJob file) _ (job-numbered file)
       (λ f e. asks-then 8 (eqb (length (f .after)) 0) _ (omega arith) (omega arith)
-      (asks-then 10 (eqb (f .mode) modePlanes || eqb (f .mode) modePauli) _ (omega arith) (omega arith) (asks-then 11 (eqb (length work) workBytes) _ (omega arith) (omega arith) (given f))))
+      (asks-then 10 (hasSearch (f .mode)) _ (omega arith) (omega arith) (asks-then 11 (eqb (length work) workBytes) _ (omega arith) (omega arith) (given f))))
 
   -- ---- the questions on a flow
   unfoldable pub Asked : Option Refusal → Type 0

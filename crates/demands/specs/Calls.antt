@@ -31,12 +31,15 @@ search mode j = cond (eqb mode modePlanes) (Planes.find j) (Paulis.find j)
 abbrev pub foundBytes : JobFile → List ℕ
 foundBytes f = flowBytes (jobOf f) (search (modeOf f) (jobOf f))
 
+abbrev pub hasSearch : ℕ → Bool
+hasSearch mode = eqb mode modePlanes || eqb mode modePauli
+
 -- the finder's questions before its search: is nothing left (8), is the mode 2 or 3 (10), is the work buffer right (11)
 unfoldable pub findAsks : List ℕ → List ℕ → Answer JobFile
 findAsks file work = do
   f ← readJob file
   nothingLeft (f .after)
-  asks 10 (eqb (f .mode) modePlanes || eqb (f .mode) modePauli)
+  asks 10 (hasSearch (f .mode))
   asks 11 (eqb (length work) workBytes)
   gives f
 
