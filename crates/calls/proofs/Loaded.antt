@@ -16,7 +16,7 @@ use Rattle.nodes.specs.Lists.{has, zeros}
 use Rattle.nodes.specs.declared.utils.NodeSet.{NodeSet}
 use Rattle.nodes.proofs.Logic.{lt-or-ge}
 use Rattle.flows.specs.Job.{Job}
-use Rattle.records.specs.JobFile.{JobFile, joined, measuredOf, jobOf}
+use Rattle.records.specs.JobFile.{JobFile, hasEdge, workingOf, jobOf}
 use Rattle.records.specs.FlowFile.{FlowFile, Flow, entryIn, setIn, flowOf}
 use Rattle.records.specs.Encoding.{ValidJob}
 use Rattle.records.proofs.JobFile.{has-small}
@@ -24,9 +24,9 @@ use Rattle.calls.specs.Loaded.{jobLoaded, flowIn}
 use Rattle.calls.specs.declared.load.Loaded.{Loaded}
 
 module _ (f : JobFile) (valid : ValidJob f) where
-  pub job-loaded : (l : Loaded) (graph measured : List ℕ) → l .n ≡ f .n → ((u v : ℕ) → setAt graph u v ≡ joined (f .edges) u v)
+  pub job-loaded : (l : Loaded) (graph measured : List ℕ) → l .n ≡ f .n → ((u v : ℕ) → setAt graph u v ≡ hasEdge (f .edges) u v)
       → member (l .inputs) ≡ (λ u. has (f .inputs) u && leb u highest) → member (l .outputs) ≡ (λ u. has (f .outputs) u && leb u highest)
-      → ((u : ℕ) → getD measured u 0 ≡ getD (measuredOf f .measurements) u 0) → jobLoaded l graph measured ≡ jobOf f
+      → ((u : ℕ) → getD measured u 0 ≡ getD (workingOf f .measurements) u 0) → jobLoaded l graph measured ≡ jobOf f
   job-loaded l graph measured n edges ins outs m =
       make n (fun-ext (λ u. fun-ext (λ v. edges u v)))
       (ins ∙ fun-ext (has-small (f .n) (f .inputs) (valid .few) (valid .inputsBelow)))

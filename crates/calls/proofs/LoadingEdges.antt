@@ -19,7 +19,7 @@ use Rattle.nodes.specs.declared.utils.NodeSet.{NodeSet}
 use Rattle.nodes.proofs.Logic.{is-false, and-l, and-r, and-all, and-none, or-none, eqb-comm, eqb-yes, eqb-no, le-or-lt, lt-or-ge}
 use Rattle.nodes.proofs.Bit.{bit-or, bit-pow}
 use Rattle.nodes.proofs.SetTable.{set-in, set-past, put-each, put-out, zeros-empty}
-use Rattle.records.specs.JobFile.{joined}
+use Rattle.records.specs.JobFile.{hasEdge}
 use Rattle.calls.specs.Loaded.{hasSet}
 use Rattle.records.proofs.Records.{all-more}
 use Rattle.records.proofs.ReadingLoops.{rest-none, rest-cons, rest-two}
@@ -76,22 +76,22 @@ cleared ws n e u v = ap (λ (l : List ℕ). setAt l u v) e ∙ ap (λ (f : ℕ �
 
 -- ---- edges
 module _ (l : List ℕ) (i : ℕ) (u v : ℕ) where
-  pub joined-end : length l - i < 2 → joined (drop i l) u v ≡ false
-  unfolding joined
-  joined-end h = by (ℕ-discrete (length l - i) 1)
+  pub hasEdge-end : length l - i < 2 → hasEdge (drop i l) u v ≡ false
+  unfolding hasEdge
+  hasEdge-end h = by (ℕ-discrete (length l - i) 1)
     where
-      by : Dec (length l - i ≡ 1) → joined (drop i l) u v ≡ false
-      by (yes e) = ap (λ (t : List ℕ). joined t u v) (rest-cons l i (omega arith) ∙ ap (λ (t : List ℕ). getD l i 0 ∷ t) (rest-none l (i + 1) (omega arith)))
-      by (no e) = ap (λ (t : List ℕ). joined t u v) (rest-none l i (omega arith))
+      by : Dec (length l - i ≡ 1) → hasEdge (drop i l) u v ≡ false
+      by (yes e) = ap (λ (t : List ℕ). hasEdge t u v) (rest-cons l i (omega arith) ∙ ap (λ (t : List ℕ). getD l i 0 ∷ t) (rest-none l (i + 1) (omega arith)))
+      by (no e) = ap (λ (t : List ℕ). hasEdge t u v) (rest-none l i (omega arith))
 
-  pub joined-more : i + 2 ≤ length l → (m : Bool)
-      → m || joined (drop i l) u v ≡ ((m || (eqb u (getD l i 0) && eqb v (getD l (i + 1) 0))) || (eqb u (getD l (i + 1) 0) && eqb v (getD l i 0))) || joined (drop (i + 2) l) u v
-  unfolding joined
-  joined-more h m =
+  pub hasEdge-more : i + 2 ≤ length l → (m : Bool)
+      → m || hasEdge (drop i l) u v ≡ ((m || (eqb u (getD l i 0) && eqb v (getD l (i + 1) 0))) || (eqb u (getD l (i + 1) 0) && eqb v (getD l i 0))) || hasEdge (drop (i + 2) l) u v
+  unfolding hasEdge
+  hasEdge-more h m =
       let a = getD l i 0 in
       let b = getD l (i + 1) 0 in
-      ap (λ (t : List ℕ). m || joined t u v) (rest-two l i h)
-      ∙ rw (eqb-comm u a, eqb-comm v b, eqb-comm u b, eqb-comm v a) (swap m (eqb a u && eqb b v) (eqb a v) (eqb b u) (joined (drop (i + 2) l) u v))
+      ap (λ (t : List ℕ). m || hasEdge t u v) (rest-two l i h)
+      ∙ rw (eqb-comm u a, eqb-comm v b, eqb-comm u b, eqb-comm v a) (swap m (eqb a u && eqb b v) (eqb a v) (eqb b u) (hasEdge (drop (i + 2) l) u v))
     where
       swap : (m x p q z : Bool) → m || (x || p && q || z) ≡ ((m || x) || (q && p)) || z
       swap true x p q z = refl

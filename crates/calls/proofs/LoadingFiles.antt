@@ -13,8 +13,9 @@ use Rattle.flows.specs.Job.{Job}
 use Rattle.answers.specs.Answer.{Refusal, refusal, gives, refuses}
 use Rattle.records.specs.Records.{written, kindAccepted}
 use Rattle.nodes.specs.Lists.{has, all}
-use Rattle.records.specs.JobFile.{JobFile, mostNodes, modeCausal, measuredOf, joined, readJob, jobOf}
-use Rattle.records.specs.FlowFile.{SetEntry, FlowFile, Flow, framed, listed, allEntries, entryBelow, readFlow, setIn, entryIn, flowOf}
+use Rattle.records.specs.JobFile.{JobFile, mostNodes, modeCausal, workingOf, hasEdge, readJob, jobOf}
+use Rattle.nodes.specs.Options.{isSome}
+use Rattle.records.specs.FlowFile.{SetEntry, FlowFile, Flow, listed, allEntries, entryBelow, readFlow, setIn, entryIn, flowOf}
 use Rattle.verdicts.specs.Verdict.{verify}
 use Rattle.demands.specs.Calls.{verdict, verifyAsks, put, verifyCall}
 use Rattle.answers.specs.Refusals.{refusalOf}
@@ -64,11 +65,11 @@ entries-fit n (e ∷ es) h t =
     (entries-fit n es h b)
 
 -- bytes that are no entries
-pub unframed : (o : Option (List SetEntry)) → framed o ≡ false → listed o ≡ []
+pub unframed : (o : Option (List SetEntry)) → isSome o ≡ false → listed o ≡ []
 unframed none f = refl
 unframed (some es) f = absurd (false≢true (sym f))
 
-module _ (o : Option (List SetEntry)) (f : framed o ≡ false) where
+module _ (o : Option (List SetEntry)) (f : isSome o ≡ false) where
   pub no-set : (u v : ℕ) → false ≡ setIn (listed o) u v
   unfolding setIn
   no-set u v = ap (λ (es : List SetEntry). setIn es u v) (sym (unframed o f))
@@ -78,9 +79,9 @@ module _ (o : Option (List SetEntry)) (f : framed o ≡ false) where
   no-entry u = ap (λ (es : List SetEntry). entryIn es u) (sym (unframed o f))
 
 -- ---- what was loaded is what the file means
-pub same-job : (f : JobFile) (edge : ℕ → ℕ → Bool) (input output : ℕ → Bool) → edge ≡ joined (f .edges) → input ≡ has (f .inputs) → output ≡ has (f .outputs)
+pub same-job : (f : JobFile) (edge : ℕ → ℕ → Bool) (input output : ℕ → Bool) → edge ≡ hasEdge (f .edges) → input ≡ has (f .inputs) → output ≡ has (f .outputs)
     → (g : Flow) (mode : ℕ)
-    → verify (record { nodes = f .n; edge = edge; input = input; output = output; measured = λ u. getD (measuredOf f .measurements) u 0 }) g mode ≡ verify (jobOf f) g mode
+    → verify (record { nodes = f .n; edge = edge; input = input; output = output; measured = λ u. getD (workingOf f .measurements) u 0 }) g mode ≡ verify (jobOf f) g mode
 same-job f edge input output a b c g mode = rw (a, b, c)
 
 pub same-flow : (g : FlowFile) (entry : ℕ → Bool) (set : ℕ → ℕ → Bool) → entry ≡ entryIn (g .sets) → set ≡ setIn (g .sets)
@@ -115,7 +116,7 @@ module _ (f : JobFile) (g : FlowFile) where
     unfolding flowAsks
     not-one t = rw (eq-eqb (length (g .after)) 0 h, t)
 
-    pub all-one : oneEach ≡ true → verdict (verify (jobOf f) (flowOf g) (measuredOf f .mode)) ≡ flowAsks f g
+    pub all-one : oneEach ≡ true → verdict (verify (jobOf f) (flowOf g) (workingOf f .mode)) ≡ flowAsks f g
     unfolding flowAsks
     all-one t = rw (eq-eqb (length (g .after)) 0 h, t)
 

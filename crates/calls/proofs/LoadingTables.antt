@@ -8,7 +8,8 @@ use lib.Dec.{eqb, ltb}
 use lib.ListN.{length, getD, drop}
 use Rattle.nodes.proofs.Logic.{or-none, eqb-comm}
 use Rattle.nodes.specs.Lists.{has, all}
-use Rattle.records.specs.FlowFile.{SetEntry, entriesOf, framed, listed, allEntries, entryBelow, setIn, entryIn}
+use Rattle.nodes.specs.Options.{isSome}
+use Rattle.records.specs.FlowFile.{SetEntry, entriesOf, listed, allEntries, entryBelow, setIn, entryIn}
 use Rattle.records.specs.Views.{between}
 use Rattle.records.proofs.Records.{and-out}
 use Rattle.records.proofs.ReadingEntries.{entries-end, listed-next}
@@ -26,7 +27,7 @@ regroup : (m x y : Bool) → m || (x || y) ≡ (m || x) || y
 regroup true x y = refl
 regroup false x y = refl
 
-module _ (p : List ℕ) (i j : ℕ) (e : j ≡ i + 2 + getD p (i + 1) 0) (g : j ≤ length p) (f : framed (entriesOf (drop i p)) ≡ true) where
+module _ (p : List ℕ) (i j : ℕ) (e : j ≡ i + 2 + getD p (i + 1) 0) (g : j ≤ length p) (f : isSome (entriesOf (drop i p)) ≡ true) where
   pub set-more : (u v : ℕ) (m : Bool)
       → m || setIn (listed (entriesOf (drop i p))) u v ≡ (m || (eqb u (getD p i 0) && has (between (i + 2) j p) v)) || setIn (listed (entriesOf (drop j p))) u v
   unfolding setIn

@@ -14,7 +14,7 @@ use Rattle.flows.specs.Job.{Job}
 use Rattle.flows.specs.Conditions.{memberExcused, oddExcused, yAsked}
 use Rattle.finder.specs.Searches.{jobIn}
 use Rattle.answers.specs.Answer.{Refusal, Answer, _>>_}
-use Rattle.records.specs.JobFile.{JobFile, measuredOf, jobOf, modePauli}
+use Rattle.records.specs.JobFile.{JobFile, workingOf, jobOf, modePauli}
 use Rattle.records.specs.FlowFile.{FlowFile, Flow, nothingLeft, oneMember, flowOf}
 use Rattle.verdicts.specs.Verdict.{verify}
 use Rattle.demands.specs.Calls.{verdict}
@@ -67,4 +67,4 @@ unfoldable pub flowAsks : JobFile → FlowFile → Answer Bool
 flowAsks f g = do
   nothingLeft (g .after)
   oneMember (f .mode) (g .sets)
-  verdict (verify (jobOf f) (flowOf g) (measuredOf f .mode))
+  verdict (verify (jobOf f) (flowOf g) (workingOf f .mode))

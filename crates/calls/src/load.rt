@@ -7,8 +7,9 @@ ghost use lib.ListN.{length, getD};
 ghost use Rattle.nodes.specs.NodeSet.{member, capacity};
 ghost use Rattle.nodes.specs.SetTable.{setAt, tableWords};
 ghost use Rattle.nodes.specs.Lists.{all, zeros};
-ghost use Rattle.records.specs.JobFile.{measuredOf, joined, jobOf};
-ghost use Rattle.records.specs.FlowFile.{entriesOf, framed, listed, allEntries, entryBelow, setIn, entryIn, flowOf};
+ghost use Rattle.nodes.specs.Options.{isSome};
+ghost use Rattle.records.specs.JobFile.{workingOf, hasEdge, jobOf};
+ghost use Rattle.records.specs.FlowFile.{entriesOf, listed, allEntries, entryBelow, setIn, entryIn, flowOf};
 ghost use Rattle.records.specs.Encoding.{ValidJob};
 ghost use Rattle.records.specs.Views.{bytesAt, InFile, jobAt, JobInFile, flowAt};
 ghost use Rattle.calls.specs.Loaded.{hasSet, jobLoaded, flowIn};
@@ -51,7 +52,7 @@ fn join(graph: &mut [u64], a: usize, b: usize)
 // Each edge joins both ways.
 fn load_graph(edges: &[u8], graph: &mut [u64])
     requires { ⌜ (length (now graph) ≡ tableWords) × (all (λ v. ltb v capacity) (now edges) ≡ true) ⌝ }
-    ensures { λ _. ⌜ ((u v : ℕ) → setAt (now (graph .exit)) u v ≡ joined (now (edges .entry)) u v) ⌝ }
+    ensures { λ _. ⌜ ((u v : ℕ) → setAt (now (graph .exit)) u v ≡ hasEdge (now (edges .entry)) u v) ⌝ }
 {
     clear_table(graph);
     let mut i = 0;
@@ -67,7 +68,7 @@ fn load_graph(edges: &[u8], graph: &mut [u64])
 // The members of each entry go into its node's set; the answer is the nodes that have an entry.
 fn load_entries(sets: &[u8], table: &mut [u64]) -> NodeSet
     requires { ⌜ length (now table) ≡ tableWords ⌝ }
-    requires { ⌜ (framed (entriesOf (now sets)) ≡ true) × (allEntries (entryBelow capacity) (listed (entriesOf (now sets))) ≡ true) ⌝ }
+    requires { ⌜ (isSome (entriesOf (now sets)) ≡ true) × (allEntries (entryBelow capacity) (listed (entriesOf (now sets))) ≡ true) ⌝ }
     ensures { λ r. ⌜ ((u v : ℕ) → setAt (now (table .exit)) u v ≡ setIn (listed (entriesOf (now (sets .entry)))) u v) ⌝ }
     ensures { λ r. ⌜ ((u : ℕ) → member r u ≡ entryIn (listed (entriesOf (now (sets .entry)))) u) ⌝ }
 {
@@ -144,7 +145,7 @@ pub(crate) fn load_job(
     requires { ⌜ ValidJob (jobAt (now file) job) × JobInFile (now file) job ⌝ }
     requires { ⌜ (length (now graph) ≡ tableWords) × (now measured ≡ zeros capacity) ⌝ }
     ensures { λ r. ⌜ jobLoaded r (now (graph .exit)) (now (measured .exit)) ≡ jobOf (jobAt (now (file .entry)) job) ⌝ }
-    ensures { λ r. ⌜ r .mode ≡ measuredOf (jobAt (now (file .entry)) job) .mode ⌝ }
+    ensures { λ r. ⌜ r .mode ≡ workingOf (jobAt (now (file .entry)) job) .mode ⌝ }
 {
     let edges = job.edges;
     load_graph(payload(file, edges), graph);

@@ -6,7 +6,7 @@ ghost use Prim.Native.Nat.{_≤_};
 ghost use lib.Dec.{eqb};
 ghost use lib.ListN.{length};
 ghost use Rattle.nodes.specs.NodeSet.{capacity};
-ghost use Rattle.records.specs.JobFile.{modeCausal, measuredOf, jobOf};
+ghost use Rattle.records.specs.JobFile.{modeCausal, workingOf, jobOf};
 ghost use Rattle.records.specs.FlowFile.{entriesOf, listed, allEntries, flowOf};
 ghost use Rattle.records.specs.Encoding.{ValidJob, ValidFlow};
 ghost use Rattle.verdicts.specs.Verdict.{checkDefinition, verify as verifyOf};
@@ -89,7 +89,7 @@ fn verify_loaded(
 fn verify_places(file: &[u8], job: JobPlaces, flow: FlowPlaces) -> Asked
     requires { ⌜ JobInFile (now file) job × FlowInFile (now file) (job .measurements .end) flow ⌝ }
     requires { ⌜ ValidJob (jobAt (now file) job) × ValidFlow (job .n) (flowAt (now file) flow) ⌝ }
-    ensures { λ r. ⌜ askedOf r ≡ verifyOf (jobOf (jobAt (now (file .entry)) job)) (flowOf (flowAt (now (file .entry)) flow)) (measuredOf (jobAt (now (file .entry)) job) .mode) ⌝ }
+    ensures { λ r. ⌜ askedOf r ≡ verifyOf (jobOf (jobAt (now (file .entry)) job)) (flowOf (flowAt (now (file .entry)) flow)) (workingOf (jobAt (now (file .entry)) job) .mode) ⌝ }
 {
     let mut graph = [0u64; TABLE_WORDS];
     let mut measured = [0u8; CAPACITY];

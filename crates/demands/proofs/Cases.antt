@@ -17,7 +17,7 @@ use Rattle.flows.specs.Search.{rounds}
 use Rattle.answers.specs.Answer.{gives}
 use Rattle.records.specs.Records.{lengthField, part, checked, written}
 use Rattle.nodes.specs.Lists.{has, listOf, all}
-use Rattle.records.specs.JobFile.{JobFile, modeCausal, modePlanes, modePauli, rises, pairsRise, allows, allAllowed, openingAsks, edgesAsks, nodesAsks, measurementsAsks, readJob, joined, jobOf}
+use Rattle.records.specs.JobFile.{JobFile, modeCausal, modePlanes, modePauli, rises, pairsRise, allows, allAllowed, openingAsks, edgesAsks, nodesAsks, measurementsAsks, readJob, hasEdge, jobOf}
 use Rattle.records.specs.FlowFile.{FlowFile, entriesIn, allEntries, entriesRise, entryBytes, layersAsks, setsAsks, readFlow, setIn, entryIn, flowOf}
 use Rattle.verdicts.specs.Verdict.{ask, eachFrom, nodeAsk, causalAsk, verify}
 use Rattle.demands.specs.Calls.{findAsks, verifyAsks}
@@ -132,7 +132,7 @@ module _ (layer : ℕ) where
   g = flowOf (itself (layer ∷ [])) .set
 
   itself-flow : IsFlow modePlanes j (flowOf (itself (layer ∷ [])))
-  unfolding has setIn joined parity
+  unfolding has setIn hasEdge parity
   itself-flow = record {
     lower = inr (inl (
       refl,
@@ -170,7 +170,7 @@ accepted-flow job flow f g reads ends inputs r a = (
 all-hold : AllHold cases × AllHold differences
 unfolding
     bit parity anyBelow allBelow count lowestFrom membersFrom solve entryOf digits listOf matrixFits bothFit wellShaped solveAsks own branches firstSolvable rounds
-    lengthField part checked written all has rises pairsRise allows allAllowed openingAsks edgesAsks nodesAsks measurementsAsks readJob joined
+    lengthField part checked written all has rises pairsRise allows allAllowed openingAsks edgesAsks nodesAsks measurementsAsks readJob hasEdge
     entriesIn allEntries entriesRise entryBytes layersAsks setsAsks readFlow setIn entryIn ask eachFrom nodeAsk causalAsk verify entriesFor findAsks verifyAsks findProgram verifyProgram equal
 all-hold = (
   (record { lower = tt }, ((fileF 2, itself (1 ∷ 0 ∷ []), refl, (refl, refl), forbidden 2), record { lower = tt })),

@@ -2,7 +2,7 @@
 -- the finder's, and 'no flow' is said exactly where no flow is accepted.
 use Prim.Native.Nat.{ℕ, _+_, _≤_, _<_}
 use mathlib.Core.Path.{_≡_, refl, sym, ap, ap₂, _∙_, subst}
-use mathlib.Core.Bool.{Bool, true, false, cond, _||_}
+use mathlib.Core.Bool.{Bool, true, false, cond}
 use mathlib.Core.Option.{Option, none, some}
 use mathlib.Core.List.{List, [], _++_}
 use mathlib.Core.Logic.{_⊎_, inl, inr, _≢_}
@@ -10,13 +10,13 @@ use native.Mathlib.Omega.{arith}
 use lib.Dec.{T, eqb, ltb, leb, eqb→eq}
 use lib.ListN.{length, take, drop}
 use lib.Seq.{take-append-seam}
-use Rattle.nodes.proofs.Logic.{is-true, is-false, from-true, from-false, dec, or-out, not-in, not-out}
+use Rattle.nodes.proofs.Logic.{is-false, from-true, or-out, not-in, not-out}
 use Rattle.flows.specs.Job.{Job}
 use Rattle.flows.specs.Search.{Progress, firstRound, laterThan}
 use Rattle.flows.specs.Conditions.{corrects}
 use Rattle.flows.specs.Flows.{findAt}
 use Rattle.flows.proofs.Conditions.{corrects-ext}
-use Rattle.flows.proofs.Flows.{FoundAt, found-flow, found-corrects, found-smallest}
+use Rattle.flows.proofs.Flows.{FoundAt, found-flow, found-corrects}
 use Rattle.answers.specs.Answer.{Answer, gives, refuses, refusal, asks, _>>_}
 use Rattle.records.specs.Records.{written, kindNoFlow}
 use Rattle.records.specs.JobFile.{JobFile, mostNodes, readJob, jobOf, modeCausal, modePlanes, modePauli}
@@ -25,7 +25,7 @@ use Rattle.records.specs.Encoding.{ValidJob, foundFlow}
 use Rattle.verdicts.specs.Verdict.{verify, checkDomain, checkInitial, checkDefinition}
 use Rattle.nodes.specs.Lists.{zeros}
 use Rattle.solver.specs.Solver.{workBytes}
-use Rattle.demands.specs.Calls.{modeOf, Outcome, put, findOutcome, findAsks, findCall, foundBytes, search}
+use Rattle.demands.specs.Calls.{modeOf, hasSearch, Outcome, put, findOutcome, findAsks, findCall, foundBytes, search}
 use Rattle.records.specs.Splice.{fitsIn}
 use Rattle.records.specs.Writing.{flowBytes, mostOutput}
 use Rattle.verdicts.specs.Published.{Measured, LayerRule}
@@ -33,13 +33,13 @@ use Rattle.verdicts.specs.Rule.{FlowRule}
 use Rattle.demands.specs.Demand.{premise, Accepted, FlowBytes, layerIn, DemandHolds, Demand3}
 use Rattle.answers.proofs.Answer.{give-inj, never, bind-out, asks-out}
 use Rattle.records.proofs.Encoding.{job-asked, flow-asked}
-use Rattle.records.proofs.JobFile.{measured-most, output-zero, measured-plane, edge-loop}
+use Rattle.records.proofs.JobFile.{edge-loop}
 use Rattle.records.proofs.FlowFile.{nothing-left, one-member-other}
 use Rattle.records.proofs.Records.{written-length}
 use Rattle.records.proofs.Writing.{found-most, found-reads, found-valid, found-layer, found-entry, found-set, no-flow-unread}
 use Rattle.verdicts.proofs.Verdict.{domain-asked, initial-asked, definition-asked}
-use Rattle.verdicts.proofs.Rule.{Readable, rule-corrects, corrects-rule, verify-rule}
-use Rattle.demands.proofs.Judging.{Judged, judged-in, judged-out, searched-works, works-planes, causal-works, readable}
+use Rattle.verdicts.proofs.Rule.{Readable, measured-known, corrects-rule, verify-rule, rule-smallest}
+use Rattle.demands.proofs.Judging.{Judged, judged-in, judged-out, searched-works, causal-works, readable, planes}
 
 -- ---- a job in mode 2 or 3
 module _ (file : List ℕ) (f : JobFile) (reads : readJob file ≡ gives f) (ends : f .after ≡ []) (searched : (modeOf f ≡ modePlanes) ⊎ (modeOf f ≡ modePauli)) where
@@ -53,17 +53,11 @@ module _ (file : List ℕ) (f : JobFile) (reads : readJob file ≡ gives f) (end
   valid = job-asked file f reads
 
   not-causal : modeOf f ≢ modeCausal
-  not-causal e = go searched e
+  not-causal e = go searched
     where
-      go : (modeOf f ≡ modePlanes) ⊎ (modeOf f ≡ modePauli) → modeOf f ≡ modeCausal → ⊥
-      go (inl p) e = apart (modeOf f) p e
-        where
-          apart : (m : ℕ) → m ≡ 2 → m ≡ 1 → ⊥
-          apart m p q = omega arith
-      go (inr p) e = apart (modeOf f) p e
-        where
-          apart : (m : ℕ) → m ≡ 3 → m ≡ 1 → ⊥
-          apart m p q = omega arith
+      go : (modeOf f ≡ modePlanes) ⊎ (modeOf f ≡ modePauli) → ⊥
+      go (inl p) = omega (arith, p, e)
+      go (inr p) = omega (arith, p, e)
 
   by-mode : search (modeOf f) j ≡ findAt j pauli
   by-mode = go searched
@@ -71,26 +65,6 @@ module _ (file : List ℕ) (f : JobFile) (reads : readJob file ≡ gives f) (end
       go : (modeOf f ≡ modePlanes) ⊎ (modeOf f ≡ modePauli) → search (modeOf f) j ≡ findAt j pauli
       go (inl e) = rw e
       go (inr e) = rw e
-
-  is-planes : pauli ≡ false → modeOf f ≡ modePlanes
-  is-planes p = go searched
-    where
-      go : (modeOf f ≡ modePlanes) ⊎ (modeOf f ≡ modePauli) → modeOf f ≡ modePlanes
-      go (inl e) = e
-      go (inr e) = absurd (from-false pauli p (subst (λ (m : ℕ). T (eqb m modePauli)) (sym e) tt))
-
-  measured : (u : ℕ) → u < j .nodes → j .measured u < 7
-  measured u l = below (j .measured u) (measured-most f valid u)
-    where
-      below : (m : ℕ) → m ≤ 6 → m < 7
-      below m h = omega arith
-
-  low : pauli ≡ false → (u : ℕ) → u < j .nodes → j .measured u ≤ 3
-  low p u l = go (dec (j .output u))
-    where
-      go : T (j .output u) ⊎ (T (j .output u) → ⊥) → j .measured u ≤ 3
-      go (inl t) = rw (output-zero f valid u l (is-true (j .output u) t)) (omega arith)
-      go (inr o) = measured-plane f valid (works-planes f (is-planes p)) u l (is-false (j .output u) o) .1
 
   -- ---- (a) the found flow is accepted
   module _ (s : Progress) (e : findAt j pauli ≡ some s) where
@@ -107,7 +81,7 @@ module _ (file : List ℕ) (f : JobFile) (reads : readJob file ≡ gives f) (end
     node-right u m =
         corrects-ext j (s .set u) (flowOf g .set u) (λ k l. sym (found-set j s u k (m .0) l ∙ rw (is-false (j .output u) (m .1))))
         pauli (laterThan (s .layer) u) (laterThan (flowOf g .layer) u) (λ k l. sym (ap₂ ltb (found-layer j s k l) (found-layer j s u (m .0)))) u (m .0)
-        (found-corrects j pauli measured s flow-found u (m .0) (m .1))
+        (found-corrects j pauli (measured-known j (flowOf g) reading) s flow-found u (m .0) (m .1))
 
     layer-rule : LayerRule (modeOf f) j (flowOf g .layer)
     layer-rule = record {
@@ -138,13 +112,10 @@ module _ (file : List ℕ) (f : JobFile) (reads : readJob file ≡ gives f) (end
     reads-other : Readable j (flowOf h)
     reads-other = readable f valid h (flow-asked (f .n) other h (q .reads))
 
-    rule : FlowRule (modeOf f) j (flowOf h)
-    rule = verify-rule j (flowOf h) reads-other (modeOf f) searched .0 (q .accepted)
-
     pub smallest-found : (s : Progress) × (findAt j pauli ≡ some s) × ((u : ℕ) → u < j .nodes → s .layer u ≤ flowOf h .layer u)
     smallest-found =
-        found-smallest j pauli measured low (λ u. edge-loop f valid u) p (flowOf h .layer) (flowOf h .set) (rule .layers .outputs)
-        (λ e u l o. rule .layers .others (is-planes e) u (l, o)) (λ u l o. rule-corrects j (flowOf h) reads-other (modeOf f) searched rule u (l, o))
+        rule-smallest j (flowOf h) reads-other (modeOf f) searched (planes f valid) (λ u. edge-loop f valid u) p
+        (verify-rule j (flowOf h) reads-other (modeOf f) searched .0 (q .accepted))
 
   -- ---- the three parts, of the bytes that the finder writes
   bytes-of : (o : Option Progress) → search (modeOf f) j ≡ o → foundBytes f ≡ flowBytes j o
@@ -204,13 +175,13 @@ module _ (file : List ℕ) (f : JobFile) (reads : readJob file ≡ gives f) (end
 pub asked-find : (file work : List ℕ) (f : JobFile) → findAsks file work ≡ gives f → (readJob file ≡ gives f) × (f .after ≡ []) × ((f .mode ≡ modePlanes) ⊎ (f .mode ≡ modePauli)) × (length work ≡ workBytes)
 unfolding findAsks
 asked-find file work f e =
-    let (g, p, q) = bind-out (readJob file) (λ f. nothingLeft (f .after) >> (asks 10 (eqb (f .mode) modePlanes || eqb (f .mode) modePauli) >> (asks 11 (eqb (length work) workBytes) >> gives f))) f e in
-    let (a, b) = asks-out 8 (eqb (length (g .after)) 0) (asks 10 (eqb (g .mode) modePlanes || eqb (g .mode) modePauli) >> (asks 11 (eqb (length work) workBytes) >> gives g)) f q in
-    let (c, d) = asks-out 10 (eqb (g .mode) modePlanes || eqb (g .mode) modePauli) (asks 11 (eqb (length work) workBytes) >> gives g) f b in
+    let (g, p, q) = bind-out (readJob file) (λ f. nothingLeft (f .after) >> (asks 10 (hasSearch (f .mode)) >> (asks 11 (eqb (length work) workBytes) >> gives f))) f e in
+    let (a, b) = asks-out 8 (eqb (length (g .after)) 0) (asks 10 (hasSearch (g .mode)) >> (asks 11 (eqb (length work) workBytes) >> gives g)) f q in
+    let (c, d) = asks-out 10 (hasSearch (g .mode)) (asks 11 (eqb (length work) workBytes) >> gives g) f b in
     let (h, k) = asks-out 11 (eqb (length work) workBytes) (gives g) f d in
     let same : g ≡ f = give-inj k in
     subst (λ (g : JobFile). (readJob file ≡ gives g) × (g .after ≡ []) × ((g .mode ≡ modePlanes) ⊎ (g .mode ≡ modePauli)) × (length work ≡ workBytes)) same
-    (p, nothing-left (g .after) true (ap (asks 8) a), modes (g .mode) (or-out (eqb (g .mode) modePlanes) (eqb (g .mode) modePauli) (from-true (eqb (g .mode) modePlanes || eqb (g .mode) modePauli) c)), eqb→eq (length work) workBytes (from-true (eqb (length work) workBytes) h))
+    (p, nothing-left (g .after) true (ap (asks 8) a), modes (g .mode) (or-out (eqb (g .mode) modePlanes) (eqb (g .mode) modePauli) (from-true (hasSearch (g .mode)) c)), eqb→eq (length work) workBytes (from-true (eqb (length work) workBytes) h))
   where
     modes : (m : ℕ) → T (eqb m modePlanes) ⊎ T (eqb m modePauli) → (m ≡ modePlanes) ⊎ (m ≡ modePauli)
     modes m (inl t) = inl (eqb→eq m modePlanes t)

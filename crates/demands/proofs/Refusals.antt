@@ -9,19 +9,20 @@ use native.Mathlib.Omega.{arith}
 use lib.Dec.{eqb, leb, ltb}
 use lib.ListN.{length, getD, length-append, List·getD-append}
 use Rattle.answers.specs.Answer.{Refusal, Answer, gives, refuses, refusal, asks, _>>=_, _>>_}
-use Rattle.records.specs.Records.{headBytes, lengthField, part, checked, written, kindOpen, kindEdges, kindInputs, kindOutputs, kindMeasurements, kindLayers, kindSets}
+use Rattle.records.specs.Records.{headBytes, lengthField, part, checked, written, kindOpening, kindEdges, kindInputs, kindOutputs, kindMeasurements, kindLayers, kindSets}
 use Rattle.nodes.specs.Lists.{has, all}
 use Rattle.records.specs.JobFile.{JobFile, wholePairs, nodesBelow, rises, pairsRise, allAllowed, openingAllowed, openingAsks, edgesAsks, nodesAsks, measurementsAsks, mostNodes, opening, job, readJob, jobOf, modeCausal, modePlanes, modePauli}
 use Rattle.records.specs.Encoding.{Bytes, jobBytes}
 use Rattle.records.specs.Format.{carries, Format, PayloadFormat, plain, recordOf, then}
-use Rattle.records.specs.FlowFile.{FlowFile, Flow, entriesOf, framed, listed, allEntries, entryBelow, entriesRise, entryBytes, layersAsks, setsAsks, sets, flow, readFlow, flowOf}
+use Rattle.nodes.specs.Options.{isSome}
+use Rattle.records.specs.FlowFile.{FlowFile, Flow, entriesOf, listed, allEntries, entryBelow, entriesRise, entryBytes, layersAsks, setsAsks, sets, flow, readFlow, flowOf}
 use Rattle.records.proofs.Records.{below-at, all-left, all-right}
 use Rattle.records.proofs.Encoding.{job-exact, job-asked, flow-exact}
 use Rattle.flows.specs.Job.{Job}
 use Rattle.solver.specs.Solver.{workBytes}
 use Rattle.verdicts.specs.Verdict as Q
 use Rattle.verdicts.specs.Verdict.{ask, _next_, eachFrom, each}
-use Rattle.demands.specs.Calls.{modeOf, findAsks, verdict, verifyAsks}
+use Rattle.demands.specs.Calls.{modeOf, hasSearch, findAsks, verdict, verifyAsks}
 
 pub record Numbered (bytes : Type 0) (r : Refusal) : Type 0 where
   pub number : 1 ≤ r .number
@@ -82,7 +83,7 @@ module _ (bytes : Type 0) where
   sets-numbered : (n : ℕ) (p : List ℕ) → AllNumbered (setsAsks n p)
   unfolding setsAsks
   sets-numbered n p =
-      asks-then 3 (framed (entriesOf p)) _ (omega arith) (omega arith)
+      asks-then 3 (isSome (entriesOf p)) _ (omega arith) (omega arith)
       (asks-then 5 (allEntries (entryBelow n) (listed (entriesOf p))) _ (omega arith) (omega arith) (asks-last 6 (entriesRise 0 (listed (entriesOf p))) (omega arith) (omega arith)))
 
   -- ---- reading: a format put together from such records
@@ -115,7 +116,7 @@ module _ (bytes : Type 0) where
     where
       format : ReadsNumbered job
       format =
-          then-numbered _ _ (record-numbered kindOpen opening opening-numbered) (λ o.
+          then-numbered _ _ (record-numbered kindOpening opening opening-numbered) (λ o.
           then-numbered _ _ (record-numbered kindEdges (plain (edgesAsks (o .n))) (edges-numbered (o .n))) (λ e.
           then-numbered _ _ (record-numbered kindInputs (plain (nodesAsks (o .n))) (nodes-numbered (o .n))) (λ i.
           then-numbered _ _ (record-numbered kindOutputs (plain (nodesAsks (o .n))) (nodes-numbered (o .n))) (λ u.
@@ -133,7 +134,7 @@ module _ (bytes : Type 0) where
   find-numbered file work =
       bind-numbered (readJob file) _ (job-numbered file)
       (λ f e. asks-then 8 (eqb (length (f .after)) 0) _ (omega arith) (omega arith)
-      (asks-then 10 (eqb (f .mode) modePlanes || eqb (f .mode) modePauli) _ (omega arith) (omega arith) (asks-then 11 (eqb (length work) workBytes) _ (omega arith) (omega arith) (given f))))
+      (asks-then 10 (hasSearch (f .mode)) _ (omega arith) (omega arith) (asks-then 11 (eqb (length work) workBytes) _ (omega arith) (omega arith) (given f))))
 
   -- ---- the questions on a flow
   unfoldable pub Asked : Option Refusal → Type 0

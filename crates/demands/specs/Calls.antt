@@ -15,14 +15,14 @@ use Rattle.answers.specs.Answer.{Refusal, Answer, gives, refuses, asks, _>>=_, 
 use Rattle.records.specs.Records.{written, kindAccepted}
 use Rattle.records.specs.Splice.{putAnswer, putFront}
 use Rattle.records.specs.Writing.{flowBytes}
-use Rattle.records.specs.JobFile.{JobFile, readJob, jobOf, measuredOf, modePlanes, modePauli}
+use Rattle.records.specs.JobFile.{JobFile, readJob, jobOf, workingOf, modePlanes, modePauli}
 use Rattle.records.specs.FlowFile.{readFlow, flowOf, nothingLeft, oneMember}
 use Rattle.verdicts.specs.Verdict.{verify}
 
 -- Everything after reading goes by the mode and the measurements to work with: by `modeOf`, and by `jobOf`, which has the measurements.
 -- Only two questions read the mode of the file itself: 9 (has each causal entry one member) and 10 (is the mode 2 or 3).
 abbrev pub modeOf : JobFile → ℕ
-modeOf f = measuredOf f .mode
+modeOf f = workingOf f .mode
 
 -- ---- what the finder writes
 -- mode 2 searches by planes, mode 3 by Paulis
@@ -32,12 +32,15 @@ search mode j = cond (eqb mode modePlanes) (Planes.find j) (Paulis.find j)
 abbrev pub foundBytes : JobFile → List ℕ
 foundBytes f = flowBytes (jobOf f) (search (modeOf f) (jobOf f))
 
+abbrev pub hasSearch : ℕ → Bool
+hasSearch mode = eqb mode modePlanes || eqb mode modePauli
+
 -- the finder's questions before its search: is nothing left (8), is the mode 2 or 3 (10), is the work buffer right (11)
 unfoldable pub findAsks : List ℕ → List ℕ → Answer JobFile
 findAsks file work = do
   f ← readJob file
   nothingLeft (f .after)
-  asks 10 (eqb (f .mode) modePlanes || eqb (f .mode) modePauli)
+  asks 10 (hasSearch (f .mode))
   asks 11 (eqb (length work) workBytes)
   gives f
 

@@ -9,7 +9,7 @@ use lib.Dec.{T}
 use Rattle.answers.specs.Answer.{Answer, gives, refuses}
 use Rattle.nodes.specs.Lists.{equal, listOf}
 use Rattle.solver.specs.Solver as Solver
-use Rattle.records.specs.Records.{written, kindOpen, kindEdges, kindInputs, kindOutputs, kindMeasurements, kindLayers, kindSets, kindNoFlow, kindAccepted, kindRefusal}
+use Rattle.records.specs.Records.{written, kindOpening, kindEdges, kindInputs, kindOutputs, kindMeasurements, kindLayers, kindSets, kindNoFlow, kindAccepted, kindRefusal}
 use Rattle.flows.specs.Job.{Job}
 use Rattle.records.specs.JobFile.{JobFile, readJob, jobOf}
 use Rattle.records.specs.FlowFile.{FlowFile, Flow, flowOf}
@@ -92,7 +92,7 @@ AllHold cs = Lift {0, 1} (T (allHold cs)) × PapersSay cs
 -- ---- the files
 abbrev pub job : (n mode : ℕ) (edges inputs outputs measurements : List ℕ) → List ℕ
 job n mode edges inputs outputs measurements =
-    written kindOpen (n ∷ mode ∷ []) ++ written kindEdges edges ++ written kindInputs inputs ++ written kindOutputs outputs ++ written kindMeasurements measurements
+    written kindOpening (n ∷ mode ∷ []) ++ written kindEdges edges ++ written kindInputs inputs ++ written kindOutputs outputs ++ written kindMeasurements measurements
 
 abbrev pub flow : (layers sets : List ℕ) → List ℕ
 flow layers sets = written kindLayers layers ++ written kindSets sets

@@ -11,7 +11,7 @@ use Rattle.nodes.proofs.Logic.{is-true, is-false, and-l, and-r, or-r, or-out, n
 use Rattle.nodes.proofs.Row.{any-none, all-out}
 use Rattle.nodes.proofs.Count.{Within, count-le}
 use Rattle.nodes.specs.Options.{isSome}
-use Rattle.flows.specs.Job.{Job}
+use Rattle.flows.specs.Job.{Job, planeXZ}
 use Rattle.flows.specs.Branch.{Context, branches, tryNode}
 use Rattle.flows.specs.Conditions.{corrects}
 use Rattle.flows.specs.Search.{Progress, start, solvedNow, rounds, firstRound, begun, searchFrom, ifSolved, laterThan}
@@ -113,7 +113,7 @@ module _ (j : Job) (pauli : Bool) (measured : (u : ℕ) → u < j .nodes → j .
 
   -- Right sets make a layering: the one place where the premise is used, since without it a node with a right set may be passed over.
   module _
-      (planes : pauli ≡ false → (u : ℕ) → u < j .nodes → j .measured u ≤ 3)
+      (planes : pauli ≡ false → (u : ℕ) → u < j .nodes → j .measured u ≤ planeXZ)
       (loopless : (u : ℕ) → j .edge u u ≡ false)
       (premise : T (premiseAt j pauli))
       (layer : ℕ → ℕ)

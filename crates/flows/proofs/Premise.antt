@@ -9,7 +9,7 @@ use Rattle.nodes.specs.Row.{anyBelow, allBelow, count}
 use Rattle.nodes.proofs.Logic.{dec, and-l, and-r, and-in, or-l, or-r, or-out, not-in, not-out}
 use Rattle.nodes.proofs.Row.{any-in, any-out, all-out}
 use Rattle.nodes.proofs.Count.{rank-sur}
-use Rattle.flows.specs.Job.{Job, odd, isXorY, isYorZ, planeYZ}
+use Rattle.flows.specs.Job.{Job, odd, isXorY, isYorZ, planeYZ, planeXZ, pauliY, pauliZ}
 use Rattle.flows.specs.Premise.{planesPremise, paulisPremise, premiseAt}
 use Rattle.nodes.specs.Options.{isSome}
 use Rattle.flows.proofs.Table.{needs-odd}
@@ -46,7 +46,7 @@ module _ (j : Job) (u : ℕ) (h : u < j .nodes) (measured : j .measured u < 7) (
       needs-column j pauli later u h measured loopless set c
       (needs-odd (j .measured u) (set u) (odd j set u) measured f (own-measured j set u (corrects-own j pauli later set u c)))
 
-  planes-column : (later set : ℕ → Bool) → (j .measured u ≤ 3) → T (planesPremise j) → OutputsLater later → T (corrects j false later set u) → Column false later
+  planes-column : (later set : ℕ → Bool) → (j .measured u ≤ planeXZ) → T (planesPremise j) → OutputsLater later → T (corrects j false later set u) → Column false later
   planes-column later set low p g ok = go (or-out (anyBelow (j .nodes) (λ k. j .output k && not (j .input k))) (allBelow (j .nodes) (λ k. not (eqb (j .measured k) planeYZ))) p)
     where
       go : T (anyBelow (j .nodes) (λ k. j .output k && not (j .input k))) ⊎ T (allBelow (j .nodes) (λ k. not (eqb (j .measured k) planeYZ))) → Column false later
@@ -60,11 +60,11 @@ module _ (j : Job) (u : ℕ) (h : u < j .nodes) (measured : j .measured u < 7) (
         where
           by : T (eqb (j .measured u) planeYZ) ⊎ T (isYorZ (j .measured u)) → ⊥
           by (inl q) = not-out (eqb (j .measured u) planeYZ) (all-out (j .nodes) (λ k. not (eqb (j .measured k) planeYZ)) t u h) q
-          by (inr q) = high (j .measured u) low (or-out (eqb (j .measured u) 5) (eqb (j .measured u) 6) q)
+          by (inr q) = high (or-out (eqb (j .measured u) pauliY) (eqb (j .measured u) pauliZ) q)
             where
-              high : (m : ℕ) → m ≤ 3 → T (eqb m 5) ⊎ T (eqb m 6) → ⊥
-              high m l (inl q) = let e : m ≡ 5 = eqb→eq m 5 q in omega arith
-              high m l (inr q) = let e : m ≡ 6 = eqb→eq m 6 q in omega arith
+              high : T (eqb (j .measured u) pauliY) ⊎ T (eqb (j .measured u) pauliZ) → ⊥
+              high (inl q) = omega (arith, low, eqb→eq (j .measured u) pauliY q)
+              high (inr q) = omega (arith, low, eqb→eq (j .measured u) pauliZ q)
 
   paulis-column : (later set : ℕ → Bool) → T (paulisPremise j) → T (corrects j true later set u) → Column true later
   paulis-column later set p ok = go (or-out (leb 2 (count (j .nodes) (λ k. not (j .input k) && isXorY (j .measured k)))) (allBelow (j .nodes) (λ k. not (eqb (j .measured k) planeYZ || isYorZ (j .measured k)))) p)
@@ -78,10 +78,10 @@ module _ (j : Job) (u : ℕ) (h : u < j .nodes) (measured : j .measured u < 7) (
           (not-in (eqb k u) d))
       go (inr t) = by-odd true later set ok (not-out (eqb (j .measured u) planeYZ || isYorZ (j .measured u)) (all-out (j .nodes) (λ k. not (eqb (j .measured k) planeYZ || isYorZ (j .measured k))) t u h))
 
-  column-left : (pauli : Bool) → (pauli ≡ false → j .measured u ≤ 3) → T (premiseAt j pauli) → (later set : ℕ → Bool) → (pauli ≡ false → OutputsLater later) → T (corrects j pauli later set u) → Column pauli later
+  column-left : (pauli : Bool) → (pauli ≡ false → j .measured u ≤ planeXZ) → T (premiseAt j pauli) → (later set : ℕ → Bool) → (pauli ≡ false → OutputsLater later) → T (corrects j pauli later set u) → Column pauli later
   column-left true low p later set g c = paulis-column later set p c
   column-left false low p later set g c = planes-column later set (low refl) p (g refl) c
 
   -- under the premise a node with a right set is solved; for planes that wants the outputs later
-  pub premise-complete : (pauli : Bool) → (pauli ≡ false → j .measured u ≤ 3) → T (premiseAt j pauli) → (later set : ℕ → Bool) → (pauli ≡ false → OutputsLater later) → T (corrects j pauli later set u) → T (isSome (tryAt j pauli later u))
+  pub premise-complete : (pauli : Bool) → (pauli ≡ false → j .measured u ≤ planeXZ) → T (premiseAt j pauli) → (later set : ℕ → Bool) → (pauli ≡ false → OutputsLater later) → T (corrects j pauli later set u) → T (isSome (tryAt j pauli later u))
   premise-complete pauli low p later set g c = try-complete j pauli later u h measured (column-left pauli low p later set g c) set c

@@ -1,19 +1,22 @@
 -- The verifier accepts exactly what obeys the rule of its mode.
-use Prim.Native.Nat.{ℕ, _<_}
-use mathlib.Core.Path.{_≡_}
+use Prim.Native.Nat.{ℕ, _≤_, _<_, zero-le}
+use mathlib.Core.Path.{_≡_, sym, subst}
 use mathlib.Core.Bool.{Bool, false, _&&_}
-use mathlib.Core.Option.{none}
+use mathlib.Core.Option.{none, some}
 use mathlib.Core.Logic.{_⊎_, inl, inr, _↔_, _≢_}
 use native.Mathlib.Omega.{arith}
 use lib.Dec.{T, eqb, eqb→eq, eqb-refl, ltb→lt, lt→ltb}
 use Rattle.nodes.specs.Row.{anyBelow}
-use Rattle.nodes.proofs.Logic.{is-false, dec, and-none}
+use Rattle.nodes.proofs.Logic.{is-false, from-false, dec, and-none}
 use Rattle.nodes.proofs.Row.{any-in, any-out, parity-none}
-use Rattle.flows.specs.Job.{Job, odd, own}
+use Rattle.flows.specs.Job.{Job, odd, own, planeXZ}
 use Rattle.flows.specs.Conditions.{corrects}
-use Rattle.flows.specs.Search.{laterThan}
+use Rattle.flows.specs.Search.{Progress, laterThan}
+use Rattle.flows.specs.Flows.{findAt}
+use Rattle.flows.specs.Premise.{premiseAt}
 use Rattle.flows.proofs.Conditions.{own-inputs, own-measured, corrects-by, corrects-own, corrects-later, causal-in, causal-inputs, causal-adjacent, needs-member}
 use Rattle.flows.proofs.Table.{needs-one}
+use Rattle.flows.proofs.Flows.{found-smallest}
 use Rattle.records.specs.JobFile.{modeCausal, modePlanes, modePauli}
 use Rattle.records.specs.FlowFile.{Flow}
 use Rattle.verdicts.specs.Verdict as Q
@@ -42,6 +45,14 @@ module _ (j : Job) (f : Flow) (r : Readable j f) where
         where
           empty : (k : ℕ) → k < j .nodes → f .set i k ≡ false
           empty k l = is-false (f .set i k) (λ q. d (any-in (j .nodes) (f .set i) k l q))
+
+  -- each node's measurement is one of the table
+  pub measured-known : (u : ℕ) → u < j .nodes → j .measured u < 7
+  measured-known u l = go (dec (j .output u))
+    where
+      go : T (j .output u) ⊎ (T (j .output u) → ⊥) → j .measured u < 7
+      go (inl t) = rw (r .unmeasured u l t) (omega arith)
+      go (inr o) = r .measured u (l, o) .1
 
   not-output : (u : ℕ) → u < j .nodes → j .measured u ≢ 0 → T (j .output u) → ⊥
   not-output u l d o = d (r .unmeasured u l o)
@@ -73,8 +84,8 @@ module _ (j : Job) (f : Flow) (r : Readable j f) where
     not-causal = is-false (eqb mode modeCausal) (λ t. apart searched (eqb→eq mode modeCausal t))
       where
         apart : (mode ≡ modePlanes) ⊎ (mode ≡ modePauli) → mode ≡ modeCausal → ⊥
-        apart (inl p) e = omega arith
-        apart (inr p) e = omega arith
+        apart (inl p) e = omega (arith, p, e)
+        apart (inr p) e = omega (arith, p, e)
 
     planes-or : mode ≢ modePauli → mode ≡ modePlanes
     planes-or d = go searched
@@ -110,6 +121,23 @@ module _ (j : Job) (f : Flow) (r : Readable j f) where
     -- a flow is accepted exactly where it obeys the rule
     pub verify-rule : Q.verify j f mode ≡ none ↔ FlowRule mode j f
     verify-rule = (accepted-rule, rule-accepted)
+
+    -- ---- under the premise the search finds a flow wherever one obeys the rule, and no layer of that one is smaller
+    pub rule-smallest : (mode ≡ modePlanes → (u : ℕ) → Measured j u → j .measured u ≤ planeXZ) → ((u : ℕ) → j .edge u u ≡ false) → T (premiseAt j pauli)
+        → FlowRule mode j f → (s : Progress) × (findAt j pauli ≡ some s) × ((u : ℕ) → u < j .nodes → s .layer u ≤ f .layer u)
+    rule-smallest planes loopless premise p =
+        found-smallest j pauli measured-known low loopless premise (f .layer) (f .set) (p .layers .outputs)
+        (λ e u l o. p .layers .others (is-planes e) u (l, o)) (λ u l o. rule-corrects p u (l, o))
+      where
+        is-planes : pauli ≡ false → mode ≡ modePlanes
+        is-planes e = planes-or (λ q. from-false pauli e (subst (λ (m : ℕ). T (eqb m modePauli)) (sym q) tt))
+
+        low : pauli ≡ false → (u : ℕ) → u < j .nodes → j .measured u ≤ planeXZ
+        low e u l = go (dec (j .output u))
+          where
+            go : T (j .output u) ⊎ (T (j .output u) → ⊥) → j .measured u ≤ planeXZ
+            go (inl t) = rw (r .unmeasured u l t) zero-le
+            go (inr o) = planes (is-planes e) u (l, o)
 
   -- ---- mode 1, where each entry has one member
   module _ (single : (u : ℕ) → T (f .entry u) → (k : ℕ) × (k < j .nodes) × ((v : ℕ) → f .set u v ≡ eqb v k)) where

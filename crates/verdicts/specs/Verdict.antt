@@ -7,6 +7,7 @@ use Rattle.nodes.specs.Bit.{_⊕_}
 use Rattle.nodes.specs.Row.{anyBelow}
 use Rattle.flows.specs.Job.{Job, odd, own}
 use Rattle.flows.specs.Conditions.{memberExcused, oddExcused, yAsked, inputHolds}
+use Rattle.flows.specs.Search.{laterThan}
 use Rattle.answers.specs.Answer.{Refusal}
 use Rattle.records.specs.JobFile.{modeCausal, modePauli}
 use Rattle.records.specs.FlowFile.{Flow}
@@ -65,7 +66,7 @@ module _ (j : Job) (f : Flow) where
 
   -- 'later': a layer smaller than i's
   abbrev pub later : ℕ → ℕ → Bool
-  later i v = ltb (f .layer v) (f .layer i)
+  later = laterThan (f .layer)
 
   -- is k, where it is in s and not i itself, later or excused (18)
   abbrev pub laterAsk : (ℕ → Bool) → (ℕ → Bool) → ℕ → ℕ → Option Refusal

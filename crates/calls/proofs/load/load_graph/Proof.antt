@@ -7,15 +7,15 @@ use lib.ListN.{length, getD, drop}
 use Rattle.nodes.specs.NodeSet.{capacity}
 use Rattle.nodes.specs.SetTable.{setAt}
 use Rattle.nodes.proofs.Logic.{or-none}
-use Rattle.records.specs.JobFile.{joined}
+use Rattle.records.specs.JobFile.{hasEdge}
 use Rattle.records.proofs.Records.{below-at}
-use Rattle.calls.proofs.LoadingEdges.{cleared, joined-end, joined-more}
+use Rattle.calls.proofs.LoadingEdges.{cleared, hasEdge-end, hasEdge-more}
 use borrow.Author.Needs.{needs}
 use Rattle.calls.proofs.load.load_graph.Statement.{statement}
 use Rattle.calls.proofs.load.load_graph.Tie as tie
 
 abbrev Inv-loop : tie.InvT-loop
-Inv-loop edges graph₀ i₀ graph i = (i ≤ length edges) × (length graph ≡ length graph₀) × ((u v : ℕ) → joined edges u v ≡ setAt graph u v || joined (drop i edges) u v)
+Inv-loop edges graph₀ i₀ graph i = (i ≤ length edges) × (length graph ≡ length graph₀) × ((u v : ℕ) → hasEdge edges u v ≡ setAt graph u v || hasEdge (drop i edges) u v)
 
 abbrev μ-loop : tie.MeasureT-loop
 μ-loop edges graph₀ i₀ graph i = length edges - i
@@ -27,7 +27,7 @@ loop-holds : tie.Need-loop-holds Inv-loop μ-loop
 loop-holds c =
     let t = c .before .before in
     let a = c .before .before .before .before .before .before .args in
-    (search needs, refl, λ u v. ap (λ (b : Bool). b || joined (a .edges .now) u v) (sym (cleared (t .clear-table .last .0) (length (a .graph .now)) (t .clear-table .ensures) u v)))
+    (search needs, refl, λ u v. ap (λ (b : Bool). b || hasEdge (a .edges .now) u v) (sym (cleared (t .clear-table .last .0) (length (a .graph .now)) (t .clear-table .ensures) u v)))
 
 add-loop : tie.Need-add-loop Inv-loop μ-loop
 add-loop c = search needs
@@ -71,8 +71,8 @@ loop-again c =
     let p = c .before .before .before .before .before .before .before .before .before .before .before .before .before .before .before .before .before .before .args .edges .now in (
       search needs,
       search needs,
-      λ u v. l .inv .2 u v ∙ joined-more p (l .i) u v (omega arith) (setAt (l .graph) u v)
-          ∙ ap (λ (t : Bool). t || joined (drop (l .i + 2) p) u v)
+      λ u v. l .inv .2 u v ∙ hasEdge-more p (l .i) u v (omega arith) (setAt (l .graph) u v)
+          ∙ ap (λ (t : Bool). t || hasEdge (drop (l .i + 2) p) u v)
           (sym (c .before .before .join2 .ensures u v ∙ ap (λ (t : Bool). t || (eqb u (getD p (l .i + 1) 0) && eqb v (getD p (l .i) 0))) (c .before .before .before .before .before .before .join .ensures u v))),
     )
 
@@ -83,7 +83,7 @@ returns : tie.Need-returns Inv-loop μ-loop
 returns c u v =
     let l = c .before .loop in
     let p = c .before .before .before .before .before .before .before .before .args .edges .now in
-    sym (l .inv .2 u v ∙ ap (λ (t : Bool). setAt (l .graph) u v || t) (joined-end p (l .i) u v (omega arith)) ∙ or-none (setAt (l .graph) u v))
+    sym (l .inv .2 u v ∙ ap (λ (t : Bool). setAt (l .graph) u v || t) (hasEdge-end p (l .i) u v (omega arith)) ∙ or-none (setAt (l .graph) u v))
 
 pub load-graph-spec : {M : Type 1} → statement M
 load-graph-spec =
