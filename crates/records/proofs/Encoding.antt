@@ -156,14 +156,22 @@ flow-valid-out n g v =
 flow-valid-in : (n : ℕ) (g : FlowFile) → ValidFlow n g → flow n .valid (flowValue g) ≡ true
 flow-valid-in n g v = rw (layers-in n (g .layers) (v .count), v .below, v .rise)
 
+-- a valid flow has as many layers as nodes
+flow-bytes : (n : ℕ) (g : FlowFile) → ValidFlow n g → flowFileBytes g ++ g .after ≡ flow n .encode (flowValue g) ++ g .after
+flow-bytes n g v = ap (λ (k : ℕ). flow k .encode (flowValue g) ++ g .after) (v .count)
+
 pub flow-exact : (n : ℕ) (s : List ℕ) (g : FlowFile) → n ≤ mostNodes → Bytes s → (readFlow n s ≡ gives g ↔ (s ≡ flowFileBytes g ++ g .after) × ValidFlow n g)
 flow-exact n s g k h =
-    let (there, back) = exact-iff (flow n) (flow-format n (omega arith)) s (flowValue g) (g .after) h in
-    (λ e. let (q, v, w) = there (flow-decoded n s g e) in (q, flow-valid-out n g v), λ x. flow-reads n s g (back (x .0, flow-valid-in n g (x .1), refl)))
+    let (there, back) = exact-iff (flow n) (flow-format n (omega arith)) s (flowValue g) (g .after) h in (
+      (λ e. let (q, v, w) = there (flow-decoded n s g e) in let x = flow-valid-out n g v in (q ∙ sym (flow-bytes n g x), x)),
+      λ x. flow-reads n s g (back (x .0 ∙ flow-bytes n g (x .1), flow-valid-in n g (x .1), refl)),
+    )
 
 pub flow-asked : (n : ℕ) (s : List ℕ) (g : FlowFile) → readFlow n s ≡ gives g → ValidFlow n g
 flow-asked n s g e = flow-valid-out n g (flow-sound n .valid s (flowValue g) (g .after) (flow-decoded n s g e))
 
 -- read back, also where its layers are no bytes
 pub flow-decodes : (n : ℕ) (g : FlowFile) → n ≤ mostNodes → ValidFlow n g → readFlow n (flowFileBytes g ++ g .after) ≡ gives g
-flow-decodes n g h v = flow-reads n (flowFileBytes g ++ g .after) g (flow-format n (omega arith) .decodes (flowValue g) (g .after) (flow-valid-in n g v) refl)
+flow-decodes n g h v =
+    ap (readFlow n) (flow-bytes n g v)
+    ∙ flow-reads n (flow n .encode (flowValue g) ++ g .after) g (flow-format n (omega arith) .decodes (flowValue g) (g .after) (flow-valid-in n g v) refl)
