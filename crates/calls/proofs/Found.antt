@@ -14,7 +14,7 @@ use Rattle.nodes.specs.Bit.{bit, digits}
 use Rattle.nodes.specs.Row.{members}
 use Rattle.nodes.specs.NodeSet.{wordBits, highest, capacity}
 use Rattle.nodes.specs.SetTable.{setWords, setAt, tableWords}
-use Rattle.nodes.proofs.Logic.{is-false, lt-or-ge}
+use Rattle.nodes.proofs.Logic.{is-false, lt-or-ge, and-out}
 use Rattle.nodes.proofs.Row.{ltb-yes, ltb-no}
 use Rattle.nodes.proofs.Members.{members-ext, members-past}
 use Rattle.nodes.proofs.SetTable.{set-in, set-past}
@@ -30,7 +30,6 @@ use Rattle.records.specs.FlowFile.{SetEntry}
 use Rattle.records.specs.Encoding.{flowFileBytes, entriesFor}
 use Rattle.records.specs.Writing.{flowRecords, flowBytes}
 use Rattle.records.specs.Writing.{layerBytes}
-use Rattle.records.proofs.Records.{and-out}
 use Rattle.records.proofs.Writing.{list-all, layers-same, members-under}
 
 module _ (n : ℕ) (few : n ≤ capacity) (p : Progress) where

@@ -11,6 +11,7 @@ use lib.ListN.{length, getD}
 use Rattle.nodes.specs.NodeSet.{capacity}
 use Rattle.flows.specs.Job.{Job}
 use Rattle.answers.specs.Answer.{Refusal, refusal, gives, refuses}
+use Rattle.nodes.proofs.Logic.{and-out}
 use Rattle.records.specs.Records.{written, kindAccepted}
 use Rattle.nodes.specs.Lists.{has, all}
 use Rattle.records.specs.JobFile.{JobFile, mostNodes, modeCausal, workingOf, hasEdge, readJob, jobOf}
@@ -30,7 +31,7 @@ use Rattle.records.specs.declared.common.FlowRead.{FlowRead}
 use Rattle.records.specs.declared.common.FlowRead.the-variants.{Flow as AFlow, Refused as NoFlow}
 use Rattle.calls.specs.declared.validate.Asked.{Asked}
 use Rattle.calls.specs.declared.validate.Asked.the-variants.{Passed, Refused as Stopped}
-use Rattle.records.proofs.Records.{and-out, all-more}
+use Rattle.records.proofs.Records.{all-more}
 
 -- ---- what was read, by the code's answer
 module _ (s : List ℕ) (r : JobRead) (e : jobOfRead s r ≡ readJob s) where

@@ -6,12 +6,11 @@ use mathlib.Core.List.{List}
 use borrow.Author.Tests.{ltb-true}
 use lib.Dec.{eqb, ltb}
 use lib.ListN.{length, getD, drop}
-use Rattle.nodes.proofs.Logic.{or-none, eqb-comm}
+use Rattle.nodes.proofs.Logic.{or-none, eqb-comm, and-out}
 use Rattle.nodes.specs.Lists.{has, all}
 use Rattle.nodes.specs.Options.{isSome}
 use Rattle.records.specs.FlowFile.{SetEntry, entriesOf, listed, allEntries, entryBelow, setIn, entryIn}
 use Rattle.records.specs.Views.{between}
-use Rattle.records.proofs.Records.{and-out}
 use Rattle.records.proofs.ReadingEntries.{entries-end, listed-next}
 
 -- ---- entries

@@ -10,7 +10,7 @@ use native.Mathlib.Nat.{not-suc-le-zero, le-of-suc-le-suc}
 use lib.Dec.{T, eqb, leb, eqb→eq, eqb-refl, leb→le}
 use lib.ListN.{length, getD}
 use Rattle.nodes.specs.Lists.{has}
-use Rattle.nodes.proofs.Logic.{is-true, is-false, from-true, or-l, or-r, or-all, eqb-comm}
+use Rattle.nodes.proofs.Logic.{is-true, is-false, from-true, or-l, or-r, or-all, eqb-comm, and-out}
 use Rattle.flows.specs.Job.{planeXZ}
 use Rattle.answers.specs.Answer.{Refusal, Answer, gives, refuses, _>>_}
 use Rattle.records.specs.JobFile.{JobFile, rises, readJob, jobOf, modeCausal, modePlanes, modePauli}
@@ -20,7 +20,6 @@ use Rattle.verdicts.specs.Verdict.{verify}
 use Rattle.demands.specs.Calls.{modeOf, verdict, verifyAsks}
 use Rattle.verdicts.specs.Published.{Measured, NoInputs, PublishedFlow, byLayer, LayerRule, Domain, CausalAccepted, AcceptedFlow}
 use Rattle.answers.proofs.Answer.{never, bind-out}
-use Rattle.records.proofs.Records.{and-out}
 use Rattle.records.proofs.Encoding.{job-asked, job-append, flow-asked}
 use Rattle.records.proofs.JobFile.{measured-range, output-zero, measured-most, measured-plane}
 use Rattle.records.proofs.FlowFile.{set-entry, place-entry, set-at, nodes-below, members-below, nothing-left, one-member-asked, one-member-other, one-member}

@@ -9,11 +9,11 @@ use native.Mathlib.Omega.{arith}
 use lib.Dec.{eqb, leb, ltb}
 use lib.ListN.{length, getD, length-append, List·getD-append}
 use Rattle.answers.specs.Answer.{Refusal, Answer, gives, refuses, refusal, asks, _>>=_, _>>_}
-use Rattle.records.specs.Records.{headBytes, lengthField, part, checked, written, kindOpening, kindEdges, kindInputs, kindOutputs, kindMeasurements, kindLayers, kindSets}
+use Rattle.records.specs.Records.{carries, headBytes, lengthField, part, checked, written, kindOpening, kindEdges, kindInputs, kindOutputs, kindMeasurements, kindLayers, kindSets}
 use Rattle.nodes.specs.Lists.{has, all}
 use Rattle.records.specs.JobFile.{JobFile, wholePairs, nodesBelow, rises, pairsRise, allAllowed, openingAllowed, openingAsks, edgesAsks, nodesAsks, measurementsAsks, mostNodes, opening, job, readJob, jobOf, modeCausal, modePlanes, modePauli}
 use Rattle.records.specs.Encoding.{Bytes, jobBytes}
-use Rattle.records.specs.Format.{carries, Format, PayloadFormat, plain, recordOf, then}
+use Rattle.records.specs.Format.{Format, PayloadFormat, plain, recordOf, then}
 use Rattle.nodes.specs.Options.{isSome}
 use Rattle.records.specs.FlowFile.{FlowFile, Flow, entriesOf, listed, allEntries, entryBelow, entriesRise, entryBytes, layersAsks, setsAsks, sets, flow, readFlow, flowOf}
 use Rattle.records.proofs.Records.{below-at, all-left, all-right}
