@@ -1,5 +1,5 @@
 /* Holds the header against the library: each refusal by its name, the sizes on both sides, null pointers, the stack that a call needs. With
-   an argument it prints the header's words instead, each as the programs print them with a = 3 and b = 7. */
+   an argument it prints the header's words of every number instead, each as the programs print them with a = 3 and b = 7. */
 #define _DEFAULT_SOURCE
 #include <pthread.h>
 #include <stdio.h>
@@ -167,7 +167,7 @@ static void stack_of(const char *name, void *(*call)(void *), char *first, char 
 
 static void words(void)
 {
-    for (unsigned number = 1; number <= 21; number++) {
+    for (unsigned number = 1; number <= 255; number++) {
         printf("refused %u: ", number);
         for (const char *c = bolz_words(number); *c; c++)
             if (*c == 'A' || *c == 'B')
