@@ -1,5 +1,5 @@
 -- The formats of jobs and flows are exact: what is written reads back, and of bytes nothing else is read.
-use Prim.Native.Nat.{ℕ, _+_, _*_, _≤_, zero-le}
+use Prim.Native.Nat.{ℕ, _+_, _*_, _≤_, _<_, zero-le}
 use mathlib.Core.Path.{_≡_, refl, sym, ap, _∙_}
 use mathlib.Core.Bool.{Bool, true}
 use mathlib.Core.Logic.{_↔_}
@@ -14,10 +14,10 @@ use Rattle.answers.proofs.Answer.{give-inj, bind-out}
 use Rattle.records.specs.Records.{allYes, kindOpening, kindEdges, kindInputs, kindOutputs, kindMeasurements, kindLayers, kindSets}
 use Rattle.records.specs.Format.{Front, front, plain, recordOf}
 use Rattle.records.specs.JobFile.{JobFile, mostNodes, openingAllowed, edgesAsks, nodesAsks, measurementsAsks, opening, JobValue, job, jobFile, jobValue, readJob}
-use Rattle.records.specs.FlowFile.{SetEntry, FlowFile, entriesOf, listed, allEntries, entryBelow, entriesRise, entryBytes, layersAsks, sets, flow, flowFile, flowValue, readFlow}
+use Rattle.records.specs.FlowFile.{SetEntry, FlowFile, entriesOf, listed, allEntries, entryBelow, entriesRise, entryBytes, eachAsks, sets, flow, flowFile, flowValue, readFlow}
 use Rattle.records.specs.Encoding.{Bytes, jobBytes, ValidJob, flowFileBytes, ValidFlow}
 use Rattle.records.proofs.JobFile.{allowed-out, allowed-in, opening-out, opening-in, edges-out, edges-in, nodes-out, nodes-in, measurements-out, measurements-in, rises-length, pairs-length}
-use Rattle.records.proofs.FlowFile.{entries-back, entries-encode, layers-out, layers-in, sets-out, sets-in, entries-few, entry-bytes-length}
+use Rattle.records.proofs.FlowFile.{entries-back, entries-encode, length-out, length-in, sets-out, sets-in, entries-few, entry-bytes-length}
 use Rattle.records.proofs.Format.{Sound, Exact, PayloadExact, Appends, exact-iff, record-sound, record-exact, record-appends, record-closed, plain-sound, plain-exact, then-sound, then-exact, then-appends}
 
 -- ---- the payloads
@@ -37,6 +37,10 @@ opening-exact = record {
 sets-sound : (n : ℕ) → Sound (recordOf kindSets (sets n))
 sets-sound n = record-sound kindSets (sets n) (λ l e. let (f, a, b) = sets-out n l e in rw (a, b))
 
+-- so many bytes for each node
+each-exact : (kind width n : ℕ) → width * n < 4294967296 → Exact (recordOf kind (plain (eachAsks width n)))
+each-exact kind width n h = plain-exact kind (eachAsks width n) (λ p e. rw (length-out width n p e) h)
+
 -- nodes have numbers of one byte
 module _ (n : ℕ) (small : n ≤ 256) where
   edges-exact : Exact (recordOf kindEdges (plain (edgesAsks n)))
@@ -47,9 +51,6 @@ module _ (n : ℕ) (small : n ≤ 256) where
 
   measurements-exact : (mode : ℕ) (output : ℕ → Bool) → Exact (recordOf kindMeasurements (plain (measurementsAsks n mode output)))
   measurements-exact mode output = plain-exact kindMeasurements (measurementsAsks n mode output) (λ p e. let q = measurements-out n mode output p e .0 in omega arith)
-
-  layers-exact : Exact (recordOf kindLayers (plain (layersAsks n)))
-  layers-exact = plain-exact kindLayers (layersAsks n) (λ p e. let q = layers-out n p e in omega arith)
 
   sets-exact : Exact (recordOf kindSets (sets n))
   sets-exact = record-exact kindSets (sets n) (record {
@@ -132,10 +133,10 @@ job-append s g f e = job-reads (s ++ g) (behind f g) (job-appends .appends s (jo
 
 -- ---- a flow
 flow-format : (n : ℕ) → n ≤ 256 → Exact (flow n)
-flow-format n small = then-exact _ _ (layers-exact n small) (λ l v. sets-exact n small)
+flow-format n small = then-exact _ _ (each-exact kindLayers 1 n (omega arith)) (λ l v. sets-exact n small)
 
 flow-sound : (n : ℕ) → Sound (flow n)
-flow-sound n = then-sound _ _ (plain-sound kindLayers (layersAsks n)) (λ l v. sets-sound n)
+flow-sound n = then-sound _ _ (plain-sound kindLayers (eachAsks 1 n)) (λ l v. sets-sound n)
 
 flow-decoded : (n : ℕ) (s : List ℕ) (g : FlowFile) → readFlow n s ≡ gives g → flow n .decode s ≡ gives (front (flowValue g) (g .after))
 unfolding readFlow
@@ -149,12 +150,12 @@ flow-reads n s g e = ap (λ (m : Answer (Front (List ℕ × List SetEntry))). m 
 
 flow-valid-out : (n : ℕ) (g : FlowFile) → flow n .valid (flowValue g) ≡ true → ValidFlow n g
 flow-valid-out n g v =
-    let (l, w) = and-out (allYes (layersAsks n (g .layers))) _ v in
+    let (l, w) = and-out (allYes (eachAsks 1 n (g .layers))) _ v in
     let (a, b) = and-out (allEntries (entryBelow n) (g .sets)) (entriesRise 0 (g .sets)) w in
-    record { count = layers-out n (g .layers) l; below = a; rise = b }
+    record { count = omega (arith, length-out 1 n (g .layers) l); below = a; rise = b }
 
 flow-valid-in : (n : ℕ) (g : FlowFile) → ValidFlow n g → flow n .valid (flowValue g) ≡ true
-flow-valid-in n g v = rw (layers-in n (g .layers) (v .count), v .below, v .rise)
+flow-valid-in n g v = rw (length-in 1 n (g .layers) (omega (arith, v .count)), v .below, v .rise)
 
 -- a valid flow has as many layers as nodes
 flow-bytes : (n : ℕ) (g : FlowFile) → ValidFlow n g → flowFileBytes g ++ g .after ≡ flow n .encode (flowValue g) ++ g .after

@@ -11,7 +11,7 @@ use Rattle.answers.specs.Refusals.{refusalOf}
 use Rattle.records.specs.Records.{carries, Part, allYes, checked, headBytes}
 use Rattle.records.specs.Format.{Front, front, plain, recordOf, optional}
 use Rattle.records.specs.JobFile.{JobFile, mostNodes, openingAsks, edgesAsks, nodesAsks, measurementsAsks}
-use Rattle.records.specs.FlowFile.{FlowFile, entriesOf, listed, layersAsks, setsAsks}
+use Rattle.records.specs.FlowFile.{FlowFile, entriesOf, listed, eachAsks, setsAsks}
 use Rattle.records.specs.declared.common.Place.{Place}
 use Rattle.records.specs.declared.common.JobPlaces.{JobPlaces}
 use Rattle.records.specs.declared.common.JobRead.{JobRead}
@@ -22,7 +22,7 @@ use Rattle.records.specs.declared.common.FlowRead.the-variants.{Flow, Re
 use Rattle.records.specs.declared.questions.Checked.{Checked}
 use Rattle.records.specs.declared.questions.Checked.the-variants.{Passed, Refused as NotPassed}
 use Rattle.records.specs.declared.questions.Questions.{Questions}
-use Rattle.records.specs.declared.questions.Questions.the-variants.{Opening, Edges, Nodes, Measurements, Layers, Sets}
+use Rattle.records.specs.declared.questions.Questions.the-variants.{Opening, Edges, Nodes, Measurements, Each, Sets}
 use Rattle.records.specs.declared.reader.RecordRead.{RecordRead}
 use Rattle.records.specs.declared.reader.RecordRead.the-variants.{Payload, Refused as NoRecord}
 use Rattle.records.specs.declared.reader.Branch.{Branch}
@@ -56,7 +56,7 @@ asksOf s Opening = openingAsks
 asksOf s (Edges n) = edgesAsks n
 asksOf s (Nodes n) = nodesAsks n
 asksOf s (Measurements n mode outputs) = measurementsAsks n mode (has (bytesAt outputs s))
-asksOf s (Layers n) = layersAsks n
+asksOf s (Each width n) = eachAsks width n
 asksOf s (Sets n) = setsAsks n
 
 -- what has been asked before: the measurements come after the outputs
@@ -65,7 +65,7 @@ Granted s Opening = Unit
 Granted s (Edges n) = Unit
 Granted s (Nodes n) = Unit
 Granted s (Measurements n mode outputs) = (n ≤ mostNodes) × (allYes (nodesAsks n (bytesAt outputs s)) ≡ true)
-Granted s (Layers n) = Unit
+Granted s (Each width n) = Unit
 Granted s (Sets n) = Unit
 
 -- ---- one record

@@ -268,7 +268,7 @@ pub fn read_flow(file: &[u8], at: usize, n: usize) -> FlowRead
     ensures { λ r. ⌜ flowOfRead (now (file .entry)) r ≡ readFlow n (drop at (now (file .entry))) ⌝ }
     ensures { λ r. ⌜ FlowReadInFile (now (file .entry)) at r ⌝ }
 {
-    let layers = next(file, start(at), KIND_LAYERS, Questions::Layers(n));
+    let layers = next(file, start(at), KIND_LAYERS, Questions::Each(1, n));
     let sets = next(file, layers, KIND_SETS, Questions::Sets(n));
     flow_from(layers, sets)
 }
