@@ -14,7 +14,7 @@ use Rattle.answers.proofs.Answer.{give-inj, bind-out}
 use Rattle.records.specs.Records.{allYes, kindOpening, kindEdges, kindInputs, kindOutputs, kindMeasurements, kindLayers, kindSets}
 use Rattle.records.specs.Format.{Front, front, plain, recordOf}
 use Rattle.records.specs.JobFile.{JobFile, mostNodes, openingAllowed, edgesAsks, nodesAsks, measurementsAsks, opening, JobValue, job, jobFile, jobValue, readJob}
-use Rattle.records.specs.FlowFile.{SetEntry, FlowFile, entriesOf, listed, allEntries, entryBelow, entriesRise, entryBytes, eachAsks, sets, flow, flowFile, flowValue, readFlow}
+use Rattle.records.specs.FlowFile.{FlowFile, entriesOf, listed, allEntries, entryBelow, entriesRise, entryBytes, eachAsks, sets, FlowValue, flow, flowFile, flowValue, readFlow}
 use Rattle.records.specs.Encoding.{Bytes, jobBytes, ValidJob, flowFileBytes, ValidFlow}
 use Rattle.records.proofs.JobFile.{allowed-out, allowed-in, opening-out, opening-in, edges-out, edges-in, nodes-out, nodes-in, measurements-out, measurements-in, rises-length, pairs-length}
 use Rattle.records.proofs.FlowFile.{entries-back, entries-encode, length-out, length-in, sets-out, sets-in, entries-few, entry-bytes-length}
@@ -146,7 +146,7 @@ flow-decoded n s g e =
 
 flow-reads : (n : ℕ) (s : List ℕ) (g : FlowFile) → flow n .decode s ≡ gives (front (flowValue g) (g .after)) → readFlow n s ≡ gives g
 unfolding readFlow
-flow-reads n s g e = ap (λ (m : Answer (Front (List ℕ × List SetEntry))). m >>= λ p. gives (flowFile p)) e
+flow-reads n s g e = ap (λ (m : Answer (Front FlowValue)). m >>= λ p. gives (flowFile p)) e
 
 flow-valid-out : (n : ℕ) (g : FlowFile) → flow n .valid (flowValue g) ≡ true → ValidFlow n g
 flow-valid-out n g v =

@@ -81,13 +81,16 @@ sets n = record {
   value = λ p. listed (entriesOf p);
 }
 
-abbrev pub flow : ℕ → Format (List ℕ × List SetEntry)
+abbrev pub FlowValue : Type 0
+FlowValue = List ℕ × List SetEntry
+
+abbrev pub flow : ℕ → Format FlowValue
 flow n = then (recordOf kindLayers (plain (eachAsks 1 n))) (λ l. recordOf kindSets (sets n))
 
-abbrev pub flowFile : Front (List ℕ × List SetEntry) → FlowFile
+abbrev pub flowFile : Front FlowValue → FlowFile
 flowFile p = record { layers = p .value .0; sets = p .value .1; after = p .rest }
 
-abbrev pub flowValue : FlowFile → List ℕ × List SetEntry
+abbrev pub flowValue : FlowFile → FlowValue
 flowValue g = (g .layers, g .sets)
 
 unfoldable pub readFlow : ℕ → List ℕ → Answer FlowFile

@@ -112,6 +112,14 @@ optionalOfRead s b = restOf s (b .read) >>= λ t. gives (front (someIf (b .taken
 abbrev pub optionalBehind : List ℕ → RecordRead → ℕ → (List ℕ → Answer Bool) → Answer (Front (Option (List ℕ)))
 optionalBehind s read kind questions = restOf s read >>= optional kind (recordOf kind (plain questions)) .decode
 
+-- its place: that of a record, or an empty one where it would start
+abbrev pub EmptyAt : (at : ℕ) → RecordRead → Type 0
+EmptyAt at (Payload p) = p ≡ record { start = at; end = at }
+EmptyAt at (NoRecord q) = Unit
+
+abbrev pub OptionalAt : List ℕ → (at : ℕ) → Branch → Type 0
+OptionalAt s at b = cond (b .taken) (RecordAt s at (b .read)) (EmptyAt at (b .read))
+
 -- ---- a record of one of two kinds: whether it is the second, and its payload
 abbrev pub choiceOfRead : List ℕ → Branch → Answer (Front (Bool × List ℕ))
 choiceOfRead s b = restOf s (b .read) >>= λ t. gives (front (b .taken, payloadOf s (b .read)) t)
