@@ -6,19 +6,21 @@ use mathlib.Core.Logic.{_↔_}
 use mathlib.Core.List.{List, [], _∷_, _++_}
 use native.Mathlib.Omega.{arith}
 use native.Mathlib.Nat.{mul-le-mul}
+use lib.Dec.{ltb}
 use lib.ListN.{length, getD}
 use Rattle.nodes.proofs.Logic.{and-out}
-use Rattle.nodes.specs.Lists.{has}
+use Rattle.nodes.specs.Lists.{has, all}
 use Rattle.answers.specs.Answer.{Answer, gives, _>>=_}
 use Rattle.answers.proofs.Answer.{give-inj, bind-out}
-use Rattle.records.specs.Records.{allYes, kindOpening, kindEdges, kindInputs, kindOutputs, kindMeasurements, kindLayers, kindSets}
+use Rattle.records.specs.Records.{allYes, written, kindOpening, kindEdges, kindInputs, kindOutputs, kindMeasurements, kindLayers, kindSets}
 use Rattle.records.specs.Format.{Front, front, plain, recordOf}
 use Rattle.records.specs.JobFile.{JobFile, mostNodes, openingAllowed, edgesAsks, nodesAsks, measurementsAsks, opening, JobValue, job, jobFile, jobValue, readJob}
 use Rattle.records.specs.FlowFile.{FlowFile, entriesOf, listed, allEntries, entryBelow, entriesRise, entryBytes, eachAsks, sets, FlowValue, flow, flowFile, flowValue, readFlow}
 use Rattle.records.specs.Encoding.{Bytes, jobBytes, ValidJob, flowFileBytes, ValidFlow}
+use Rattle.records.proofs.Records.{all-left, all-right}
 use Rattle.records.proofs.JobFile.{allowed-out, allowed-in, opening-out, opening-in, edges-out, edges-in, nodes-out, nodes-in, measurements-out, measurements-in, rises-length, pairs-length}
 use Rattle.records.proofs.FlowFile.{entries-back, entries-encode, length-out, length-in, sets-out, sets-in, entries-few, entry-bytes-length}
-use Rattle.records.proofs.Format.{Sound, Exact, PayloadExact, Appends, exact-iff, record-sound, record-exact, record-appends, record-closed, plain-sound, plain-exact, then-sound, then-exact, then-appends}
+use Rattle.records.proofs.Format.{Sound, Exact, PayloadExact, Appends, exact-iff, payload-bytes, record-sound, record-exact, record-appends, record-closed, plain-sound, plain-exact, then-sound, then-exact, then-appends}
 
 -- ---- the payloads
 two-bytes : (l : List ℕ) → length l ≡ 2 → getD l 0 0 ∷ getD l 1 0 ∷ [] ≡ l
@@ -120,6 +122,10 @@ job-exact s f h =
     let (there, back) = exact-iff job job-format s (jobValue f) (f .after) h in
     (λ e. let (q, v, w) = there (job-decoded s f e) in (q, valid-out f v), λ x. job-reads s f (back (x .0, valid-in f (x .1), refl)))
 
+-- what is behind a job of bytes is bytes
+pub job-after : (s : List ℕ) (f : JobFile) → Bytes s → readJob s ≡ gives f → Bytes (f .after)
+job-after s f h e = all-right (λ b. ltb b 256) (jobBytes f) (f .after) (sym (ap (all (λ b. ltb b 256)) (job-exact s f h .0 e .0)) ∙ h)
+
 -- what reading has asked
 pub job-asked : (s : List ℕ) (f : JobFile) → readJob s ≡ gives f → ValidJob f
 job-asked s f e = valid-out f (job-format .sound .valid s (jobValue f) (f .after) (job-decoded s f e))
@@ -167,6 +173,12 @@ flow-exact n s g k h =
       (λ e. let (q, v, w) = there (flow-decoded n s g e) in let x = flow-valid-out n g v in (q ∙ sym (flow-bytes n g x), x)),
       λ x. flow-reads n s g (back (x .0 ∙ flow-bytes n g (x .1), flow-valid-in n g (x .1), refl)),
     )
+
+-- the layers that were read of bytes are bytes
+pub flow-layers : (n : ℕ) (s : List ℕ) (g : FlowFile) → n ≤ mostNodes → Bytes s → readFlow n s ≡ gives g → Bytes (g .layers)
+flow-layers n s g k h e =
+    payload-bytes kindLayers (g .layers) (written kindSets (entryBytes (g .sets)))
+    (all-left (λ b. ltb b 256) (flowFileBytes g) (g .after) (sym (ap (all (λ b. ltb b 256)) (flow-exact n s g k h .0 e .0)) ∙ h))
 
 pub flow-asked : (n : ℕ) (s : List ℕ) (g : FlowFile) → readFlow n s ≡ gives g → ValidFlow n g
 flow-asked n s g e = flow-valid-out n g (flow-sound n .valid s (flowValue g) (g .after) (flow-decoded n s g e))

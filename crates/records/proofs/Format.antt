@@ -74,7 +74,7 @@ pub record PayloadExact {A : Type 0} (p : PayloadFormat A) : Type 0 where
   pub into : (a : A) → p .valid a ≡ true → (allYes (p .questions (p .encode a)) ≡ true) × (p .value (p .encode a) ≡ a) × (length (p .encode a) < 4294967296)
   pub out : (l : List ℕ) → Bytes l → allYes (p .questions l) ≡ true → p .encode (p .value l) ≡ l
 
-payload-bytes : (kind : ℕ) (p t : List ℕ) → Bytes (written kind p ++ t) → Bytes p
+pub payload-bytes : (kind : ℕ) (p t : List ℕ) → Bytes (written kind p ++ t) → Bytes p
 unfolding written
 payload-bytes kind p t h = all-right (λ b. ltb b 256) (headOf (length p) kind) p (all-left (λ b. ltb b 256) (written kind p) t h)
 
