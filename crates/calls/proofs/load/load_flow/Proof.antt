@@ -37,7 +37,7 @@ same-length-2 c = search needs
 
 returns : tie.Need-returns
 returns c = let s = c .before .before .before .before .before .before .before .before .before .before .before .before .before .before .before in
-    flow-loaded (flowAt (s .args .file .now) (s .args .flow)) _ _ _
+    flow-loaded (flowAt (s .args .file .now) (s .args .flow)) (c .before .before .before .before .before .before .before .before .load-layers .last .1 .0) (c .before .before .load-sets .last .1 .0) (c .before .before .load-sets .result)
     (λ u. c .before .before .before .before .before .before .before .before .load-layers .ensures u ∙ ap (λ (l : List ℕ). getD l u 0) (c .before .before .before .before .before .before .before .before .before .before .payload .ensures))
     (λ u. c .before .before .load-sets .ensures .1 u ∙ ap (λ (l : List ℕ). entryIn (listed (entriesOf l)) u) (c .before .before .before .before .payload2 .ensures))
     (λ u v. c .before .before .load-sets .ensures .0 u v ∙ ap (λ (l : List ℕ). setIn (listed (entriesOf l)) u v) (c .before .before .before .before .payload2 .ensures))

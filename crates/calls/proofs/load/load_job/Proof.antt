@@ -55,7 +55,7 @@ same-length-2 c = search needs
 returns : tie.Need-returns
 returns c = let s = c .before .before .before .before .before .before .before .before .before .before .before .before .before .before .before .before .before .before .before .before .before in
     let f = jobAt (s .args .file .now) (s .args .job) in (
-      job-loaded f (s .pre .0 .0) _ _ _ refl
+      job-loaded f (s .pre .0 .0) (record { n = s .args .job .n; mode = s .args .job .mode; inputs = c .before .before .set-of .result; outputs = c .set-of2 .result }) (c .before .before .before .before .before .before .before .before .before .before .before .before .before .before .load-graph .last .1 .0) (c .before .before .before .before .before .before .before .before .load-bytes .last .1 .0) refl
           (λ u v. c .before .before .before .before .before .before .before .before .before .before .before .before .before .before .load-graph .ensures u v ∙ ap (λ (l : List ℕ). hasEdge l u v) (c .before .before .before .before .before .before .before .before .before .before .before .before .before .before .before .before .payload .ensures))
           (c .before .before .set-of .ensures ∙ ap {B = ℕ → Bool} (λ (l : List ℕ) (u : ℕ). has l u && leb u highest) (c .before .before .before .payload3 .ensures))
           (c .set-of2 .ensures ∙ ap {B = ℕ → Bool} (λ (l : List ℕ) (u : ℕ). has l u && leb u highest) (c .before .payload4 .ensures))
