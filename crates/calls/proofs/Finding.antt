@@ -83,6 +83,10 @@ module _ (f : JobFile) (valid : ValidJob f) where
       by true e = is-true (planesGiven (jobOf f)) (all-in (f .n) (λ u. jobOf f .output u || isPlane (jobOf f .measured u)) (λ u l. node (eqb-true (f .mode) modePlanes (sym e)) u l (jobOf f .output u) refl))
       by false e = refl
 
+  -- and so is each node of the job that was loaded of it
+  pub planes-loaded : (j : Job) (mode : ℕ) → j ≡ jobOf f → mode ≡ modeOf f → (not (eqb mode modePlanes) || planesGiven j) ≡ true
+  planes-loaded j mode e m = rw (e, m) planes-read
+
 -- ---- the search of a job that was loaded, and what is written of it
 module _ (n mode : ℕ) (graph measured : List ℕ) (inputs outputs : NodeSet) where
   abbrev j : Job

@@ -3,6 +3,7 @@ use Prim.Native.Nat.{ℕ, _+_, _≤_, _<_}
 use mathlib.Core.Path.{_≡_, refl, sym, ap, _∙_, fun-ext}
 use mathlib.Core.Bool.{Bool, true, false, cond, _&&_}
 use mathlib.Core.List.{List}
+use mathlib.Core.Option.{Option}
 use mathlib.Core.Logic.{_⊎_, inl, inr}
 use native.Mathlib.Decide.{ℕ-discrete}
 use native.Mathlib.Omega.{arith}
@@ -20,6 +21,10 @@ use Rattle.records.specs.JobFile.{JobFile, hasEdge, workingOf, jobOf}
 use Rattle.records.specs.FlowFile.{FlowFile, Flow, entryIn, setIn, flowOf}
 use Rattle.records.specs.Encoding.{ValidJob}
 use Rattle.records.proofs.JobFile.{has-small}
+use Rattle.answers.specs.Answer.{Refusal}
+use Rattle.verdicts.specs.Verdict.{verify}
+use Rattle.records.specs.Writing.{flowBytes}
+use Rattle.demands.specs.Calls.{search, Outcome, put}
 use Rattle.calls.specs.Loaded.{jobLoaded, flowIn}
 use Rattle.calls.specs.declared.load.Loaded.{Loaded}
 
@@ -44,6 +49,13 @@ flow-loaded g layers sets entries l e s = make (fun-ext l) (fun-ext e) (fun-ext 
     make : {l l′ : ℕ → ℕ} {e e′ : ℕ → Bool} {s s′ : ℕ → ℕ → Bool} → l ≡ l′ → e ≡ e′ → s ≡ s′
         → _≡_ {A = Flow} (record { layer = l; entry = e; set = s }) (record { layer = l′; entry = e′; set = s′ })
     make a b c = rw (a, b, c)
+
+-- so what is said of the loaded ones is said of the file's
+pub verify-joined : (o : Option Refusal) (j j′ : Job) (g g′ : Flow) (m m′ : ℕ) → o ≡ verify j g m → j ≡ j′ → g ≡ g′ → m ≡ m′ → o ≡ verify j′ g′ m′
+verify-joined o j j′ g g′ m m′ e a b c = e ∙ rw (a, b, c)
+
+pub find-joined : (o : Outcome) (work out : List ℕ) (j j′ : Job) (m m′ : ℕ) → o ≡ put work (flowBytes j (search m j)) out → j ≡ j′ → m ≡ m′ → o ≡ put work (flowBytes j′ (search m′ j′)) out
+find-joined o work out j j′ m m′ e a b = e ∙ rw (a, b)
 
 -- ---- numbers of the nodes, one after the other: the first i of them are in a buffer that was 0
 abbrev pub FirstIn : (bytes to : List ℕ) → ℕ → Type 0

@@ -32,6 +32,7 @@ use Rattle.records.specs.declared.common.FlowRead.the-variants.{Flow as AFlow, 
 use Rattle.calls.specs.declared.validate.Asked.{Asked}
 use Rattle.calls.specs.declared.validate.Asked.the-variants.{Passed, Refused as Stopped}
 use Rattle.records.proofs.Records.{all-more}
+use Rattle.records.proofs.FlowFile.{below-out, below-in}
 
 -- ---- what was read, by the code's answer
 module _ (s : List ℕ) (r : JobRead) (e : jobOfRead s r ≡ readJob s) where
@@ -59,10 +60,9 @@ pub entries-fit : (n : ℕ) (es : List SetEntry) → n ≤ mostNodes → allEntr
 unfolding allEntries
 entries-fit n [] h t = refl
 entries-fit n (e ∷ es) h t =
-    let (a, b) = and-out (ltb (e .node) n && all (λ v. ltb v n) (e .set)) (allEntries (entryBelow n) es) t in
-    let (x, y) = and-out (ltb (e .node) n) (all (λ v. ltb v n) (e .set)) a in
-    let g : e .node < n = ltb-true (e .node) n x in
-    rw (lt-ltb (e .node) capacity (omega arith), all-more (λ v. ltb v n) (λ v. ltb v capacity) (e .set) (λ v t. let g : v < n = ltb-true v n t in lt-ltb v capacity (omega arith)) y)
+    let (a, b) = and-out (entryBelow n e) (allEntries (entryBelow n) es) t in
+    let (x, y) = below-out n e a in
+    rw (below-in capacity e (omega arith) (all-more (λ v. ltb v n) (λ v. ltb v capacity) (e .set) (λ v t. let g : v < n = ltb-true v n t in lt-ltb v capacity (omega arith)) y))
     (entries-fit n es h b)
 
 -- bytes that are no entries

@@ -11,6 +11,7 @@ use Rattle.nodes.specs.Lists.{has, all}
 use Rattle.nodes.specs.Options.{isSome}
 use Rattle.records.specs.FlowFile.{SetEntry, entriesOf, listed, allEntries, entryBelow, setIn, entryIn}
 use Rattle.records.specs.Views.{between}
+use Rattle.records.proofs.FlowFile as Entry
 use Rattle.records.proofs.ReadingEntries.{entries-end, listed-next}
 
 -- ---- entries
@@ -47,6 +48,7 @@ module _ (p : List ℕ) (i j : ℕ) (e : j ≡ i + 2 + getD p (i + 1) 0) (g : j 
   unfolding allEntries
   below-out n h =
       let t = sym (ap (allEntries (entryBelow n)) (listed-next p i j e g f)) ∙ h in
-      let (a, b) = and-out (ltb (getD p i 0) n && all (λ v. ltb v n) (between (i + 2) j p)) (allEntries (entryBelow n) (listed (entriesOf (drop j p)))) t in
-      let (x, y) = and-out (ltb (getD p i 0) n) (all (λ v. ltb v n) (between (i + 2) j p)) a in
-      (ltb-true (getD p i 0) n x, y, b)
+      let first : SetEntry = record { node = getD p i 0; set = between (i + 2) j p } in
+      let (a, b) = and-out (entryBelow n first) (allEntries (entryBelow n) (listed (entriesOf (drop j p)))) t in
+      let (x, y) = Entry.below-out n first a in
+      (x, y, b)

@@ -18,7 +18,7 @@ use Rattle.answers.specs.Answer.{gives}
 use Rattle.records.specs.Records.{lengthField, part, checked, written}
 use Rattle.nodes.specs.Lists.{has, listOf, all}
 use Rattle.records.specs.JobFile.{JobFile, modeCausal, modePlanes, modePauli, rises, pairsRise, allows, allAllowed, openingAsks, edgesAsks, nodesAsks, measurementsAsks, readJob, hasEdge, jobOf}
-use Rattle.records.specs.FlowFile.{FlowFile, entriesIn, allEntries, entryBelow, entriesRise, entryBytes, layersAsks, setsAsks, readFlow, setIn, entryIn, flowOf}
+use Rattle.records.specs.FlowFile.{FlowFile, entriesIn, allEntries, entryBelow, entriesRise, entryBytes, eachAsks, setsAsks, readFlow, setIn, entryIn, flowOf}
 use Rattle.verdicts.specs.Verdict.{ask, eachFrom, nodeAsk, causalAsk, verify}
 use Rattle.demands.specs.Calls.{findAsks, verifyAsks}
 use Rattle.records.specs.Encoding.{entriesFor}
@@ -171,7 +171,7 @@ all-hold : AllHold cases × AllHold differences
 unfolding
     bit parity anyBelow allBelow count lowestFrom membersFrom solve entryOf digits listOf matrixFits bothFit wellShaped solveAsks own branches firstSolvable rounds
     lengthField part checked written all has rises pairsRise allows allAllowed openingAsks edgesAsks nodesAsks measurementsAsks readJob hasEdge
-    entriesIn allEntries entryBelow entriesRise entryBytes layersAsks setsAsks readFlow setIn entryIn ask eachFrom nodeAsk causalAsk verify entriesFor findAsks verifyAsks findProgram verifyProgram equal
+    entriesIn allEntries entryBelow entriesRise entryBytes eachAsks setsAsks readFlow setIn entryIn ask eachFrom nodeAsk causalAsk verify entriesFor findAsks verifyAsks findProgram verifyProgram equal
 all-hold = (
   (record { lower = tt }, ((fileF 2, itself (1 ∷ 0 ∷ []), refl, (refl, refl), forbidden 2), record { lower = tt })),
   (

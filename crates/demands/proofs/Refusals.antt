@@ -9,15 +9,12 @@ use native.Mathlib.Omega.{arith}
 use lib.Dec.{eqb, leb, ltb}
 use lib.ListN.{length, getD, length-append, List·getD-append}
 use Rattle.answers.specs.Answer.{Refusal, Answer, gives, refuses, refusal, asks, _>>=_, _>>_}
-use Rattle.records.specs.Records.{carries, headBytes, lengthField, part, checked, written, kindOpening, kindEdges, kindInputs, kindOutputs, kindMeasurements, kindLayers, kindSets}
-use Rattle.nodes.specs.Lists.{has, all}
-use Rattle.records.specs.JobFile.{JobFile, wholePairs, nodesBelow, rises, pairsRise, allAllowed, openingAllowed, openingAsks, edgesAsks, nodesAsks, measurementsAsks, mostNodes, opening, job, readJob, jobOf, modeCausal, modePlanes, modePauli}
-use Rattle.records.specs.Encoding.{Bytes, jobBytes}
-use Rattle.records.specs.Format.{Format, PayloadFormat, plain, recordOf, then}
-use Rattle.nodes.specs.Options.{isSome}
-use Rattle.records.specs.FlowFile.{FlowFile, Flow, entriesOf, listed, allEntries, entryBelow, entriesRise, entryBytes, layersAsks, setsAsks, sets, flow, readFlow, flowOf}
-use Rattle.records.proofs.Records.{below-at, all-left, all-right}
-use Rattle.records.proofs.Encoding.{job-exact, job-asked, flow-exact}
+use Rattle.records.specs.JobFile.{JobFile, mostNodes, readJob, jobOf, modeCausal}
+use Rattle.records.specs.FlowFile.{FlowFile, Flow, allEntries, readFlow, flowOf}
+use Rattle.records.specs.Encoding.{Bytes}
+use Rattle.records.proofs.Records.{below-at}
+use Rattle.records.proofs.ReadingRefusals.{ReadingRefusal, job-refuses, flow-refuses}
+use Rattle.records.proofs.Encoding.{job-asked, job-after, flow-asked, flow-layers}
 use Rattle.flows.specs.Job.{Job}
 use Rattle.solver.specs.Solver.{workBytes}
 use Rattle.verdicts.specs.Verdict as Q
@@ -54,80 +51,23 @@ module _ (bytes : Type 0) where
   bind-numbered (gives a) k t h = h a refl
   bind-numbered (refuses r) k t h = t
 
-  -- ---- the questions of each payload
-  pub asks-last : (q : ℕ) (c : Bool) → 1 ≤ q → q < 20 → AllNumbered (asks q c)
+  -- ---- reading: its refusals have numbers up to 7, and no a and b
+  reading : (r : Refusal) → ReadingRefusal r → Numbered bytes r
+  reading r h = rw (h .same) (unused (h .number) (h .from) (below (h .number) (h .to)))
+    where
+      below : (q : ℕ) → q ≤ 7 → q < 20
+      below q h = omega arith
+
+  read-numbered : {A : Type 0} (m : Answer A) → ((r : Refusal) → m ≡ refuses r → ReadingRefusal r) → AllNumbered m
   unfolding AllNumbered
-  asks-last q true h g = tt
-  asks-last q false h g = unused q h g
-
-  opening-numbered : (p : List ℕ) → AllNumbered (openingAsks p)
-  unfolding openingAsks
-  opening-numbered p = asks-then 3 (eqb (length p) 2) _ (omega arith) (omega arith) (asks-last 4 (openingAllowed (getD p 0 0) (getD p 1 0)) (omega arith) (omega arith))
-
-  nodes-numbered : (n : ℕ) (p : List ℕ) → AllNumbered (nodesAsks n p)
-  unfolding nodesAsks
-  nodes-numbered n p = asks-then 5 (nodesBelow n p) _ (omega arith) (omega arith) (asks-last 6 (rises 0 p) (omega arith) (omega arith))
-
-  edges-numbered : (n : ℕ) (p : List ℕ) → AllNumbered (edgesAsks n p)
-  unfolding edgesAsks
-  edges-numbered n p = asks-then 3 (wholePairs p) _ (omega arith) (omega arith) (asks-then 5 (nodesBelow n p) _ (omega arith) (omega arith) (asks-last 6 (pairsRise 0 p) (omega arith) (omega arith)))
-
-  measurements-numbered : (n mode : ℕ) (output : ℕ → Bool) (p : List ℕ) → AllNumbered (measurementsAsks n mode output p)
-  unfolding measurementsAsks
-  measurements-numbered n mode output p = asks-then 3 (eqb (length p) n) _ (omega arith) (omega arith) (asks-last 7 (allAllowed mode output 0 p) (omega arith) (omega arith))
-
-  layers-numbered : (n : ℕ) (p : List ℕ) → AllNumbered (layersAsks n p)
-  unfolding layersAsks
-  layers-numbered n p = asks-last 3 (eqb (length p) n) (omega arith) (omega arith)
-
-  sets-numbered : (n : ℕ) (p : List ℕ) → AllNumbered (setsAsks n p)
-  unfolding setsAsks
-  sets-numbered n p =
-      asks-then 3 (isSome (entriesOf p)) _ (omega arith) (omega arith)
-      (asks-then 5 (allEntries (entryBelow n) (listed (entriesOf p))) _ (omega arith) (omega arith) (asks-last 6 (entriesRise 0 (listed (entriesOf p))) (omega arith) (omega arith)))
-
-  -- ---- reading: a format put together from such records
-  pub record ReadsNumbered {A : Type 0} (f : Format A) : Type 0 where
-    pub reads : (s : List ℕ) → AllNumbered (f .decode s)
-
-  then-given : {A : Type 0} (m : Answer Bool) (a : A) → AllNumbered m → AllNumbered (m >> gives a)
-  unfolding AllNumbered
-  then-given (gives b) a t = tt
-  then-given (refuses r) a t = t
-
-  record-numbered : {A : Type 0} (kind : ℕ) (p : PayloadFormat A) → ((l : List ℕ) → AllNumbered (p .questions l)) → ReadsNumbered (recordOf kind p)
-  unfolding checked part
-  record-numbered kind p h = record {
-    reads = λ s.
-        bind-numbered (checked kind (p .questions) s) _
-        (bind-numbered (part kind s) (λ r. p .questions (r .payload) >> gives r)
-        (asks-then 1 (carries kind s) _ (omega arith) (omega arith) (asks-then 2 (leb (headBytes + lengthField s) (length s)) _ (omega arith) (omega arith) (given _)))
-        (λ r e. then-given (p .questions (r .payload)) r (h (r .payload)))) (λ r e. given _);
-  }
-
-  then-numbered : {A B : Type 0} (f : Format A) (g : A → Format B) → ReadsNumbered f → ((a : A) → ReadsNumbered (g a)) → ReadsNumbered (then f g)
-  then-numbered f g h k = record {
-    reads = λ s. bind-numbered (f .decode s) _ (h .reads s) (λ p e. bind-numbered (g (p .value) .decode (p .rest)) _ (k (p .value) .reads (p .rest)) (λ q d. given _));
-  }
+  read-numbered (gives a) h = tt
+  read-numbered (refuses r) h = reading r (h r refl)
 
   job-numbered : (s : List ℕ) → AllNumbered (readJob s)
-  unfolding readJob
-  job-numbered s = bind-numbered (job .decode s) _ (format .reads s) (λ p e. given _)
-    where
-      format : ReadsNumbered job
-      format =
-          then-numbered _ _ (record-numbered kindOpening opening opening-numbered) (λ o.
-          then-numbered _ _ (record-numbered kindEdges (plain (edgesAsks (o .n))) (edges-numbered (o .n))) (λ e.
-          then-numbered _ _ (record-numbered kindInputs (plain (nodesAsks (o .n))) (nodes-numbered (o .n))) (λ i.
-          then-numbered _ _ (record-numbered kindOutputs (plain (nodesAsks (o .n))) (nodes-numbered (o .n))) (λ u.
-          record-numbered kindMeasurements (plain (measurementsAsks (o .n) (o .mode) (has u))) (measurements-numbered (o .n) (o .mode) (has u))))))
+  job-numbered s = read-numbered (readJob s) (job-refuses s)
 
   flow-numbered : (n : ℕ) (s : List ℕ) → AllNumbered (readFlow n s)
-  unfolding readFlow
-  flow-numbered n s = bind-numbered (flow n .decode s) _ (format .reads s) (λ p e. given _)
-    where
-      format : ReadsNumbered (flow n)
-      format = then-numbered _ _ (record-numbered kindLayers (plain (layersAsks n)) (layers-numbered n)) (λ l. record-numbered kindSets (sets n) (sets-numbered n))
+  flow-numbered n s = read-numbered (readFlow n s) (flow-refuses n s)
 
   pub find-numbered : (file work : List ℕ) → AllNumbered (findAsks file work)
   unfolding findAsks
@@ -219,17 +159,8 @@ module _ (bytes : Type 0) where
 
 -- the layers that were read of bytes are bytes
 layer-small : (file : List ℕ) (f : JobFile) (g : FlowFile) → readJob file ≡ gives f → readFlow (f .n) (f .after) ≡ gives g → Bytes file → (u : ℕ) → u < f .n → flowOf g .layer u < 256
-unfolding written
 layer-small file f g e h b u l =
-    let (same, valid) = job-exact file f b .0 e in
-    let behind : Bytes (f .after) = all-right (λ b. ltb b 256) (jobBytes f) (f .after) (sym (ap (all (λ b. ltb b 256)) same) ∙ b) in
-    let (wrote, right) = flow-exact (f .n) (f .after) g (valid .few) behind .0 h in
-    let bytes = sym (ap (all (λ b. ltb b 256)) wrote) ∙ behind in
-    let long : length (g .layers) ≡ f .n = right .count in
-    at (g .layers) (written kindSets (entryBytes (g .sets))) (g .after) bytes (omega arith)
-  where
-    at : (p q r : List ℕ) → Bytes ((written kindLayers p ++ q) ++ r) → u < length p → getD p u 0 < 256
-    at p q r t h = rw (List·getD-append p q 0 u h) at (below-at 256 (written kindLayers p ++ q) (suc (suc (suc (suc (suc (suc u)))))) (all-left (λ b. ltb b 256) (written kindLayers p ++ q) r t) (omega (arith, length-append p q)))
+    below-at 256 (g .layers) u (flow-layers (f .n) (f .after) g (job-asked file f e .few) (job-after file f b e) h) (omega (arith, flow-asked (f .n) (f .after) g h .count))
 
 pub verify-numbered : (file : List ℕ) → AllNumbered (Bytes file) (verifyAsks file)
 unfolding verifyAsks

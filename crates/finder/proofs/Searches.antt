@@ -12,17 +12,15 @@ use lib.Dec.{T, eqb, leb, ltb, le→leb, leb→le, eqb→eq, ltb→lt}
 use lib.ListN.{length, getD, set}
 use lib.Seq.{getD-set-same, getD-set-other}
 use Rattle.nodes.specs.Bit.{bit, digits}
-use Rattle.nodes.specs.Row.{anyBelow, allBelow, count, lowest}
+use Rattle.nodes.specs.Row.{anyBelow, allBelow}
 use Rattle.nodes.specs.NodeSet.{member, wordsOf, capacity, highest, wordBits}
 use Rattle.nodes.specs.Lists.{zeros}
 use Rattle.nodes.specs.SetTable.{tableWords, setWords, setAt, putSet}
 use Rattle.nodes.specs.declared.utils.NodeSet.{NodeSet}
-use Rattle.nodes.proofs.Logic.{is-true, unless-in, unless-out, from-true, beq-eq, dec, and-l, and-r, and-in, and-none, and-all, or-none, not-in, not-out, eqb-no, eqb-yes, lt-or-ge}
+use Rattle.nodes.proofs.Logic.{is-true, from-true, beq-eq, dec, and-l, and-r, and-in, and-none, and-all, or-none, not-in, not-out, eqb-no, eqb-yes, lt-or-ge}
 use Rattle.answers.specs.Answer.{Answer, gives}
 use Rattle.nodes.proofs.Row.{any-in, any-out, all-in, all-out, all-ext, ltb-yes, ltb-no}
-use Rattle.nodes.proofs.NodeSet.{Words, member-lt}
-use Rattle.nodes.proofs.Members.{lowest-member}
-use Rattle.nodes.proofs.Remove.{removed, count-lowest}
+use Rattle.nodes.proofs.NodeSet.{Words}
 use Rattle.nodes.proofs.SetTable.{set-in, put-same, put-other, zeros-empty}
 use Rattle.nodes.proofs.Lists.{is-listOf}
 use Rattle.nodes.proofs.Digits.{digits-is}
@@ -34,28 +32,6 @@ use Rattle.finder.proofs.Visits.{progress-eq}
 
 pub in-range : (u : ℕ) → u < capacity → leb u highest ≡ true
 in-range u l = is-true (leb u highest) (le→leb u highest (omega arith))
-
--- ---- the nodes that are left to visit
-module _ (left : NodeSet) (r : Bool) (e : r ≡ not (anyBelow capacity (member left))) where
-  pub none-left : not r ≡ false → (v : ℕ) → T (member left v) → ⊥
-  none-left f v t = unless-out r (anyBelow capacity (member left)) e f (any-in capacity (member left) v (member-lt left v t) t)
-
-  module _ (f : not r ≡ true) (u : ℕ) (l : u ≡ lowest capacity (member left)) where
-    pub lowest-left : T (member left u)
-    lowest-left = rw l (lowest-member capacity (member left) (unless-in r (anyBelow capacity (member left)) e f))
-
-    pub lowest-small : u < capacity
-    lowest-small = member-lt left u lowest-left
-
-    module _ (next : ℕ → Bool) (g : next ≡ removed (member left) (lowest capacity (member left))) where
-      pub next-left : next ≡ removed (member left) u
-      next-left = g ∙ ap (removed (member left)) (sym l)
-
-      pub fewer-left : count capacity next < count capacity (member left)
-      fewer-left = omega (arith, count-lowest capacity (member left) (unless-in r (anyBelow capacity (member left)) e f), ap (count capacity) g)
-
-      pub still-left : (v : ℕ) → T (next v) → T (member left v)
-      still-left v t = and-l (member left v) (not (eqb v (lowest capacity (member left)))) (rw g at t)
 
 -- one more passes
 pub all-more : (n : ℕ) (s : ℕ → Bool) → T (allBelow n s) → T (s n) → T (allBelow (n + 1) s)

@@ -59,20 +59,20 @@ cut-again n s t e = e ∙ cut-ext n t s (progress-sym (cut-same n s t e))
 
 -- ---- one node after the other
 module _ (try : ℕ → Option (ℕ → Bool)) (r : ℕ) (p : Progress) where
-  pub visited-start : (among : ℕ → Bool) → p ≡ visited (λ u. among u && not (among u)) try r p
-  visited-start among = progress-eq p (visited (λ u. among u && not (among u)) try r p) (λ u. sym (rw (never′ (among u)) (or-none (p .solved u)))) (λ u. rw (never′ (among u))) (λ u. rw (never′ (among u)))
+  pub visited-start : (visit : ℕ → Bool) → p ≡ visited (λ u. visit u && not (visit u)) try r p
+  visited-start visit = progress-eq p (visited (λ u. visit u && not (visit u)) try r p) (λ u. sym (rw (never′ (visit u)) (or-none (p .solved u)))) (λ u. rw (never′ (visit u))) (λ u. rw (never′ (visit u)))
     where
       never′ : (b : Bool) → b && not b ≡ false
       never′ true = refl
       never′ false = refl
 
   -- the next node is u
-  module _ (among left next : ℕ → Bool) (u : ℕ) (a : T (among u)) (l : T (left u)) (e : next ≡ removed left u) where
+  module _ (visit left next : ℕ → Bool) (u : ℕ) (a : T (visit u)) (l : T (left u)) (e : next ≡ removed left u) where
     abbrev old : ℕ → Bool
-    old v = (among v && not (left v)) && isSome (try v)
+    old v = (visit v && not (left v)) && isSome (try v)
 
     abbrev new : ℕ → Bool
-    new v = (among v && not (next v)) && isSome (try v)
+    new v = (visit v && not (next v)) && isSome (try v)
 
     abbrev here : ℕ → Bool
     here v = eqb v u && isSome (try u)
@@ -82,7 +82,7 @@ module _ (try : ℕ → Option (ℕ → Bool)) (r : ℕ) (p : Progress) where
     Marks v = ((old v ≡ false) × (here v ≡ new v) × (orNone (try u) ≡ orNone (try v))) ⊎ ((here v ≡ false) × (old v ≡ new v))
 
     marks : (v : ℕ) → T (eqb v u) ⊎ (T (eqb v u) → ⊥) → Marks v
-    marks v (inl t) = let q : v ≡ u = eqb→eq v u t in inl (rw (q, is-true (among u) a, is-true (left u) l), rw (e, q, is-true (among u) a, is-true (left u) l, eqb-yes u), rw q)
+    marks v (inl t) = let q : v ≡ u = eqb→eq v u t in inl (rw (q, is-true (visit u) a, is-true (left u) l), rw (e, q, is-true (visit u) a, is-true (left u) l, eqb-yes u), rw q)
     marks v (inr f) = inr (rw (is-false (eqb v u) f), rw (e, is-false (eqb v u) f, and-all (left v)))
 
     solved-step : (v : ℕ) → Marks v → (p .solved v || old v) || here v ≡ p .solved v || new v
@@ -97,60 +97,60 @@ module _ (try : ℕ → Option (ℕ → Bool)) (r : ℕ) (p : Progress) where
     set-step v (inl (x, y, z)) = rw (x, y, z)
     set-step v (inr (x, y)) = rw (x, y)
 
-    pub visited-step : placed u r (try u) (visited (λ v. among v && not (left v)) try r p) ≡ visited (λ v. among v && not (next v)) try r p
+    pub visited-step : placed u r (try u) (visited (λ v. visit v && not (left v)) try r p) ≡ visited (λ v. visit v && not (next v)) try r p
     visited-step =
-        progress-eq (placed u r (try u) (visited (λ v. among v && not (left v)) try r p)) (visited (λ v. among v && not (next v)) try r p)
+        progress-eq (placed u r (try u) (visited (λ v. visit v && not (left v)) try r p)) (visited (λ v. visit v && not (next v)) try r p)
         (λ v. solved-step v (marks v (dec (eqb v u)))) (λ v. layer-step v (marks v (dec (eqb v u)))) (λ v. set-step v (marks v (dec (eqb v u))))
 
   -- the same of what stands in the buffers
-  pub visited-more : (among left next : ℕ → Bool) (u : ℕ) (t : Option (ℕ → Bool)) (here after : Progress) → here ≡ visited (λ v. among v && not (left v)) try r p
-      → after ≡ placed u r t here → t ≡ try u → T (among u) → T (left u) → next ≡ removed left u → after ≡ visited (λ v. among v && not (next v)) try r p
-  visited-more among left next u t here after e f g a l q =
-      f ∙ ap₂ (λ (x : Option (ℕ → Bool)) (y : Progress). placed u r x y) g e ∙ visited-step among left next u a l q
+  pub visited-more : (visit left next : ℕ → Bool) (u : ℕ) (t : Option (ℕ → Bool)) (here after : Progress) → here ≡ visited (λ v. visit v && not (left v)) try r p
+      → after ≡ placed u r t here → t ≡ try u → T (visit u) → T (left u) → next ≡ removed left u → after ≡ visited (λ v. visit v && not (next v)) try r p
+  visited-more visit left next u t here after e f g a l q =
+      f ∙ ap₂ (λ (x : Option (ℕ → Bool)) (y : Progress). placed u r x y) g e ∙ visited-step visit left next u a l q
 
   -- none is left
-  pub visited-end : (among left : ℕ → Bool) → ((v : ℕ) → T (left v) → ⊥) → visited (λ u. among u && not (left u)) try r p ≡ visited among try r p
-  visited-end among left f = ap (λ (g : ℕ → Bool). visited g try r p) (fun-ext (λ u. ap (λ (b : Bool). among u && not b) (is-false (left u) (f u)) ∙ and-all (among u)))
+  pub visited-end : (visit left : ℕ → Bool) → ((v : ℕ) → T (left v) → ⊥) → visited (λ u. visit u && not (left u)) try r p ≡ visited visit try r p
+  visited-end visit left f = ap (λ (g : ℕ → Bool). visited g try r p) (fun-ext (λ u. ap (λ (b : Bool). visit u && not b) (is-false (left u) (f u)) ∙ and-all (visit u)))
 
   -- those that are passed over would get nothing
-  pub visited-fewer : (among fewer : ℕ → Bool) → ((u : ℕ) → T (fewer u) → T (among u)) → ((u : ℕ) → T (among u) → (T (fewer u) → ⊥) → try u ≡ none) → visited fewer try r p ≡ visited among try r p
-  visited-fewer among fewer h f =
-      progress-eq (visited fewer try r p) (visited among try r p) (λ u. ap (λ (b : Bool). p .solved u || b) (same u)) (λ u. ap (λ (b : Bool). cond b r (p .layer u)) (same u))
+  pub visited-fewer : (visit fewer : ℕ → Bool) → ((u : ℕ) → T (fewer u) → T (visit u)) → ((u : ℕ) → T (visit u) → (T (fewer u) → ⊥) → try u ≡ none) → visited fewer try r p ≡ visited visit try r p
+  visited-fewer visit fewer h f =
+      progress-eq (visited fewer try r p) (visited visit try r p) (λ u. ap (λ (b : Bool). p .solved u || b) (same u)) (λ u. ap (λ (b : Bool). cond b r (p .layer u)) (same u))
       (λ u. ap (λ (b : Bool). cond b (orNone (try u)) (p .set u)) (same u))
     where
-      same : (u : ℕ) → fewer u && isSome (try u) ≡ among u && isSome (try u)
-      same u = by (dec (among u)) (dec (fewer u))
+      same : (u : ℕ) → fewer u && isSome (try u) ≡ visit u && isSome (try u)
+      same u = by (dec (visit u)) (dec (fewer u))
         where
-          by : T (among u) ⊎ (T (among u) → ⊥) → T (fewer u) ⊎ (T (fewer u) → ⊥) → fewer u && isSome (try u) ≡ among u && isSome (try u)
-          by (inl a) (inl b) = rw (is-true (among u) a, is-true (fewer u) b)
-          by (inl a) (inr b) = rw (is-false (fewer u) b, f u a b) (sym (and-none (among u)))
+          by : T (visit u) ⊎ (T (visit u) → ⊥) → T (fewer u) ⊎ (T (fewer u) → ⊥) → fewer u && isSome (try u) ≡ visit u && isSome (try u)
+          by (inl a) (inl b) = rw (is-true (visit u) a, is-true (fewer u) b)
+          by (inl a) (inr b) = rw (is-false (fewer u) b, f u a b) (sym (and-none (visit u)))
           by (inr a) (inl b) = absurd (a (h u b))
-          by (inr a) (inr b) = rw (is-false (among u) a, is-false (fewer u) b)
+          by (inr a) (inr b) = rw (is-false (visit u) a, is-false (fewer u) b)
 
   -- all unsolved nodes were visited: a round
-  pub visited-round : (n : ℕ) (among : ℕ → Bool) (full : ℕ → Option (ℕ → Bool)) → n ≤ capacity → p ≡ cutTo n p
-      → among ≡ (λ u. (ltb u n && leb u highest) && not (p .solved u))
+  pub visited-round : (n : ℕ) (visit : ℕ → Bool) (full : ℕ → Option (ℕ → Bool)) → n ≤ capacity → p ≡ cutTo n p
+      → visit ≡ (λ u. (ltb u n && leb u highest) && not (p .solved u))
       → ((u : ℕ) → u < n → (T (p .solved u) → ⊥) → try u ≡ full u)
-      → visited among try r p ≡ cutTo n (round full r p)
-  visited-round n among full h cut e same = progress-eq (visited among try r p) (cutTo n (round full r p)) (λ u. solved′ u (lt-or-ge u n)) (λ u. layer′ u (lt-or-ge u n)) (λ u. set′ u (lt-or-ge u n))
+      → visited visit try r p ≡ cutTo n (round full r p)
+  visited-round n visit full h cut e same = progress-eq (visited visit try r p) (cutTo n (round full r p)) (λ u. solved′ u (lt-or-ge u n)) (λ u. layer′ u (lt-or-ge u n)) (λ u. set′ u (lt-or-ge u n))
     where
-      inside : (u : ℕ) → u < n → among u && isSome (try u) ≡ solvedNow full p u
+      inside : (u : ℕ) → u < n → visit u && isSome (try u) ≡ solvedNow full p u
       inside u l = rw (e, ltb-yes u n l, is-true (leb u highest) (le→leb u highest (omega arith))) (by (dec (p .solved u)))
         where
           by : T (p .solved u) ⊎ (T (p .solved u) → ⊥) → not (p .solved u) && isSome (try u) ≡ not (p .solved u) && isSome (full u)
           by (inl t) = rw (is-true (p .solved u) t)
           by (inr f) = rw (same u l f)
 
-      outside : (u : ℕ) → n ≤ u → among u ≡ false
+      outside : (u : ℕ) → n ≤ u → visit u ≡ false
       outside u l = rw (e, ltb-no u n l)
 
-      solved′ : (u : ℕ) → (u < n) ⊎ (n ≤ u) → p .solved u || (among u && isSome (try u)) ≡ ltb u n && (p .solved u || solvedNow full p u)
+      solved′ : (u : ℕ) → (u < n) ⊎ (n ≤ u) → p .solved u || (visit u && isSome (try u)) ≡ ltb u n && (p .solved u || solvedNow full p u)
       solved′ u (inl l) = ap (λ (b : Bool). p .solved u || b) (inside u l) ∙ sym (ap (λ (b : Bool). b && (p .solved u || solvedNow full p u)) (ltb-yes u n l))
       solved′ u (inr l) =
           ap (λ (b : Bool). p .solved u || (b && isSome (try u))) (outside u l) ∙ or-none (p .solved u) ∙ ap (λ (q : Progress). q .solved u) cut
           ∙ ap (λ (b : Bool). b && p .solved u) (ltb-no u n l) ∙ sym (ap (λ (b : Bool). b && (p .solved u || solvedNow full p u)) (ltb-no u n l))
 
-      layer′ : (u : ℕ) → (u < n) ⊎ (n ≤ u) → cond (among u && isSome (try u)) r (p .layer u) ≡ cond (ltb u n) (cond (solvedNow full p u) r (p .layer u)) 0
+      layer′ : (u : ℕ) → (u < n) ⊎ (n ≤ u) → cond (visit u && isSome (try u)) r (p .layer u) ≡ cond (ltb u n) (cond (solvedNow full p u) r (p .layer u)) 0
       layer′ u (inl l) = ap (λ (b : Bool). cond b r (p .layer u)) (inside u l) ∙ sym (ap (λ (b : Bool). cond b (cond (solvedNow full p u) r (p .layer u)) 0) (ltb-yes u n l))
       layer′ u (inr l) =
           ap (λ (b : Bool). cond (b && isSome (try u)) r (p .layer u)) (outside u l) ∙ ap (λ (q : Progress). q .layer u) cut
@@ -160,9 +160,9 @@ module _ (try : ℕ → Option (ℕ → Bool)) (r : ℕ) (p : Progress) where
       given u l false q = refl
       given u l true q = ap orNone (same u l (not-out (p .solved u) (and-l (not (p .solved u)) (isSome (full u)) (rw (← q) tt))))
 
-      set′ : (u : ℕ) → (u < n) ⊎ (n ≤ u) → cond (among u && isSome (try u)) (orNone (try u)) (p .set u) ≡ (λ v. ltb u n && cond (solvedNow full p u) (orNone (full u)) (p .set u) v)
+      set′ : (u : ℕ) → (u < n) ⊎ (n ≤ u) → cond (visit u && isSome (try u)) (orNone (try u)) (p .set u) ≡ (λ v. ltb u n && cond (solvedNow full p u) (orNone (full u)) (p .set u) v)
       set′ u (inl l) =
-          given u l (among u && isSome (try u)) (inside u l) ∙ ap (λ (b : Bool). cond b (orNone (full u)) (p .set u)) (inside u l)
+          given u l (visit u && isSome (try u)) (inside u l) ∙ ap (λ (b : Bool). cond b (orNone (full u)) (p .set u)) (inside u l)
           ∙ sym (ap {B = ℕ → Bool} (λ (b : Bool) (v : ℕ). b && cond (solvedNow full p u) (orNone (full u)) (p .set u) v) (ltb-yes u n l))
       set′ u (inr l) =
           ap (λ (b : Bool). cond (b && isSome (try u)) (orNone (try u)) (p .set u)) (outside u l) ∙ ap (λ (q : Progress). q .set u) cut

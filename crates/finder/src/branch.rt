@@ -213,22 +213,10 @@ fn try_row(
     requires { ⌜ Ready n (now graph) s echelon (now kernel) (now reduced) (now preimage) (now transposed) × Trying n s u alone ⌝ }
     ensures { λ r. ⌜ solutionOf r ≡ firstOf (tryListed n (now (graph .entry)) (forNode (contextOf s) u) u first) (tryListed n (now (graph .entry)) (forNode (contextOf s) u) u second) ⌝ }
 {
-    let t = try_listed(
-        kernel,
-        reduced,
-        preimage,
-        echelon,
-        graph,
-        transposed,
-        n,
-        s,
-        u,
-        alone,
-        first,
-    );
-    match t {
-        Solution::Set(x) => Solution::Set(x),
-        Solution::Nothing => try_listed(
+    let mut b = first;
+    let mut later = second;
+    loop {
+        let t = try_listed(
             kernel,
             reduced,
             preimage,
@@ -239,8 +227,17 @@ fn try_row(
             s,
             u,
             alone,
-            second,
-        ),
+            b,
+        );
+        match t {
+            Solution::Set(x) => return Solution::Set(x),
+            Solution::Nothing => {}
+        }
+        if later == NO_BRANCH {
+            return Solution::Nothing;
+        }
+        b = later;
+        later = NO_BRANCH;
     }
 }
 

@@ -282,12 +282,12 @@ members-split m (suc n) s =
     by true = refl
     by false = refl
 
-pub members-words : (among : NodeSet) → members capacity (member among) ≡ raised 0 (members wordBits (bit (among .low))) ++ raised wordBits (members wordBits (bit (among .high)))
-members-words among =
-    members-split wordBits wordBits (member among)
+pub members-words : (nodes : NodeSet) → members capacity (member nodes) ≡ raised 0 (members wordBits (bit (nodes .low))) ++ raised wordBits (members wordBits (bit (nodes .high)))
+members-words nodes =
+    members-split wordBits wordBits (member nodes)
     ∙ ap₂ (λ (l m : List ℕ). l ++ raised wordBits m)
-    (members-ext wordBits (member among) (bit (among .low)) (λ k h. member-head (among .low) (among .high ∷ []) k h) ∙ sym (raised-none (members wordBits (bit (among .low)))))
-    (members-ext wordBits (λ k. member among (wordBits + k)) (bit (among .high)) (λ k h. member-tail (among .low) (among .high ∷ []) k ∙ member-head (among .high) [] k h))
+    (members-ext wordBits (member nodes) (bit (nodes .low)) (λ k h. member-head (nodes .low) (nodes .high ∷ []) k h) ∙ sym (raised-none (members wordBits (bit (nodes .low)))))
+    (members-ext wordBits (λ k. member nodes (wordBits + k)) (bit (nodes .high)) (λ k h. member-tail (nodes .low) (nodes .high ∷ []) k ∙ member-head (nodes .high) [] k h))
 
 -- the node of the lowest digit, and then those of the others
 pub word-cons : (base w : ℕ) → w < 2 ^ wordBits → w ≢ 0 → raised base (members wordBits (bit w)) ≡ (base + lowest wordBits (bit w)) ∷ raised base (members wordBits (bit (bitAnd w (w - 1))))
@@ -375,15 +375,15 @@ added-from (suc n) k s ws x e h l v i =
         ∙ ap (λ (b : Bool). setAt ws v i ⊕ b) (skip (leb k v && ltb v (k + suc n)) (eqb v k) (s v) (λ q t. f (subst (λ (z : ℕ). T (s z)) (eqb→eq v k q) t)))
 
 -- in a table with a set for each node
-pub added-sets : (ws : List ℕ) (among x : NodeSet) → length ws ≡ tableWords → (v i : ℕ)
-    → setAt (addSets ws (members capacity (member among)) (wordsOf x)) v i ≡ setAt ws v i ⊕ member among v && member x i
-added-sets ws among x h v i =
-    added-from capacity 0 (member among) ws (wordsOf x) refl h (omega arith) v i
+pub added-sets : (ws : List ℕ) (nodes x : NodeSet) → length ws ≡ tableWords → (v i : ℕ)
+    → setAt (addSets ws (members capacity (member nodes)) (wordsOf x)) v i ≡ setAt ws v i ⊕ member nodes v && member x i
+added-sets ws nodes x h v i =
+    added-from capacity 0 (member nodes) ws (wordsOf x) refl h (omega arith) v i
     ∙ ap (λ (b : Bool). setAt ws v i ⊕ b && member x i) (by (lt-or-ge v capacity))
   where
-    by : (v < capacity) ⊎ (capacity ≤ v) → (leb 0 v && ltb v (0 + capacity)) && member among v ≡ member among v
-    by (inl l) = ap (λ (b : Bool). b && member among v) (ap₂ _&&_ (is-true (leb 0 v) (le→leb 0 v (omega arith))) (ltb-yes v (0 + capacity) (omega arith)))
-    by (inr l) = ap (λ (b : Bool). (leb 0 v && ltb v (0 + capacity)) && b) (member-past (wordsOf among) v l) ∙ and-none (leb 0 v && ltb v (0 + capacity)) ∙ sym (member-past (wordsOf among) v l)
+    by : (v < capacity) ⊎ (capacity ≤ v) → (leb 0 v && ltb v (0 + capacity)) && member nodes v ≡ member nodes v
+    by (inl l) = ap (λ (b : Bool). b && member nodes v) (ap₂ _&&_ (is-true (leb 0 v) (le→leb 0 v (omega arith))) (ltb-yes v (0 + capacity) (omega arith)))
+    by (inr l) = ap (λ (b : Bool). (leb 0 v && ltb v (0 + capacity)) && b) (member-past (wordsOf nodes) v l) ∙ and-none (leb 0 v && ltb v (0 + capacity)) ∙ sym (member-past (wordsOf nodes) v l)
 
 -- ---- a table of empty sets
 pub zeros-empty : (n u : ℕ) → setAt (zeros n) u ≡ (λ v. false)

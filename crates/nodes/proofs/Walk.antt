@@ -1,17 +1,22 @@
 -- A set is walked through, the least of what is left at a time, and a number counts along: it is the rank of the member at hand. Serves Row.
-use Prim.Native.Nat.{ℕ, _+_, _≤_, _<_}
-use mathlib.Core.Path.{_≡_, sym, subst}
-use mathlib.Core.Bool.{Bool, not}
+use Prim.Native.Nat.{ℕ, _+_, _≤_, _<_, _-_}
+use mathlib.Core.Path.{_≡_, sym, subst, ap, _∙_}
+use mathlib.Core.Bool.{Bool, not, true, false, _&&_}
 use mathlib.Core.Logic.{_≢_, _⊎_, inl, inr}
 use native.Mathlib.Omega.{arith}
 use native.Mathlib.Nat.{zero-add}
 use native.Mathlib.Numerals.{lt-of-le-of-ne}
 use lib.Dec.{T, eqb}
 use Rattle.nodes.specs.Row.{anyBelow, count, lowest}
-use Rattle.nodes.proofs.Logic.{and-l, and-r, not-out, from-false, lt-or-ge, eqb-yes}
+use Rattle.nodes.proofs.Logic.{and-l, and-r, not-out, from-false, lt-or-ge, eqb-yes, unless-in, unless-out}
 use Rattle.nodes.proofs.Count.{count-none, rank-lt}
 use Rattle.nodes.proofs.Members.{lowest-none, lowest-some, lowest-member}
-use Rattle.nodes.proofs.Remove.{removed, count-remove}
+use Rattle.nodes.proofs.Remove.{removed, count-remove, count-lowest, least-one}
+use mathlib.Core.Option.{none, some}
+use Rattle.nodes.specs.NodeSet.{member, capacity}
+use Rattle.nodes.specs.declared.utils.NodeSet.{NodeSet}
+use Rattle.nodes.proofs.Row.{any-in}
+use Rattle.nodes.proofs.NodeSet.{member-lt}
 
 -- i members of `all` are done, `left` are the others
 pub record Walk (all left : ℕ → Bool) (i : ℕ) : Type 0 where
@@ -51,3 +56,32 @@ module _ (n : ℕ) (all left : ℕ → Bool) (i : ℕ) (walk : Walk all left i) 
         where
           less : u ≢ v → u ≤ v → u < v
           less d l = lt-of-le-of-ne l d
+
+-- ---- a loop over a set of nodes, where r is the code's test whether none is left
+module _ (left : NodeSet) (r : Bool) (e : r ≡ not (anyBelow capacity (member left))) where
+  pub left-none : not r ≡ false → (v : ℕ) → T (member left v) → ⊥
+  left-none f v t = unless-out r (anyBelow capacity (member left)) e f (any-in capacity (member left) v (member-lt left v t) t)
+
+  pub some-left : not r ≡ true → T (anyBelow capacity (member left))
+  some-left f = unless-in r (anyBelow capacity (member left)) e f
+
+  module _ (f : not r ≡ true) (u : ℕ) (l : u ≡ lowest capacity (member left)) where
+    pub lowest-left : T (member left u)
+    lowest-left = rw l (lowest-member capacity (member left) (some-left f))
+
+    pub lowest-small : u < capacity
+    lowest-small = member-lt left u lowest-left
+
+    -- the node at hand alone
+    pub left-alone : (one : ℕ → Bool) → one ≡ (λ v. member left v && eqb v (lowest capacity (member left))) → one ≡ (λ v. eqb v u)
+    left-alone one h = least-one capacity (member left) one (some-left f) h ∙ ap {B = ℕ → Bool} (λ (x v : ℕ). eqb v x) (sym l)
+
+    module _ (next : ℕ → Bool) (g : next ≡ removed (member left) (lowest capacity (member left))) where
+      pub next-left : next ≡ removed (member left) u
+      next-left = g ∙ ap (removed (member left)) (sym l)
+
+      pub fewer-left : count capacity next < count capacity (member left)
+      fewer-left = omega (arith, count-lowest capacity (member left) (some-left f), ap (count capacity) g)
+
+      pub still-left : (v : ℕ) → T (next v) → T (member left v)
+      still-left v t = and-l (member left v) (not (eqb v (lowest capacity (member left)))) (rw g at t)

@@ -259,16 +259,16 @@ fn add_in_word(table: &mut [u64], base: usize, word: u64, x: NodeSet)
     }
 }
 
-// x is added mod 2 to the set of each node in `among`, where the table has it.
-pub fn add_to(table: &mut [u64], among: NodeSet, x: NodeSet)
-    ensures { λ _. ⌜ now (table .exit) ≡ addSets (now (table .entry)) (members capacity (member among)) (wordsOf x) ⌝ }
+// x is added mod 2 to the set of each node in `nodes`, where the table has it.
+pub fn add_to(table: &mut [u64], nodes: NodeSet, x: NodeSet)
+    ensures { λ _. ⌜ now (table .exit) ≡ addSets (now (table .entry)) (members capacity (member nodes)) (wordsOf x) ⌝ }
 {
-    add_in_word(table, 0, among.low, x);
-    add_in_word(table, WORD_BITS, among.high, x);
+    add_in_word(table, 0, nodes.low, x);
+    add_in_word(table, WORD_BITS, nodes.high, x);
 }
 
 // The nodes that are in the sets of an odd number of kset's members: where the table has each node's
-// neighbors, those with an odd number of neighbors in kset. A node in two sets is out again, so the
+// neighbours, those with an odd number of neighbours in kset. A node in two sets is out again, so the
 // sets are added up by xor; only the members are visited, the least of those left at a time.
 pub fn odd_neighbors(g: &[u64], kset: NodeSet) -> NodeSet
     ensures { λ r. ⌜ member r ≡ (λ v. parity capacity (λ k. setAt (now (g .entry)) k v && member kset k)) ⌝ }

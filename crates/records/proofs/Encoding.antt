@@ -1,24 +1,26 @@
 -- The formats of jobs and flows are exact: what is written reads back, and of bytes nothing else is read.
-use Prim.Native.Nat.{ℕ, _+_, _*_, _≤_, zero-le}
+use Prim.Native.Nat.{ℕ, _+_, _*_, _≤_, _<_, zero-le}
 use mathlib.Core.Path.{_≡_, refl, sym, ap, _∙_}
 use mathlib.Core.Bool.{Bool, true}
 use mathlib.Core.Logic.{_↔_}
 use mathlib.Core.List.{List, [], _∷_, _++_}
 use native.Mathlib.Omega.{arith}
 use native.Mathlib.Nat.{mul-le-mul}
+use lib.Dec.{ltb}
 use lib.ListN.{length, getD}
 use Rattle.nodes.proofs.Logic.{and-out}
-use Rattle.nodes.specs.Lists.{has}
+use Rattle.nodes.specs.Lists.{has, all}
 use Rattle.answers.specs.Answer.{Answer, gives, _>>=_}
 use Rattle.answers.proofs.Answer.{give-inj, bind-out}
-use Rattle.records.specs.Records.{allYes, kindOpening, kindEdges, kindInputs, kindOutputs, kindMeasurements, kindLayers, kindSets}
+use Rattle.records.specs.Records.{allYes, written, kindOpening, kindEdges, kindInputs, kindOutputs, kindMeasurements, kindLayers, kindSets}
 use Rattle.records.specs.Format.{Front, front, plain, recordOf}
 use Rattle.records.specs.JobFile.{JobFile, mostNodes, openingAllowed, edgesAsks, nodesAsks, measurementsAsks, opening, JobValue, job, jobFile, jobValue, readJob}
-use Rattle.records.specs.FlowFile.{SetEntry, FlowFile, entriesOf, listed, allEntries, entryBelow, entriesRise, entryBytes, layersAsks, sets, flow, flowFile, flowValue, readFlow}
+use Rattle.records.specs.FlowFile.{FlowFile, entriesOf, listed, allEntries, entryBelow, entriesRise, entryBytes, eachAsks, sets, FlowValue, flow, flowFile, flowValue, readFlow}
 use Rattle.records.specs.Encoding.{Bytes, jobBytes, ValidJob, flowFileBytes, ValidFlow}
+use Rattle.records.proofs.Records.{all-left, all-right}
 use Rattle.records.proofs.JobFile.{allowed-out, allowed-in, opening-out, opening-in, edges-out, edges-in, nodes-out, nodes-in, measurements-out, measurements-in, rises-length, pairs-length}
-use Rattle.records.proofs.FlowFile.{entries-back, entries-encode, layers-out, layers-in, sets-out, sets-in, entries-few, entry-bytes-length}
-use Rattle.records.proofs.Format.{Sound, Exact, PayloadExact, Appends, exact-iff, record-sound, record-exact, record-appends, record-closed, plain-sound, plain-exact, then-sound, then-exact, then-appends}
+use Rattle.records.proofs.FlowFile.{entries-back, entries-encode, length-out, length-in, sets-out, sets-in, entries-few, entry-bytes-length}
+use Rattle.records.proofs.Format.{Sound, Exact, PayloadExact, Appends, exact-iff, payload-bytes, record-sound, record-exact, record-appends, record-closed, plain-sound, plain-exact, then-sound, then-exact, then-appends}
 
 -- ---- the payloads
 two-bytes : (l : List ℕ) → length l ≡ 2 → getD l 0 0 ∷ getD l 1 0 ∷ [] ≡ l
@@ -37,6 +39,10 @@ opening-exact = record {
 sets-sound : (n : ℕ) → Sound (recordOf kindSets (sets n))
 sets-sound n = record-sound kindSets (sets n) (λ l e. let (f, a, b) = sets-out n l e in rw (a, b))
 
+-- so many bytes for each node
+each-exact : (kind width n : ℕ) → width * n < 4294967296 → Exact (recordOf kind (plain (eachAsks width n)))
+each-exact kind width n h = plain-exact kind (eachAsks width n) (λ p e. rw (length-out width n p e) h)
+
 -- nodes have numbers of one byte
 module _ (n : ℕ) (small : n ≤ 256) where
   edges-exact : Exact (recordOf kindEdges (plain (edgesAsks n)))
@@ -47,9 +53,6 @@ module _ (n : ℕ) (small : n ≤ 256) where
 
   measurements-exact : (mode : ℕ) (output : ℕ → Bool) → Exact (recordOf kindMeasurements (plain (measurementsAsks n mode output)))
   measurements-exact mode output = plain-exact kindMeasurements (measurementsAsks n mode output) (λ p e. let q = measurements-out n mode output p e .0 in omega arith)
-
-  layers-exact : Exact (recordOf kindLayers (plain (layersAsks n)))
-  layers-exact = plain-exact kindLayers (layersAsks n) (λ p e. let q = layers-out n p e in omega arith)
 
   sets-exact : Exact (recordOf kindSets (sets n))
   sets-exact = record-exact kindSets (sets n) (record {
@@ -119,6 +122,10 @@ job-exact s f h =
     let (there, back) = exact-iff job job-format s (jobValue f) (f .after) h in
     (λ e. let (q, v, w) = there (job-decoded s f e) in (q, valid-out f v), λ x. job-reads s f (back (x .0, valid-in f (x .1), refl)))
 
+-- what is behind a job of bytes is bytes
+pub job-after : (s : List ℕ) (f : JobFile) → Bytes s → readJob s ≡ gives f → Bytes (f .after)
+job-after s f h e = all-right (λ b. ltb b 256) (jobBytes f) (f .after) (sym (ap (all (λ b. ltb b 256)) (job-exact s f h .0 e .0)) ∙ h)
+
 -- what reading has asked
 pub job-asked : (s : List ℕ) (f : JobFile) → readJob s ≡ gives f → ValidJob f
 job-asked s f e = valid-out f (job-format .sound .valid s (jobValue f) (f .after) (job-decoded s f e))
@@ -132,10 +139,10 @@ job-append s g f e = job-reads (s ++ g) (behind f g) (job-appends .appends s (jo
 
 -- ---- a flow
 flow-format : (n : ℕ) → n ≤ 256 → Exact (flow n)
-flow-format n small = then-exact _ _ (layers-exact n small) (λ l v. sets-exact n small)
+flow-format n small = then-exact _ _ (each-exact kindLayers 1 n (omega arith)) (λ l v. sets-exact n small)
 
 flow-sound : (n : ℕ) → Sound (flow n)
-flow-sound n = then-sound _ _ (plain-sound kindLayers (layersAsks n)) (λ l v. sets-sound n)
+flow-sound n = then-sound _ _ (plain-sound kindLayers (eachAsks 1 n)) (λ l v. sets-sound n)
 
 flow-decoded : (n : ℕ) (s : List ℕ) (g : FlowFile) → readFlow n s ≡ gives g → flow n .decode s ≡ gives (front (flowValue g) (g .after))
 unfolding readFlow
@@ -145,16 +152,16 @@ flow-decoded n s g e =
 
 flow-reads : (n : ℕ) (s : List ℕ) (g : FlowFile) → flow n .decode s ≡ gives (front (flowValue g) (g .after)) → readFlow n s ≡ gives g
 unfolding readFlow
-flow-reads n s g e = ap (λ (m : Answer (Front (List ℕ × List SetEntry))). m >>= λ p. gives (flowFile p)) e
+flow-reads n s g e = ap (λ (m : Answer (Front FlowValue)). m >>= λ p. gives (flowFile p)) e
 
 flow-valid-out : (n : ℕ) (g : FlowFile) → flow n .valid (flowValue g) ≡ true → ValidFlow n g
 flow-valid-out n g v =
-    let (l, w) = and-out (allYes (layersAsks n (g .layers))) _ v in
+    let (l, w) = and-out (allYes (eachAsks 1 n (g .layers))) _ v in
     let (a, b) = and-out (allEntries (entryBelow n) (g .sets)) (entriesRise 0 (g .sets)) w in
-    record { count = layers-out n (g .layers) l; below = a; rise = b }
+    record { count = omega (arith, length-out 1 n (g .layers) l); below = a; rise = b }
 
 flow-valid-in : (n : ℕ) (g : FlowFile) → ValidFlow n g → flow n .valid (flowValue g) ≡ true
-flow-valid-in n g v = rw (layers-in n (g .layers) (v .count), v .below, v .rise)
+flow-valid-in n g v = rw (length-in 1 n (g .layers) (omega (arith, v .count)), v .below, v .rise)
 
 -- a valid flow has as many layers as nodes
 flow-bytes : (n : ℕ) (g : FlowFile) → ValidFlow n g → flowFileBytes g ++ g .after ≡ flow n .encode (flowValue g) ++ g .after
@@ -166,6 +173,12 @@ flow-exact n s g k h =
       (λ e. let (q, v, w) = there (flow-decoded n s g e) in let x = flow-valid-out n g v in (q ∙ sym (flow-bytes n g x), x)),
       λ x. flow-reads n s g (back (x .0 ∙ flow-bytes n g (x .1), flow-valid-in n g (x .1), refl)),
     )
+
+-- the layers that were read of bytes are bytes
+pub flow-layers : (n : ℕ) (s : List ℕ) (g : FlowFile) → n ≤ mostNodes → Bytes s → readFlow n s ≡ gives g → Bytes (g .layers)
+flow-layers n s g k h e =
+    payload-bytes kindLayers (g .layers) (written kindSets (entryBytes (g .sets)))
+    (all-left (λ b. ltb b 256) (flowFileBytes g) (g .after) (sym (ap (all (λ b. ltb b 256)) (flow-exact n s g k h .0 e .0)) ∙ h))
 
 pub flow-asked : (n : ℕ) (s : List ℕ) (g : FlowFile) → readFlow n s ≡ gives g → ValidFlow n g
 flow-asked n s g e = flow-valid-out n g (flow-sound n .valid s (flowValue g) (g .after) (flow-decoded n s g e))

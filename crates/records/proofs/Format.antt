@@ -12,9 +12,9 @@ use lib.Dec.{ltb, leb, eqb}
 use lib.ListN.{length, length-append, List·getD-append}
 use Rattle.nodes.proofs.Logic.{and-out}
 use Rattle.nodes.specs.Lists.{all}
-use Rattle.answers.specs.Answer.{Answer, gives, refuses, refusal, _>>=_, _>>_}
+use Rattle.answers.specs.Answer.{Refusal, Answer, gives, refuses, refusal, asks, _>>=_, _>>_}
 use Rattle.answers.proofs.Answer.{give-inj, never, bind-out}
-use Rattle.records.specs.Records.{carries, Part, allYes, part, checked, headOf, written, kindField, headBytes}
+use Rattle.records.specs.Records.{carries, Part, allYes, part, checked, headOf, written, lengthField, kindField, headBytes}
 use Rattle.records.specs.Format.{Front, front, Format, PayloadFormat, plain, recordOf, then, someOf, optional, choice}
 use Rattle.records.specs.Encoding.{Bytes}
 use Rattle.records.proofs.Records.{all-left, all-right, checked-passed, checked-append, checked-written, record-bytes}
@@ -74,7 +74,7 @@ pub record PayloadExact {A : Type 0} (p : PayloadFormat A) : Type 0 where
   pub into : (a : A) → p .valid a ≡ true → (allYes (p .questions (p .encode a)) ≡ true) × (p .value (p .encode a) ≡ a) × (length (p .encode a) < 4294967296)
   pub out : (l : List ℕ) → Bytes l → allYes (p .questions l) ≡ true → p .encode (p .value l) ≡ l
 
-payload-bytes : (kind : ℕ) (p t : List ℕ) → Bytes (written kind p ++ t) → Bytes p
+pub payload-bytes : (kind : ℕ) (p t : List ℕ) → Bytes (written kind p ++ t) → Bytes p
 unfolding written
 payload-bytes kind p t h = all-right (λ b. ltb b 256) (headOf (length p) kind) p (all-left (λ b. ltb b 256) (written kind p) t h)
 
@@ -322,3 +322,40 @@ module _ {A : Type 0} (second : A → Bool) (first kind : ℕ) (p q : PayloadFor
       by s a t u true c e = rw (carries-append kind s u c) (record-appends kind q .appends s a t u e refl)
       by s a t u false c e =
           rw (carries-one first kind (s ++ u) (carries-append first s u (record-carries first p s (front a t) e)) d) (record-appends first p .appends s a t u e refl)
+
+-- ---- what a format refuses with
+module _ (P : Refusal → Type 0) where
+  bind-refuses : {A B : Type 0} (m : Answer A) (k : A → Answer B) (r : Refusal) → (m >>= k) ≡ refuses r → ((q : Refusal) → m ≡ refuses q → P q) → ((a : A) → k a ≡ refuses r → P r) → P r
+  bind-refuses (gives a) k r e h g = g a e
+  bind-refuses (refuses q) k r e h g = let same : q ≡ r = cc in subst P same (h q refl)
+
+  pub asks-refuses : {A : Type 0} (q : ℕ) (c : Bool) (k : Answer A) (r : Refusal) → (asks q c >> k) ≡ refuses r → P (refusal q) → (k ≡ refuses r → P r) → P r
+  asks-refuses q true k r e p h = h e
+  asks-refuses q false k r e p h = let same : refusal q ≡ r = cc in subst P same p
+
+  pub ask-refuses : (q : ℕ) (c : Bool) (r : Refusal) → asks q c ≡ refuses r → P (refusal q) → P r
+  ask-refuses q true r e p = absurd (never (sym e))
+  ask-refuses q false r e p = let same : refusal q ≡ r = cc in subst P same p
+
+  pub record Refuses {A : Type 0} (f : Format A) : Type 0 where
+    pub refused : (s : List ℕ) (r : Refusal) → f .decode s ≡ refuses r → P r
+
+  pub record-refuses : {A : Type 0} (kind : ℕ) (p : PayloadFormat A) → P (refusal 1) → P (refusal 2) → ((l : List ℕ) (r : Refusal) → p .questions l ≡ refuses r → P r) → Refuses (recordOf kind p)
+  unfolding checked part
+  record-refuses kind p one two more = record {
+    refused = λ s r e. bind-refuses (checked kind (p .questions) s) _ r e
+        (λ q e1. bind-refuses (part kind s) _ q e1
+        (λ q e2. asks-refuses 1 (carries kind s) _ q e2 one (λ e3. asks-refuses 2 (leb (headBytes + lengthField s) (length s)) _ q e3 two (λ e4. absurd (never (sym e4)))))
+        (λ a e2. questioned (p .questions (a .payload)) a q e2 (more (a .payload))))
+        (λ a e1. absurd (never (sym e1)));
+  }
+    where
+      questioned : (m : Answer Bool) (a : Part) (q : Refusal) → (m >> gives a) ≡ refuses q → ((r : Refusal) → m ≡ refuses r → P r) → P q
+      questioned (gives b) a q e h = absurd (never (sym e))
+      questioned (refuses r) a q e h = let same : r ≡ q = cc in subst P same (h r refl)
+
+  pub then-refuses : {A B : Type 0} (f : Format A) (g : A → Format B) → Refuses f → ((a : A) → Refuses (g a)) → Refuses (then f g)
+  then-refuses f g x y = record {
+    refused = λ s r e. bind-refuses (f .decode s) _ r e (x .refused s)
+        (λ p e1. bind-refuses (g (p .value) .decode (p .rest)) _ r e1 (y (p .value) .refused (p .rest)) (λ q e2. absurd (never (sym e2))));
+  }

@@ -8,6 +8,7 @@ pub mod ReadingFiles
 pub mod ReadingHead
 pub mod ReadingLoops
 pub mod ReadingMeasurements
+pub mod ReadingRefusals
 pub mod Records
 pub mod Splice
 pub mod Views

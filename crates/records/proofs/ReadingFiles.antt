@@ -10,7 +10,7 @@ use Rattle.answers.specs.Answer.{gives, _>>=_}
 use Rattle.records.specs.Records.{allYes, kindOpening, kindEdges, kindInputs, kindOutputs, kindMeasurements, kindLayers, kindSets}
 use Rattle.records.specs.Format.{front, plain, recordOf}
 use Rattle.records.specs.JobFile.{mostNodes, rises, openingAsks, edgesAsks, nodesAsks, measurementsAsks, Opening, opening, fromEdges, fromInputs, fromOutputs, lastRecord, jobFile, readJob}
-use Rattle.records.specs.FlowFile.{layersAsks, setsAsks, sets, flowFile, readFlow}
+use Rattle.records.specs.FlowFile.{eachAsks, setsAsks, sets, flowFile, readFlow}
 use Rattle.records.specs.Views.{PayloadAt, recordOfRead, RecordAt, startAt, restOf, recordBehind, placeOf, payloadOf, jobFrom, jobOfRead, openingBytes, JobReadInFile, flowFrom, flowOfRead, FlowReadInFile}
 use Rattle.records.specs.declared.reader.RecordRead.{RecordRead}
 use Rattle.records.specs.declared.reader.RecordRead.the-variants.{Payload, Refused as NoRecord}
@@ -77,13 +77,13 @@ module _ (s : List ℕ) where
 
   -- ---- a flow
   module _ (at n : ℕ) (l e : RecordRead)
-      (hl : recordOfRead s l ≡ recordBehind s (startAt at) kindLayers (layersAsks n))
+      (hl : recordOfRead s l ≡ recordBehind s (startAt at) kindLayers (eachAsks 1 n))
       (he : recordOfRead s e ≡ recordBehind s l kindSets (setsAsks n))
     where
       pub flow-steps : flowOfRead s (flowFrom l e) ≡ readFlow n (drop at s)
       unfolding readFlow
       flow-steps =
-          let h1 = step (recordOf kindLayers (plain (layersAsks n))) (λ l. recordOf kindSets (sets n)) (λ p. gives (flowFile p)) (readFlow n (drop at s)) (gives (drop at s)) (payloadOf s l) (restOf s l) refl (next-took s kindLayers (plain (layersAsks n)) (startAt at) l hl) in
+          let h1 = step (recordOf kindLayers (plain (eachAsks 1 n))) (λ l. recordOf kindSets (sets n)) (λ p. gives (flowFile p)) (readFlow n (drop at s)) (gives (drop at s)) (payloadOf s l) (restOf s l) refl (next-took s kindLayers (plain (eachAsks 1 n)) (startAt at) l hl) in
           let h2 = last-step (recordOf kindSets (sets n)) _ (readFlow n (drop at s)) (restOf s l) (sets n .value (payloadOf s e)) (restOf s e) h1 (next-took s kindSets (sets n) l e he) in
           sym (h2 ∙ by e)
         where

@@ -2,7 +2,8 @@
 use mathlib.Core.Path.{_≡_, refl, sym, ap, _∙_}
 use mathlib.Core.Bool.{Bool, true, false, _&&_, _||_}
 use mathlib.Core.List.{List, [], _∷_}
-use Prim.Native.Nat.{ℕ, _+_, _*_, _<_, _≤_, zero-le}
+use Prim.Native.Nat.{ℕ, _+_, _*_, _/_, _%_, _<_, _≤_, zero-le}
+use native.Mathlib.Nat.{div-add-mod, mul-mod-right, mul-div-cancel-left}
 use native.Mathlib.Numerals.{add-one}
 use native.Mathlib.Omega.{arith}
 use native.Mathlib.Decide.{ℕ-discrete}
@@ -27,6 +28,25 @@ rest-two l i h =
     let e : i + 1 + 1 ≡ i + 2 = omega arith in
     rest-cons l i (omega arith) ∙ ap (λ (t : List ℕ). getD l i 0 ∷ t) (rest-cons l (i + 1) (omega arith)) ∙ ap (λ (k : ℕ). getD l i 0 ∷ getD l (i + 1) 0 ∷ drop k l) e
 
+-- ---- a length of so many bytes for each node, by division
+pub width-none : (len n : ℕ) → eqb len 0 ≡ eqb len (0 * n)
+width-none len n = let e : 0 * n ≡ 0 = omega arith in rw e
+
+module _ (len width n : ℕ) where
+  pub width-not : (len % width ≡ 0 → ⊥) → false ≡ eqb len (width * n)
+  width-not h = sym (ne-eqb len (width * n) (λ e. h (rw e (mul-mod-right width n))))
+
+  pub width-divides : 0 < width → len % width ≡ 0 → eqb (len / width) n ≡ eqb len (width * n)
+  width-divides w h = by (ℕ-discrete (len / width) n)
+    where
+      whole : width * (len / width) ≡ len
+      whole = let e = div-add-mod len width in omega arith
+
+      by : Dec (len / width ≡ n) → eqb (len / width) n ≡ eqb len (width * n)
+      by (yes e) = eq-eqb (len / width) n e ∙ sym (eq-eqb len (width * n) (sym (ap (λ (k : ℕ). width * k) (sym e) ∙ whole)))
+      by (no d) = ne-eqb (len / width) n d ∙ sym (ne-eqb len (width * n) (λ e. d (ap (λ (k : ℕ). k / width) e ∙ mul-div-cancel-left n w)))
+
+-- ---- each byte
 module _ (f : ℕ → Bool) (l : List ℕ) (i : ℕ) where
   pub all-end : length l ≤ i → all f (drop i l) ≡ true
   unfolding all

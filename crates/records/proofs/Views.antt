@@ -115,6 +115,11 @@ module _ (s : List ℕ) where
   was-read kind questions (Payload x) r e h = refl
   was-read kind questions (NoRecord q) r e h = absurd (never (sym e ∙ ap (recordOfRead s) h))
 
+  -- of an optional record and of one of two kinds alike
+  pub branch-was-read : {A : Type 0} (f : Format A) (v : A) (read : RecordRead) (b : Branch) → Took f (restOf s read) v (restOf s (b .read)) → b .read ≡ Payload (placeOf (b .read)) → read ≡ Payload (placeOf read)
+  branch-was-read f v (Payload x) b e h = refl
+  branch-was-read f v (NoRecord q) b e h = absurd (never (sym e ∙ ap (λ (r : RecordRead). restOf s r >>= λ t. gives (front v t)) h))
+
   pub read-at : (at : ℕ) (r : RecordRead) → RecordAt s at r → r ≡ Payload (placeOf r) → PayloadAt s at (placeOf r)
   read-at at (Payload p) h e = h
   read-at at (NoRecord q) h e = absurd (never (ap (recordOfRead s) e))

@@ -1,5 +1,5 @@
 -- Reading a flow file: the records of layers and of sets, and the questions 8 and 9 that follow.
-use Prim.Native.Nat.{ℕ, zero, suc, _+_}
+use Prim.Native.Nat.{ℕ, zero, suc, _+_, _*_}
 use mathlib.Core.Bool.{Bool, true, false, cond, not, _&&_, _||_}
 use mathlib.Core.Option.{Option, none, some}
 use mathlib.Core.List.{List, [], _∷_, _++_}
@@ -52,8 +52,9 @@ entriesRise low [] = true
 entriesRise low (e ∷ es) = leb low (e .node) && rises 0 (e .set) && entriesRise (e .node + 1) es
 
 -- ---- the questions of each record
-unfoldable pub layersAsks : ℕ → List ℕ → Answer Bool
-layersAsks n p = asks 3 (eqb (length p) n)
+-- so many bytes for each of n nodes, and nothing more is asked
+unfoldable pub eachAsks : (width n : ℕ) → List ℕ → Answer Bool
+eachAsks width n p = asks 3 (eqb (length p) (width * n))
 
 unfoldable pub setsAsks : ℕ → List ℕ → Answer Bool
 setsAsks n p = do
@@ -80,13 +81,16 @@ sets n = record {
   value = λ p. listed (entriesOf p);
 }
 
-abbrev pub flow : ℕ → Format (List ℕ × List SetEntry)
-flow n = then (recordOf kindLayers (plain (layersAsks n))) (λ l. recordOf kindSets (sets n))
+abbrev pub FlowValue : Type 0
+FlowValue = List ℕ × List SetEntry
 
-abbrev pub flowFile : Front (List ℕ × List SetEntry) → FlowFile
+abbrev pub flow : ℕ → Format FlowValue
+flow n = then (recordOf kindLayers (plain (eachAsks 1 n))) (λ l. recordOf kindSets (sets n))
+
+abbrev pub flowFile : Front FlowValue → FlowFile
 flowFile p = record { layers = p .value .0; sets = p .value .1; after = p .rest }
 
-abbrev pub flowValue : FlowFile → List ℕ × List SetEntry
+abbrev pub flowValue : FlowFile → FlowValue
 flowValue g = (g .layers, g .sets)
 
 unfoldable pub readFlow : ℕ → List ℕ → Answer FlowFile

@@ -11,7 +11,7 @@ use Rattle.answers.specs.Refusals.{refusalOf}
 use Rattle.records.specs.Records.{carries, Part, allYes, checked, headBytes}
 use Rattle.records.specs.Format.{Front, front, plain, recordOf, optional}
 use Rattle.records.specs.JobFile.{JobFile, mostNodes, openingAsks, edgesAsks, nodesAsks, measurementsAsks}
-use Rattle.records.specs.FlowFile.{FlowFile, entriesOf, listed, layersAsks, setsAsks}
+use Rattle.records.specs.FlowFile.{FlowFile, entriesOf, listed, eachAsks, setsAsks}
 use Rattle.records.specs.declared.common.Place.{Place}
 use Rattle.records.specs.declared.common.JobPlaces.{JobPlaces}
 use Rattle.records.specs.declared.common.JobRead.{JobRead}
@@ -22,7 +22,7 @@ use Rattle.records.specs.declared.common.FlowRead.the-variants.{Flow, Re
 use Rattle.records.specs.declared.questions.Checked.{Checked}
 use Rattle.records.specs.declared.questions.Checked.the-variants.{Passed, Refused as NotPassed}
 use Rattle.records.specs.declared.questions.Questions.{Questions}
-use Rattle.records.specs.declared.questions.Questions.the-variants.{Opening, Edges, Nodes, Measurements, Layers, Sets}
+use Rattle.records.specs.declared.questions.Questions.the-variants.{Opening, Edges, Nodes, Measurements, Each, Sets}
 use Rattle.records.specs.declared.reader.RecordRead.{RecordRead}
 use Rattle.records.specs.declared.reader.RecordRead.the-variants.{Payload, Refused as NoRecord}
 use Rattle.records.specs.declared.reader.Branch.{Branch}
@@ -56,7 +56,7 @@ asksOf s Opening = openingAsks
 asksOf s (Edges n) = edgesAsks n
 asksOf s (Nodes n) = nodesAsks n
 asksOf s (Measurements n mode outputs) = measurementsAsks n mode (has (bytesAt outputs s))
-asksOf s (Layers n) = layersAsks n
+asksOf s (Each width n) = eachAsks width n
 asksOf s (Sets n) = setsAsks n
 
 -- what has been asked before: the measurements come after the outputs
@@ -65,7 +65,7 @@ Granted s Opening = Unit
 Granted s (Edges n) = Unit
 Granted s (Nodes n) = Unit
 Granted s (Measurements n mode outputs) = (n ≤ mostNodes) × (allYes (nodesAsks n (bytesAt outputs s)) ≡ true)
-Granted s (Layers n) = Unit
+Granted s (Each width n) = Unit
 Granted s (Sets n) = Unit
 
 -- ---- one record
@@ -111,6 +111,14 @@ optionalOfRead s b = restOf s (b .read) >>= λ t. gives (front (someIf (b .taken
 
 abbrev pub optionalBehind : List ℕ → RecordRead → ℕ → (List ℕ → Answer Bool) → Answer (Front (Option (List ℕ)))
 optionalBehind s read kind questions = restOf s read >>= optional kind (recordOf kind (plain questions)) .decode
+
+-- its place: that of a record, or an empty one where it would start
+abbrev pub EmptyAt : (at : ℕ) → RecordRead → Type 0
+EmptyAt at (Payload p) = p ≡ record { start = at; end = at }
+EmptyAt at (NoRecord q) = Unit
+
+abbrev pub OptionalAt : List ℕ → (at : ℕ) → Branch → Type 0
+OptionalAt s at b = cond (b .taken) (RecordAt s at (b .read)) (EmptyAt at (b .read))
 
 -- ---- a record of one of two kinds: whether it is the second, and its payload
 abbrev pub choiceOfRead : List ℕ → Branch → Answer (Front (Bool × List ℕ))

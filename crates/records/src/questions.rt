@@ -1,7 +1,7 @@
 // Questions 3 to 7 of document 01, and 9, each of a whole payload; and those of each record in order.
 ghost use mathlib.Core.Path.{_≡_};
 ghost use mathlib.Core.Bool.{true};
-ghost use Prim.Native.Nat.{_%_, _≤_};
+ghost use Prim.Native.Nat.{_*_, _%_, _≤_};
 ghost use lib.Dec.{eqb, ltb};
 ghost use lib.ListN.{length, getD};
 ghost use Rattle.nodes.specs.Options.{isSome};
@@ -9,7 +9,7 @@ ghost use Rattle.nodes.specs.Lists.{has, all};
 ghost use Rattle.nodes.specs.Row.{count};
 ghost use Rattle.records.specs.Records.{allYes};
 ghost use Rattle.records.specs.JobFile.{mostNodes, rises, pairsRise, highestOf, allAllowed, openingAllowed, openingAsks, edgesAsks, nodesAsks, measurementsAsks};
-ghost use Rattle.records.specs.FlowFile.{entriesOf, listed, allEntries, entryBelow, entriesRise, layersAsks, setsAsks};
+ghost use Rattle.records.specs.FlowFile.{entriesOf, listed, allEntries, entryBelow, entriesRise, eachAsks, setsAsks};
 ghost use Rattle.records.specs.Views.{checkedOf, asksOf, Granted};
 use crate::common::ENTRY_HEAD_BYTES;
 use crate::common::MODE_CAUSAL;
@@ -30,13 +30,14 @@ pub(crate) enum Checked {
     Refused(Refusal),
 }
 
-// The payloads by their questions, with what these are about: the number of nodes, the mode and the outputs.
+// The payloads by their questions, with what these are about: the number of nodes, the mode and the outputs; of those that have
+// so many bytes for each node and nothing more to ask, the number of bytes.
 pub(crate) enum Questions {
     Opening,
     Edges(usize),
     Nodes(usize),
     Measurements(usize, u8, Place),
-    Layers(usize),
+    Each(usize, usize),
     Sets(usize),
 }
 
@@ -319,10 +320,23 @@ fn ask_measurements(measurements: &[u8], n: usize, mode: u8, outputs: &[u8]) -> 
     Checked::Passed
 }
 
-fn ask_layers(layers: &[u8], n: usize) -> Checked
-    ensures { λ r. ⌜ checkedOf r ≡ layersAsks n (now (layers .entry)) ⌝ }
+// Are there so many bytes for each of n nodes?
+fn length_is(len: usize, width: usize, n: usize) -> bool
+    ensures { λ r. ⌜ r ≡ eqb len (width * n) ⌝ }
 {
-    if layers.len() != n {
+    if width == 0 {
+        return len == 0;
+    }
+    if len % width != 0 {
+        return false;
+    }
+    len / width == n
+}
+
+fn ask_each(bytes: &[u8], width: usize, n: usize) -> Checked
+    ensures { λ r. ⌜ checkedOf r ≡ eachAsks width n (now (bytes .entry)) ⌝ }
+{
+    if !length_is(bytes.len(), width, n) {
         return Checked::Refused(Refusal::WRONG_LENGTH);
     }
     Checked::Passed
@@ -355,7 +369,7 @@ pub(crate) fn ask(file: &[u8], questions: Questions, bytes: &[u8]) -> Checked
         Questions::Measurements(n, mode, outputs) => {
             ask_measurements(bytes, n, mode, payload(file, outputs))
         }
-        Questions::Layers(n) => ask_layers(bytes, n),
+        Questions::Each(width, n) => ask_each(bytes, width, n),
         Questions::Sets(n) => ask_sets(bytes, n),
     }
 }

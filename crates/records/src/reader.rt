@@ -9,7 +9,7 @@ ghost use Rattle.nodes.specs.Lists.{has};
 ghost use Rattle.records.specs.Records.{carries, lengthField, kindField, headBytes, part, checked};
 ghost use Rattle.records.specs.JobFile.{readJob};
 ghost use Rattle.records.specs.FlowFile.{readFlow};
-ghost use Rattle.records.specs.Views.{asksOf, Granted, recordOfRead, recordBehind, startAt, placeOf, RecordAt, optionalOfRead, optionalBehind, choiceOfRead, choiceBehind, jobFrom, jobOfRead, JobReadInFile, flowFrom, flowOfRead, FlowReadInFile};
+ghost use Rattle.records.specs.Views.{asksOf, Granted, recordOfRead, recordBehind, startAt, placeOf, RecordAt, optionalOfRead, optionalBehind, OptionalAt, choiceOfRead, choiceBehind, jobFrom, jobOfRead, JobReadInFile, flowFrom, flowOfRead, FlowReadInFile};
 use crate::common::FlowPlaces;
 use crate::common::FlowRead;
 use crate::common::HEAD_BYTES;
@@ -142,6 +142,7 @@ fn next(file: &[u8], read: RecordRead, kind: u16, questions: Questions) -> Recor
 fn optional(file: &[u8], read: RecordRead, kind: u16, questions: Questions) -> Branch
     requires { ⌜ Granted (now file) questions ⌝ }
     ensures { λ r. ⌜ optionalOfRead (now (file .entry)) r ≡ optionalBehind (now (file .entry)) read kind (asksOf (now (file .entry)) questions) ⌝ }
+    ensures { λ r. ⌜ OptionalAt (now (file .entry)) (placeOf read .end) r ⌝ }
 {
     match read {
         RecordRead::Payload(place) => {
@@ -175,6 +176,7 @@ fn choice(
 ) -> Branch
     requires { ⌜ Granted (now file) questions × Granted (now file) others ⌝ }
     ensures { λ r. ⌜ choiceOfRead (now (file .entry)) r ≡ choiceBehind (now (file .entry)) read first (asksOf (now (file .entry)) questions) second (asksOf (now (file .entry)) others) ⌝ }
+    ensures { λ r. ⌜ RecordAt (now (file .entry)) (placeOf read .end) (r .read) ⌝ }
 {
     match read {
         RecordRead::Payload(place) => {
@@ -268,7 +270,7 @@ pub fn read_flow(file: &[u8], at: usize, n: usize) -> FlowRead
     ensures { λ r. ⌜ flowOfRead (now (file .entry)) r ≡ readFlow n (drop at (now (file .entry))) ⌝ }
     ensures { λ r. ⌜ FlowReadInFile (now (file .entry)) at r ⌝ }
 {
-    let layers = next(file, start(at), KIND_LAYERS, Questions::Layers(n));
+    let layers = next(file, start(at), KIND_LAYERS, Questions::Each(1, n));
     let sets = next(file, layers, KIND_SETS, Questions::Sets(n));
     flow_from(layers, sets)
 }

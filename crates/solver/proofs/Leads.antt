@@ -40,11 +40,11 @@ module _ (m : ℕ → ℕ → Bool) (n : ℕ) (d : ℕ → Bool) where
 
   pub leads-more : (i k : ℕ) → leads (i + 1) n m d k ≡ leads i n m d k || (ltb k n && (d i && eqb (lead m n i) k))
   unfolding anyBelow
-  leads-more i k = rw (add-one i) (spread (ltb k n) (d i && eqb (lead m n i) k) (anyBelow i (λ q. d q && eqb (lead m n q) k)))
+  leads-more i k = rw (add-one i) (distribute (ltb k n) (d i && eqb (lead m n i) k) (anyBelow i (λ q. d q && eqb (lead m n q) k)))
     where
-      spread : (a b c : Bool) → a && (b || c) ≡ (a && c) || (a && b)
-      spread true b c = or-comm b c
-      spread false b c = refl
+      distribute : (a b c : Bool) → a && (b || c) ≡ (a && c) || (a && b)
+      distribute true b c = or-comm b c
+      distribute false b c = refl
 
   -- a row that asks for nothing, one that does not begin, and one that does
   leads-skip : (i k : ℕ) → d i ≡ false → leads i n m d k ≡ leads (i + 1) n m d k

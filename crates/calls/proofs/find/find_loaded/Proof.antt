@@ -1,90 +1,103 @@
+use Prim.Native.Nat.{ℕ, _≤_}
+use mathlib.Core.Path.{_≡_, refl, sym, ap, ap₂, _∙_}
+use mathlib.Core.List.{List}
+use native.Mathlib.Omega.{arith}
+use lib.ListN.{length, replicate, length-replicate}
+use Rattle.nodes.specs.Row.{allBelow}
+use Rattle.nodes.specs.NodeSet.{member, capacity}
+use Rattle.nodes.specs.SetTable.{tableWords}
+use Rattle.nodes.specs.Lists.{zeros}
+use Rattle.solver.specs.Solver.{workBytes}
+use Rattle.flows.specs.Search.{Progress}
+use Rattle.finder.specs.Searches.{SearchOutcome, searchOf, searched}
+use Rattle.records.specs.Splice.{putFront, putAnswer}
+use Rattle.calls.specs.Replies.{recordsFor}
+use Rattle.calls.proofs.Finding.{put-is, told-flow, told-none, told-right, progressOf, search-goes, flow-written, none-written}
+use borrow.Author.Needs.{needs}
 use Rattle.calls.proofs.find.find_loaded.Statement.{statement}
 use Rattle.calls.proofs.find.find_loaded.Tie as tie
-use Rattle.calls.proofs.find.find_loaded.Reads as reads
-use Rattle.calls.proofs.find.find_loaded.Lts as lts
-use Rattle.calls.proofs.find.search.Reads as search-reads
-use Rattle.calls.proofs.find.write_found.Reads as write-found-reads
-use Rattle.calls.proofs.write_bare.Reads as write-bare-reads
 
--- src/find.rt:95:9
+-- what the search left
+left : (c : tie.After-sets2) → let s = c .before .before .before .before .before .before .before .before .before .before .before .before .before in
+    let r = c .before .before .before .before .search in
+    _≡_ {A = SearchOutcome} (record { answer = searchOf (r .result); work = r .last .1 .1 .1 .1 .1 .1 .0; layers = r .last .1 .1 .1 .1 .1 .1 .1 .0; sets = r .last .1 .1 .1 .1 .1 .1 .1 .1 .0 })
+    (searched (s .args .job .n) (progressOf (s .args .job .n) (s .args .job .mode) (s .args .graph .now) (s .args .measured .now) (s .args .job .inputs) (s .args .job .outputs)))
+left c =
+    let s = c .before .before .before .before .before .before .before .before .before .before .before .before .before in
+    let a = s .args in
+    c .before .before .before .before .search .ensures
+    ∙ search-goes (a .job .n) (a .job .mode) (a .graph .now) (a .measured .now) (a .job .inputs) (a .job .outputs) (a .work .now) (zeros capacity) (zeros tableWords) (s .pre .0 .0) (s .pre .0 .2)
+    (s .pre .0 .1, s .pre .0 .3, length-replicate {A = ℕ} capacity 0, length-replicate {A = ℕ} tableWords 0) (s .pre .1)
+
 slice-aggregate-search : tie.Need-slice-aggregate-search
-slice-aggregate-search c = ?
+slice-aggregate-search c = search needs
 
--- src/find.rt:96:9
 slice-aggregate-search-2 : tie.Need-slice-aggregate-search-2
-slice-aggregate-search-2 c = ?
+slice-aggregate-search-2 c = search needs
 
--- src/find.rt:87:11
 search-requires : tie.Need-search-requires
-search-requires c κs = ?
+search-requires c κs = search needs
 
--- src/find.rt:98:49
 enum-told : tie.Need-enum-told
-enum-told c = ?
+enum-told c = search needs
 
--- src/find.rt:98:49
 slice-aggregate-write-found : tie.Need-slice-aggregate-write-found
-slice-aggregate-write-found c = ?
+slice-aggregate-write-found c = search needs
 
--- src/find.rt:98:58
 slice-aggregate-write-found-2 : tie.Need-slice-aggregate-write-found-2
-slice-aggregate-write-found-2 c = ?
+slice-aggregate-write-found-2 c = search needs
 
--- src/find.rt:98:25
 write-found-requires : tie.Need-write-found-requires
-write-found-requires c κs = ?
+write-found-requires c κs = let s = c .before .before .before .before .before .before .before .before .before .before .before .before .before .before .before .before .before .before in
+    let size : length (c .before .before .before .before .before .before .before .before .before .search .last .1 .1 .1 .1 .1 .1 .1 .0) ≡ capacity = search needs in
+    omega (arith, s .pre .0 .0, size)
 
--- src/find.rt:99:38
 enum-told-2 : tie.Need-enum-told-2
-enum-told-2 c = ?
+enum-told-2 c = search needs
 
--- src/find.rt:99:27
 write-bare-requires : tie.Need-write-bare-requires
-write-bare-requires c κs = ?
+write-bare-requires c κs = search needs
 
--- src/find.rt:101:46
-enum-told-3 : tie.Need-enum-told-3
-enum-told-3 c = ?
+enum-known-q : tie.Need-enum-known-q
+enum-known-q c = search needs
 
--- src/find.rt:101:35
-write-bare-requires-2 : tie.Need-write-bare-requires-2
-write-bare-requires-2 c κs = ?
-
--- src/find.rt:72:1
 same-length : tie.Need-same-length
-same-length c = ?
+same-length c = search needs
 
--- src/find.rt:72:1
 same-length-2 : tie.Need-same-length-2
-same-length-2 c = ?
+same-length-2 c = search needs
 
--- src/find.rt:72:1
 returns : tie.Need-returns
-returns c = ?
+returns c = let s = c .before .before .before .before .before .before .before .before .before .before .before .before .before .before .before .before .before .before .before .before .before in
+    let a = s .args in
+    let e = left (c .before .before .before .before .before .before .before .before) in
+    let told = told-flow _ _ (ap (λ (o : SearchOutcome). o .answer) e) (c .before .before .before .before .before .before .enum-told .given .1) in
+    let wrote = c .before .before .write-found in
+    let bytes =
+    ap₂ (λ (l t : List ℕ). recordsFor (a .job .n) (member (a .job .outputs)) l t) (ap (λ (o : SearchOutcome). o .layers) e) (ap (λ (o : SearchOutcome). o .sets) e)
+    ∙ flow-written (a .job .n) (a .job .mode) (a .graph .now) (a .measured .now) (a .job .inputs) (a .job .outputs) (s .pre .0 .0) told in
+    put-is _ (a .out .now) _ _ (zeros workBytes) _ (wrote .ensures .0 ∙ ap (λ (b : List ℕ). putAnswer b (a .out .now)) bytes) (wrote .ensures .1 ∙ ap (λ (b : List ℕ). putFront b (a .out .now)) bytes) (ap (λ (o : SearchOutcome). o .work) e)
 
--- src/find.rt:72:1
 same-length-3 : tie.Need-same-length-3
-same-length-3 c = ?
+same-length-3 c = search needs
 
--- src/find.rt:72:1
 same-length-4 : tie.Need-same-length-4
-same-length-4 c = ?
+same-length-4 c = search needs
 
--- src/find.rt:72:1
 returns-2 : tie.Need-returns-2
-returns-2 c = ?
+returns-2 c = let s = c .before .before .before .before .before .before .before .before .before .before .before .before .before .before .before .before .before .before .before in
+    let a = s .args in
+    let e = left (c .before .before .before .before .before .before) in
+    let told = told-none _ _ (ap (λ (o : SearchOutcome). o .answer) e) (c .before .before .before .before .enum-told2 .given .1) in
+    let wrote = c .before .before .write-bare in
+    let bytes = none-written (a .job .n) (a .job .mode) (a .graph .now) (a .measured .now) (a .job .inputs) (a .job .outputs) told in
+    put-is _ (a .out .now) _ _ (zeros workBytes) _ (wrote .ensures .0 ∙ ap (λ (b : List ℕ). putAnswer b (a .out .now)) bytes) (wrote .ensures .1 ∙ ap (λ (b : List ℕ). putFront b (a .out .now)) bytes) (ap (λ (o : SearchOutcome). o .work) e)
 
--- src/find.rt:72:1
 same-length-5 : tie.Need-same-length-5
-same-length-5 c = ?
+same-length-5 c = search needs
 
--- src/find.rt:72:1
-same-length-6 : tie.Need-same-length-6
-same-length-6 c = ?
-
--- src/find.rt:72:1
 returns-3 : tie.Need-returns-3
-returns-3 c = ?
+returns-3 c = absurd (told-right _ _ (ap (λ (o : SearchOutcome). o .answer) (left (c .before .before .before))) _ (c .before .q .given .1))
 
 pub find-loaded-spec : {M : Type 1} → statement M
 find-loaded-spec =
@@ -99,8 +112,7 @@ find-loaded-spec =
     write-found-requires
     enum-told-2
     write-bare-requires
-    enum-told-3
-    write-bare-requires-2
+    enum-known-q
     same-length
     same-length-2
     returns
@@ -108,5 +120,4 @@ find-loaded-spec =
     same-length-4
     returns-2
     same-length-5
-    same-length-6
     returns-3)

@@ -2,6 +2,7 @@ use Prim.Native.Nat.{_-_}
 use mathlib.Core.Path.{sym, _∙_}
 use native.Mathlib.Omega.{arith}
 use borrow.Author.Tests.{eq-eqb, ne-eqb, not-true, not-false}
+use Rattle.solver.specs.Solver.{workBytes}
 use borrow.Author.Needs.{needs}
 use lib.ListN.{length, length-drop}
 use Rattle.records.specs.Views.{jobAt}
@@ -39,10 +40,10 @@ returns-3 c = let a = c .before .before .before .before .before .before .before 
     let inside = c .before .before .before .before .before .before .before .before .pre .1 .measurements .1 in
     let left = length-drop (a .job .measurements .end) s in
     let none = eq-eqb (length (f .after)) 0 (omega (arith, left)) in
-    find-size s (a .work .now) (a .out .now) f read none (sym (c .before .before .has-search .ensures) ∙ not-false _ (c .before .if2 .left)) (ne-eqb (length (a .work .now)) 2048 (omega arith))
+    find-size s (a .work .now) (a .out .now) f read none (sym (c .before .before .has-search .ensures) ∙ not-false _ (c .before .if2 .left)) (ne-eqb (length (a .work .now)) workBytes (omega arith))
 
 find-job-requires : tie.Need-find-job-requires
-find-job-requires c κs = ((c .before .before .before .before .before .before .before .before .before .before .pre .0, c .before .before .before .before .before .before .before .before .before .before .pre .1), (sym (c .before .before .before .before .has-search .ensures) ∙ not-false _ (c .before .before .before .if2 .left), omega arith))
+find-job-requires c κs = ((c .before .before .before .before .before .before .before .before .before .before .pre .0, c .before .before .before .before .before .before .before .before .before .before .pre .1), omega arith)
 
 same-length : tie.Need-same-length
 same-length c = search needs

@@ -1,5 +1,5 @@
 use Prim.Native.Nat.{_-_, _≤_}
-use mathlib.Core.Path.{_≡_}
+use mathlib.Core.Path.{_≡_, refl}
 use native.Mathlib.Omega.{arith}
 use lib.ListN.{length}
 use Rattle.calls.proofs.Loaded.{FirstIn, first-none, first-more, first-all}
@@ -17,7 +17,7 @@ abbrev μ-loop : tie.MeasureT-loop
 
 -- src/load.rt:109:5
 loop-holds : tie.Need-loop-holds Inv-loop μ-loop
-loop-holds c = search needs
+loop-holds c = (search needs, refl, first-none (c .args .bytes .now) (c .args .to .now) (c .pre .1))
 
 -- src/load.rt:110:17
 shared-slice-read-to : tie.Need-shared-slice-read-to Inv-loop μ-loop
@@ -37,7 +37,9 @@ loop-less c = search needs
 
 -- src/load.rt:109:5
 loop-again : tie.Need-loop-again Inv-loop μ-loop
-loop-again c = search needs
+loop-again c = let l = c .before .before .loop in
+    let a = c .before .before .before .args in
+    (search needs, search needs, first-more (a .bytes .now) (l .to) (l .i) (omega (arith, l .inv .1, c .before .before .before .pre .0)) (l .inv .2))
 
 -- src/load.rt:104:1
 same-length : tie.Need-same-length Inv-loop μ-loop
@@ -45,7 +47,9 @@ same-length c = search needs
 
 -- src/load.rt:104:1
 returns : tie.Need-returns Inv-loop μ-loop
-returns c = search needs
+returns c = let l = c .before .loop in
+    let a = c .before .before .args in
+    first-all (a .bytes .now) (l .to) (l .i) (omega arith) (l .inv .2)
 
 pub load-bytes-spec : {M : Type 1} → statement M
 load-bytes-spec =

@@ -12,7 +12,7 @@ use Rattle.nodes.specs.Lists.{has}
 use Rattle.nodes.specs.Options.{isSome}
 use Rattle.records.specs.FlowFile.{entriesOf, listed, allEntries, entryBelow, setIn, entryIn}
 use Rattle.records.specs.Views.{between}
-use Rattle.records.proofs.ReadingEntries.{two-more, fits, isSome-next}
+use Rattle.records.proofs.ReadingEntries.{two-more, fits, framed-next}
 use Rattle.records.proofs.JobFile.{has-small}
 use Rattle.calls.proofs.LoadingEdges.{cleared}
 use Rattle.calls.proofs.LoadingTables.{set-end, entry-end, set-more, entry-more, below-out}
@@ -135,7 +135,7 @@ loop-again c = let l = c .before .before .before .before .before .before .before
     let few : (k : ℕ) → member (s .set-of .result) k ≡ has (between (l .i + 2) j p) k = λ k. ap (λ (f : ℕ → Bool). f k) (s .set-of .ensures) ∙ has-small capacity (between (l .i + 2) j p) (omega arith) b k in (
       omega arith,
       search needs,
-      sym (isSome-next p (l .i) j e (omega arith)) ∙ l .inv .2,
+      sym (framed-next p (l .i) j e (omega arith)) ∙ l .inv .2,
       d,
       (λ u v. l .inv .4 u v ∙ set-more p (l .i) j e (omega arith) (l .inv .2) u v (setAt (l .table) u v)
           ∙ ap (λ (t : Bool). t || setIn (listed (entriesOf (drop j p))) u v)

@@ -1,55 +1,68 @@
+use mathlib.Core.Path.{_≡_, ap, sym, _∙_, fun-ext}
+use mathlib.Core.Bool.{Bool, false, _&&_}
+use Prim.Native.Nat.{ℕ}
+use borrow.Author.Tests.{eq-eqb, ne-eqb}
+use lib.Dec.{eqb, leb}
+use lib.ListN.{getD}
+use Rattle.nodes.proofs.Logic.{and-none}
+use Rattle.records.specs.JobFile.{modePauli}
+use Rattle.flows.specs.Job.{isXorY, isYorZ, pauliY}
+use Rattle.calls.specs.Loaded.{within}
+use Rattle.calls.proofs.AskingDefinition.{range-cut, two-of, one-of}
 use borrow.Author.Needs.{needs}
 use Rattle.calls.proofs.pflow.excused_by.Statement.{statement}
 use Rattle.calls.proofs.pflow.excused_by.Tie as tie
-use Rattle.calls.proofs.pflow.excused_by.Reads as reads
-use Rattle.calls.proofs.pflow.excused_by.Lts as lts
-use Rattle.calls.proofs.validate.nodes_from.Reads as nodes-from-reads
-use Rattle.nodes.proofs.utils.NodeSet.difference.Reads as difference-reads
-use Rattle.nodes.proofs.utils.NodeSet.empty.Reads as empty-reads
 
--- src/pflow.rt:42:13
 empty-requires : tie.Need-empty-requires
 empty-requires c κs = search needs
 
--- src/pflow.rt:43:9
 returns : tie.Need-returns
-returns c = search needs
+returns c = let a = c .before .before .before .args in
+    let other = ne-eqb (a .mode) modePauli (c .before .if1 .taken) in
+    record {
+      members = c .empty .ensures ∙ fun-ext (λ v. sym (rw other (and-none (within (a .n) v))));
+      odds = c .empty .ensures ∙ fun-ext (λ v. sym (rw other (and-none (within (a .n) v))));
+      ys = c .empty .ensures ∙ fun-ext (λ v. sym (rw other (and-none (within (a .n) v))));
+    }
 
--- src/pflow.rt:49:9
 nodes-from-requires : tie.Need-nodes-from-requires
 nodes-from-requires c κs = search needs
 
--- src/pflow.rt:50:9
 nodes-from-requires-2 : tie.Need-nodes-from-requires-2
 nodes-from-requires-2 c κs = search needs
 
--- src/pflow.rt:51:9
 nodes-from-requires-3 : tie.Need-nodes-from-requires-3
 nodes-from-requires-3 c κs = search needs
 
--- src/pflow.rt:52:40
 add-nodes-from : tie.Need-add-nodes-from
 add-nodes-from c = search needs
 
--- src/pflow.rt:52:9
 nodes-from-requires-4 : tie.Need-nodes-from-requires-4
 nodes-from-requires-4 c κs = search needs
 
--- src/pflow.rt:54:18
 difference-requires : tie.Need-difference-requires
 difference-requires c κs = search needs
 
--- src/pflow.rt:55:15
 difference-requires-2 : tie.Need-difference-requires-2
 difference-requires-2 c κs = search needs
 
--- src/pflow.rt:56:13
 difference-requires-3 : tie.Need-difference-requires-3
 difference-requires-3 c κs = search needs
 
--- src/pflow.rt:37:1
 returns-2 : tie.Need-returns-2
-returns-2 c = search needs
+returns-2 c = let b = c .before in
+    let d = b .before in
+    let p = d .before in
+    let z = p .before in
+    let y = z .before in
+    let x = y .before in
+    let a = x .before .before .before .args in
+    let here = eq-eqb (a .mode) modePauli (x .before .if1 .left) in
+    record {
+      members = d .difference .ensures ∙ fun-ext (λ v. rw (here, x .nodes-from .ensures, z .nodes-from3 .ensures) (range-cut (within (a .n) v) (leb 4 (getD (a .measured .now) v 0)) (leb 6 (getD (a .measured .now) v 0)) ∙ ap (λ (t : Bool). within (a .n) v && t) (two-of 4 (getD (a .measured .now) v 0))));
+      odds = b .difference2 .ensures ∙ fun-ext (λ v. rw (here, y .nodes-from2 .ensures, p .nodes-from4 .ensures) (range-cut (within (a .n) v) (leb 5 (getD (a .measured .now) v 0)) (leb 7 (getD (a .measured .now) v 0)) ∙ ap (λ (t : Bool). within (a .n) v && t) (two-of 5 (getD (a .measured .now) v 0))));
+      ys = c .difference3 .ensures ∙ fun-ext (λ v. rw (here, y .nodes-from2 .ensures, z .nodes-from3 .ensures) (range-cut (within (a .n) v) (leb 5 (getD (a .measured .now) v 0)) (leb 6 (getD (a .measured .now) v 0)) ∙ ap (λ (t : Bool). within (a .n) v && t) (one-of 5 (getD (a .measured .now) v 0))));
+    }
 
 pub excused-by-spec : {M : Type 1} → statement M
 excused-by-spec =

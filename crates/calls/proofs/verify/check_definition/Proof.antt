@@ -1,25 +1,26 @@
+use mathlib.Core.Path.{_≡_, sym, ap, _∙_}
+use borrow.Author.Tests.{ne-eqb}
+use Rattle.records.specs.JobFile.{modeCausal}
+use Rattle.verdicts.specs.Verdict.{nodeAsk, causalAsk, checkDefinition}
+use Rattle.calls.specs.Loaded.{jobLoaded, flowIn}
+use borrow.Author.Needs.{needs}
 use Rattle.calls.proofs.verify.check_definition.Statement.{statement}
 use Rattle.calls.proofs.verify.check_definition.Tie as tie
-use Rattle.calls.proofs.verify.check_definition.Reads as reads
-use Rattle.calls.proofs.verify.check_definition.Lts as lts
-use Rattle.calls.proofs.flow.check_definition.Reads as flow-check-definition-reads
-use Rattle.calls.proofs.pflow.check_definition.Reads as pflow-check-definition-reads
 
--- src/verify.rt:58:9
 check-definition-requires : tie.Need-check-definition-requires
-check-definition-requires c κs = ?
+check-definition-requires c κs = search needs
 
--- src/verify.rt:58:9
 returns : tie.Need-returns
-returns c = ?
+unfolding nodeAsk causalAsk
+returns c = let s = c .before .before .before .before .before .before .before in
+    c .check-definition .ensures ∙ ap (checkDefinition (jobLoaded (s .args .job) (s .args .graph .now) (s .args .measured .now)) (flowIn (s .args .layers .now) (s .args .entries) (s .args .sets .now))) (sym (c .before .if1 .taken))
 
--- src/verify.rt:60:5
 check-definition-requires-2 : tie.Need-check-definition-requires-2
-check-definition-requires-2 c κs = ?
+check-definition-requires-2 c κs = let s = c .before .before .before .before .before .before in (s .pre, ne-eqb (s .args .job .mode) modeCausal (c .if1 .left))
 
--- src/verify.rt:43:1
 returns-2 : tie.Need-returns-2
-returns-2 c = ?
+unfolding nodeAsk causalAsk
+returns-2 c = c .check-definition2 .ensures
 
 pub check-definition-spec : {M : Type 1} → statement M
 check-definition-spec =

@@ -1,28 +1,27 @@
 use mathlib.Core.Path.{_≡_, sym, ap, _∙_}
 use Rattle.flows.specs.Job.{Job}
-use Rattle.finder.specs.Searches.{jobIn}
 use Rattle.records.specs.FlowFile.{Flow}
-use Rattle.verdicts.specs.Verdict.{nodeAsk, causalAsk, checkDefinition, verify}
-use Rattle.calls.specs.Loaded.{flowIn, askedOf}
-use Rattle.calls.proofs.AskingDefinition.{verify-domain, verify-initial, verify-definition, planes-mode}
+use Rattle.verdicts.specs.Verdict.{checkDefinition, verify}
+use Rattle.calls.specs.Loaded.{jobLoaded, flowIn, askedOf}
+use Rattle.calls.proofs.AskingDefinition.{verify-domain, verify-initial, verify-definition}
 use borrow.Author.Needs.{needs}
 use Rattle.calls.proofs.verify.verify_loaded.Statement.{statement}
 use Rattle.calls.proofs.verify.verify_loaded.Tie as tie
 
 abbrev G : tie.Start → Job
-G s = jobIn (s .args .n) (s .args .graph .now) (s .args .inputs) (s .args .outputs) (s .args .measured .now)
+G s = jobLoaded (s .args .job) (s .args .graph .now) (s .args .measured .now)
 
 abbrev F : tie.Start → Flow
 F s = flowIn (s .args .layers .now) (s .args .entries) (s .args .sets .now)
 
 -- domain and layers are passed: the definition is left
-left : (c : tie.After-enum-told3) → let s = c .before .before .before .before .before .before .before .before .before .before in verify (G s) (F s) (s .args .mode) ≡ checkDefinition (G s) (F s) (s .args .mode)
+left : (c : tie.After-enum-told3) → let s = c .before .before .before .before .before .before .before .before .before .before .before in verify (G s) (F s) (s .args .job .mode) ≡ checkDefinition (G s) (F s) (s .args .job .mode)
 left c =
     let b = c .before .before in
     let t = b .before in
     let a = t .before .before in
-    let s = a .before .before .before .before .before in
-    verify-definition (G s) (F s) (s .args .mode) (sym (a .check-domain .ensures) ∙ ap askedOf (t .enum-told .given .1)) (sym (b .check-initial .ensures) ∙ ap askedOf (c .enum-told3 .given .1))
+    let s = a .before .before .before .before .before .before in
+    verify-definition (G s) (F s) (s .args .job .mode) (sym (a .check-domain .ensures) ∙ ap askedOf (t .enum-told .given .1)) (sym (b .check-initial .ensures) ∙ ap askedOf (c .enum-told3 .given .1))
 
 check-domain-requires : tie.Need-check-domain-requires
 check-domain-requires c κs = search needs
@@ -35,9 +34,9 @@ enum-told-2 c = search needs
 
 returns : tie.Need-returns
 returns c = let a = c .before .before in
-    let s = a .before .before .before .before .before in
+    let s = a .before .before .before .before .before .before in
     let t = ap askedOf (c .enum-told2 .given .1) in
-    t ∙ sym (verify-domain (G s) (F s) (s .args .mode) _ (sym (a .check-domain .ensures) ∙ t))
+    t ∙ sym (verify-domain (G s) (F s) (s .args .job .mode) _ (sym (a .check-domain .ensures) ∙ t))
 
 check-initial-requires : tie.Need-check-initial-requires
 check-initial-requires c κs = search needs
@@ -51,36 +50,15 @@ enum-told-4 c = search needs
 returns-2 : tie.Need-returns-2
 returns-2 c = let b = c .before .before in
     let a = b .before .before .before in
-    let s = a .before .before .before .before .before in
+    let s = a .before .before .before .before .before .before in
     let t = ap askedOf (c .enum-told4 .given .1) in
-    t ∙ sym (verify-initial (G s) (F s) (s .args .mode) (sym (a .check-domain .ensures) ∙ ap askedOf (b .before .enum-told .given .1)) _ (sym (b .check-initial .ensures) ∙ t))
+    t ∙ sym (verify-initial (G s) (F s) (s .args .job .mode) (sym (a .check-domain .ensures) ∙ ap askedOf (b .before .enum-told .given .1)) _ (sym (b .check-initial .ensures) ∙ t))
 
 check-definition-requires : tie.Need-check-definition-requires
 check-definition-requires c κs = search needs
 
 returns-3 : tie.Need-returns-3
-unfolding nodeAsk causalAsk
-returns-3 c = let i = c .before in
-    let s = i .before .before .before .before .before .before .before .before .before .before .before in
-    c .check-definition .ensures ∙ ap (checkDefinition (G s) (F s)) (sym (i .if1 .taken)) ∙ sym (left (i .before))
-
-check-definition-requires-2 : tie.Need-check-definition-requires-2
-check-definition-requires-2 c κs = search needs
-
-returns-4 : tie.Need-returns-4
-unfolding nodeAsk causalAsk
-returns-4 c = let i = c .before in
-    let s = i .before .before .before .before .before .before .before .before .before .before .before .before in
-    c .check-definition2 .ensures ∙ ap (checkDefinition (G s) (F s)) (sym (i .if2 .taken)) ∙ sym (left (i .before .before))
-
-check-definition-requires-3 : tie.Need-check-definition-requires-3
-check-definition-requires-3 c κs = search needs
-
-returns-5 : tie.Need-returns-5
-unfolding nodeAsk causalAsk
-returns-5 c = let i = c .before in
-    let s = i .before .before .before .before .before .before .before .before .before .before .before .before in
-    c .check-definition3 .ensures ∙ planes-mode (G s) (F s) (s .args .mode) (i .before .if1 .left) (i .if2 .left) ∙ sym (left (i .before .before))
+returns-3 c = c .check-definition .ensures ∙ sym (left (c .before))
 
 pub verify-loaded-spec : {M : Type 1} → statement M
 verify-loaded-spec =
@@ -95,8 +73,4 @@ verify-loaded-spec =
     enum-told-4
     returns-2
     check-definition-requires
-    returns-3
-    check-definition-requires-2
-    returns-4
-    check-definition-requires-3
-    returns-5)
+    returns-3)

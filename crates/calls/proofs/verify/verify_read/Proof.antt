@@ -5,9 +5,20 @@ use borrow.Author.Tests.{not-true, not-false}
 use Rattle.demands.specs.Calls.{verdict}
 use Rattle.records.specs.Views.{jobAt, flowAt}
 use Rattle.calls.proofs.LoadingFiles.{some-left, not-one, all-one}
+use mathlib.Core.Bool.{not, _||_}
+use mathlib.Core.List.{List}
+use Prim.Native.Nat.{ℕ}
+use lib.Dec.{eqb}
+use Rattle.records.specs.JobFile.{modeCausal}
+use Rattle.records.specs.FlowFile.{entriesOf, listed, allEntries}
 use borrow.Author.Needs.{needs}
 use Rattle.calls.proofs.verify.verify_read.Statement.{statement}
 use Rattle.calls.proofs.verify.verify_read.Tie as tie
+
+-- question 9, asked of the sets' bytes
+one : (c : tie.After-one-each) → let s = c .before .before .before .before .before in
+    c .one-each .result ≡ (not (eqb (s .args .job .mode) modeCausal) || allEntries (λ e. eqb (length (e .set)) 1) (flowAt (s .args .file .now) (s .args .flow) .sets))
+one c = c .one-each .ensures ∙ ap (λ (l : List ℕ). not (eqb (c .before .before .before .before .before .args .job .mode) modeCausal) || allEntries (λ e. eqb (length (e .set)) 1) (listed (entriesOf l))) (c .before .payload .ensures)
 
 returns : tie.Need-returns
 returns c = let s = c .before .before .before in
@@ -17,14 +28,8 @@ returns c = let s = c .before .before .before in
     let rest = length-drop (s .args .flow .sets .end) (s .args .file .now) in
     some-left f g (λ q. c .if1 .taken (omega (arith, rest, q, lies)))
 
-sub-one-each : tie.Need-sub-one-each
-sub-one-each c = search needs
-
-part-one-each-start : tie.Need-part-one-each-start
-part-one-each-start c = search needs
-
-part-one-each-end : tie.Need-part-one-each-end
-part-one-each-end c = search needs
+payload-requires : tie.Need-payload-requires
+payload-requires c κs = search needs
 
 one-each-requires : tie.Need-one-each-requires
 one-each-requires c κs = search needs
@@ -37,10 +42,10 @@ returns-2 c = let s = c .before .before .before .before .before .before in
     let rest = length-drop (s .args .flow .sets .end) (s .args .file .now) in
     let same : s .args .flow .sets .end ≡ length (s .args .file .now) = c .before .before .before .if1 .left in
     let none : length (g .after) ≡ 0 = omega (arith, rest) in
-    not-one f g none (sym (c .before .one-each .ensures) ∙ not-true _ (c .if2 .taken))
+    not-one f g none (sym (one (c .before)) ∙ not-true _ (c .if2 .taken))
 
-verify-job-requires : tie.Need-verify-job-requires
-verify-job-requires c κs = search needs
+verify-places-requires : tie.Need-verify-places-requires
+verify-places-requires c κs = search needs
 
 returns-3 : tie.Need-returns-3
 returns-3 c = let s = c .before .before .before .before .before .before .before in
@@ -50,17 +55,15 @@ returns-3 c = let s = c .before .before .before .before .before .before .before 
     let rest = length-drop (s .args .flow .sets .end) (s .args .file .now) in
     let same : s .args .flow .sets .end ≡ length (s .args .file .now) = c .before .before .before .before .if1 .left in
     let none : length (g .after) ≡ 0 = omega (arith, rest) in
-    ap verdict (c .verify-job .ensures) ∙ all-one f g none (sym (c .before .before .one-each .ensures) ∙ not-false _ (c .before .if2 .left))
+    ap verdict (c .verify-places .ensures) ∙ all-one f g none (sym (one (c .before .before)) ∙ not-false _ (c .before .if2 .left))
 
 pub verify-read-spec : {M : Type 1} → statement M
 verify-read-spec =
     tie.close
     (tie.spec
     returns
-    sub-one-each
-    part-one-each-start
-    part-one-each-end
+    payload-requires
     one-each-requires
     returns-2
-    verify-job-requires
+    verify-places-requires
     returns-3)

@@ -18,7 +18,9 @@ xor-requires : tie.Need-xor-requires
 xor-requires c κs = search needs
 
 returns : tie.Need-returns
-returns c = let a = c .before .before .before .before .before .before .args in side-in (a .graph .now) (a .u) (a .b) (member (c .before .before .before .before .odd-of .result)) (member (c .before .set-at .result)) (member (c .xor .result)) (c .before .before .before .before .odd-of .ensures) (sym (c .before .before .before .in-set .ensures) ∙ c .before .before .if1 .taken) (c .before .set-at .ensures) (c .xor .ensures)
+returns c =
+    let call-odd-of = c .before .before .before .before .odd-of in
+    let a = c .before .before .before .before .before .before .args in side-in (a .graph .now) (a .u) (a .b) (member (call-odd-of .result)) (member (c .before .set-at .result)) (member (c .xor .result)) (call-odd-of .ensures) (sym (c .before .before .before .in-set .ensures) ∙ c .before .before .if1 .taken) (c .before .set-at .ensures) (c .xor .ensures)
 
 returns-2 : tie.Need-returns-2
 returns-2 c = let a = c .before .before .before .before .args in side-out (a .graph .now) (a .u) (a .b) (member (c .before .before .odd-of .result)) (c .before .before .odd-of .ensures) (sym (c .before .in-set .ensures) ∙ c .if1 .left)

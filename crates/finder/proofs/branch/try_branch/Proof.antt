@@ -36,13 +36,16 @@ with-node-requires : tie.Need-with-node-requires
 with-node-requires c κs = c .before .before .before .before .before .before .before .before .before .before .before .before .before .before .pre .1 .alone′
 
 returns : tie.Need-returns
-returns c = let a = c .before .before .before .before .before .before .before .before .before .before .before .before .before .before .before .args in let p = c .before .before .before .before .before .before .before .before .before .before .before .before .before .before .before .pre in let low : a .u < capacity = omega (arith, p .0 .within .nodes, p .1 .node) in
-    let rowed = c .before .before .before .before .before .meet .ensures ∙ meets-one (member (c .before .before .before .before .before .before .before .union .result)) (member (a .alone)) (a .u) low (p .1 .alone′) ∙ ap (λ (f : ℕ → Bool). f (a .u)) (c .before .before .before .before .before .before .before .union .ensures) in
+returns c =
+    let call-side-of = c .before .before .before .before .before .before .side-of in
+    let call-union = c .before .before .before .before .before .before .before .union in
+    let a = c .before .before .before .before .before .before .before .before .before .before .before .before .before .before .before .args in let p = c .before .before .before .before .before .before .before .before .before .before .before .before .before .before .before .pre in let low : a .u < capacity = omega (arith, p .0 .within .nodes, p .1 .node) in
+    let rowed = c .before .before .before .before .before .meet .ensures ∙ meets-one (member (call-union .result)) (member (a .alone)) (a .u) low (p .1 .alone′) ∙ ap (λ (f : ℕ → Bool). f (a .u)) (call-union .ensures) in
     c .with-node .ensures
     ∙ ap (withNode (inSet (a .b)) (a .u)) (c .before .answer .ensures ∙ answer-same (formOf (a .echelon) (a .reduced .now) (a .preimage .now) (a .kernel .now))
-    (c .before .before .intersection .ensures ∙ ap₂ {C = ℕ → Bool} (λ (f g : ℕ → Bool) (v : ℕ). f v && g v) (c .before .before .before .before .before .before .side-of .ensures) (c .before .before .before .before .before .before .before .union .ensures))
+    (c .before .before .intersection .ensures ∙ ap₂ {C = ℕ → Bool} (λ (f g : ℕ → Bool) (v : ℕ). f v && g v) (call-side-of .ensures) (call-union .ensures))
     (c .before .before .before .before .asked-columns .ensures)
-    (c .before .before .before .asked-odd .ensures ∙ ap₂ (λ (x : Bool) (f : ℕ → Bool). not x && f (a .u)) rowed (c .before .before .before .before .before .before .side-of .ensures)))
+    (c .before .before .before .asked-odd .ensures ∙ ap₂ (λ (x : Bool) (f : ℕ → Bool). not x && f (a .u)) rowed (call-side-of .ensures)))
     ∙ round-tried (a .n) (a .graph .now) (a .s) (a .echelon) (a .kernel .now) (a .reduced .now) (a .preimage .now) (a .transposed .now) (p .0) (a .u) (a .b) (p .1 .node) (p .1 .covered)
 
 pub try-branch-spec : {M : Type 1} → statement M

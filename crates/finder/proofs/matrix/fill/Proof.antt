@@ -38,9 +38,11 @@ same-length : tie.Need-same-length
 same-length c = search needs
 
 returns : tie.Need-returns
-returns c = let a = c .before .before .before .before .before .before .before .before .before .before .before .before .before .before .args in let u = member (a .s .upper) in let l = member (a .s .lower) in let f = rowBit (a .transposed .now) (member (a .s .columns)) false in let g = rowBit (a .transposed .now) (member (a .s .columns)) true in
-    let e = ap (λ (x : ℕ). x * rowBytes) (c .before .before .before .before .count .ensures) in let p = c .before .before .before .before .before .before .before .put-rows in let q = c .before .before .put-rows2 in
-    let room : c .before .before .before .before .count .result * rowBytes ≤ length (p .last .0) = omega (arith, p .ensures .1, c .before .before .before .before .count .ensures, c .before .before .before .before .before .before .before .before .before .before .before .before .before .before .pre) in (
+returns c =
+    let call-count = c .before .before .before .before .count in
+    let a = c .before .before .before .before .before .before .before .before .before .before .before .before .before .before .args in let u = member (a .s .upper) in let l = member (a .s .lower) in let f = rowBit (a .transposed .now) (member (a .s .columns)) false in let g = rowBit (a .transposed .now) (member (a .s .columns)) true in
+    let e = ap (λ (x : ℕ). x * rowBytes) (call-count .ensures) in let p = c .before .before .before .before .before .before .before .put-rows in let q = c .before .before .put-rows2 in
+    let room : call-count .result * rowBytes ≤ length (p .last .0) = omega (arith, p .ensures .1, call-count .ensures, c .before .before .before .before .before .before .before .before .before .before .before .before .before .before .pre) in (
       both-upper u l f g _ (p .last .0) (q .last .0) _ e room (member-lt (a .s .upper)) refl (p .ensures .0),
       (both-lower u l f g _ (p .last .0) (q .last .0) _ e room (member-lt (a .s .upper)) refl (q .ensures .0), both-size u l f g _ (p .last .0) (q .last .0) _ e room (member-lt (a .s .upper)) refl (q .ensures .1) ∙ p .ensures .1),
     )

@@ -20,7 +20,9 @@ same-length : tie.Need-same-length
 same-length c = search needs
 
 returns : tie.Need-returns
-returns c = let a = c .before .before .before .before .before .before .before .before .before .args in row-put (a .row) _ _ (a .s) (a .work .now) (c .before .before .before .before .before .before .put-word .last .0) (c .before .before .put-word2 .last .0) refl refl (c .before .before .before .before .before .before .put-word .ensures) (c .before .before .put-word2 .ensures)
+returns c =
+    let call-put-word = c .before .before .before .before .before .before .put-word in
+    let a = c .before .before .before .before .before .before .before .before .before .args in row-put (a .row) _ _ (a .s) (a .work .now) (call-put-word .last .0) (c .before .before .put-word2 .last .0) refl refl (call-put-word .ensures) (c .before .before .put-word2 .ensures)
 
 pub put-row-spec : {M : Type 1} → statement M
 put-row-spec =

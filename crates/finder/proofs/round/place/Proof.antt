@@ -37,11 +37,13 @@ same-length-2 : tie.Need-same-length-2
 same-length-2 c = search needs
 
 returns : tie.Need-returns
-returns c = let a = c .before .before .before .before .before .before .before .before .before .before .args in let p = c .before .before .before .before .before .before .before .before .before .before .pre in let t = c .before .before .before .before .before .before .t .given in (
-  place-some (a .solved) (a .layers .now) (a .sets .now) (a .u) (a .r) (p .0) (p .2) (p .3) _ _ _ (c .union .ensures ∙ ap {B = ℕ → Bool} (λ (f : ℕ → Bool) (v : ℕ). member (a .solved) v || f v) (p .1)) (c .before .before .before .put-set .ensures)
-      ∙ ap (λ (t : Solution). placed (a .u) (a .r) (solutionOf t) (progressIn (a .solved) (a .layers .now) (a .sets .now))) (sym (t .1)),
-  (length-set (a .layers .now) (a .u) (a .r) ∙ p .2, ap length (c .before .before .before .put-set .ensures) ∙ put-length (a .sets .now) (a .u) _ refl ∙ p .3),
-)
+returns c =
+    let call-put-set = c .before .before .before .put-set in
+    let a = c .before .before .before .before .before .before .before .before .before .before .args in let p = c .before .before .before .before .before .before .before .before .before .before .pre in let t = c .before .before .before .before .before .before .t .given in (
+      place-some (a .solved) (a .layers .now) (a .sets .now) (a .u) (a .r) (p .0) (p .2) (p .3) _ _ _ (c .union .ensures ∙ ap {B = ℕ → Bool} (λ (f : ℕ → Bool) (v : ℕ). member (a .solved) v || f v) (p .1)) (call-put-set .ensures)
+          ∙ ap (λ (t : Solution). placed (a .u) (a .r) (solutionOf t) (progressIn (a .solved) (a .layers .now) (a .sets .now))) (sym (t .1)),
+      (length-set (a .layers .now) (a .u) (a .r) ∙ p .2, ap length (call-put-set .ensures) ∙ put-length (a .sets .now) (a .u) _ refl ∙ p .3),
+    )
 
 returns-2 : tie.Need-returns-2
 returns-2 c = let a = c .before .before .before .before .args in let p = c .before .before .before .before .pre in (

@@ -15,7 +15,7 @@ use Rattle.flows.specs.Search.{Progress}
 use Rattle.finder.specs.WorkMatrix.{contextOf}
 use Rattle.finder.specs.Tries.{tryFor}
 use Rattle.finder.specs.Visits.{unsolved, progressIn, visited}
-use Rattle.finder.proofs.Searches.{none-left, lowest-left, lowest-small, next-left, fewer-left, still-left}
+use Rattle.nodes.proofs.Walk.{left-none, lowest-left, lowest-small, next-left, fewer-left, still-left}
 use Rattle.finder.proofs.Visits.{visited-start, visited-more, visited-end, visited-fewer, passed-plain}
 use Rattle.finder.proofs.Tries.{plain-none}
 use Rattle.finder.proofs.Rounds.{unsolved-inside, unsolved-not, plain-tried}
@@ -171,7 +171,7 @@ returns c =
     let part = d .before .difference3 in
     let made = part .ensures ∙ ap {B = ℕ → Bool} (λ (f : ℕ → Bool) (u : ℕ). member all u && not (f u)) (d .before .before .difference2 .ensures) in (
       l .inv .3
-          ∙ visited-end (try-at s) (a .r) (begun s) (member (part .result)) (member (l .left)) (none-left (l .left) (c .before .is-empty .result) (c .before .is-empty .ensures) (c .if1 .left))
+          ∙ visited-end (try-at s) (a .r) (begun s) (member (part .result)) (member (l .left)) (left-none (l .left) (c .before .is-empty .result) (c .before .is-empty .ensures) (c .if1 .left))
           ∙ visited-fewer (try-at s) (a .r) (begun s) (member all) (member (part .result)) (in-all d)
           (λ u t f. passed-plain (member all) (member (a .plain)) (member (a .echelon .pivots)) (member (part .result)) made u t f
           (plain-passed d u t))

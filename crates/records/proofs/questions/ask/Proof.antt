@@ -32,8 +32,8 @@ ask-measurements-requires c κs = let h = rw (c .before .before .questions3 .giv
 enum-known-questions-4 : tie.Need-enum-known-questions-4
 enum-known-questions-4 c = search needs
 
-ask-layers-requires : tie.Need-ask-layers-requires
-ask-layers-requires c κs = search needs
+ask-each-requires : tie.Need-ask-each-requires
+ask-each-requires c κs = search needs
 
 enum-known-questions-5 : tie.Need-enum-known-questions-5
 enum-known-questions-5 c = search needs
@@ -54,7 +54,7 @@ returns-4 : tie.Need-returns-4
 returns-4 c = rw (c .before .before .before .questions3 .given .1, ← c .before .payload .ensures) (c .ask-measurements .ensures)
 
 returns-5 : tie.Need-returns-5
-returns-5 c = rw (c .before .before .questions4 .given .1) (c .ask-layers .ensures)
+returns-5 c = rw (c .before .before .questions4 .given .1) (c .ask-each .ensures)
 
 returns-6 : tie.Need-returns-6
 returns-6 c = rw (c .before .before .questions5 .given .1) (c .ask-sets .ensures)
@@ -73,7 +73,7 @@ ask-spec =
     payload-requires
     ask-measurements-requires
     enum-known-questions-4
-    ask-layers-requires
+    ask-each-requires
     enum-known-questions-5
     ask-sets-requires
     returns

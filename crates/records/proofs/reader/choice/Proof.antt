@@ -18,7 +18,7 @@ returns : tie.Need-returns
 returns c =
     let a = c .before .before .before .before .before .before .before .args in
     let r = c .read-record in
-    choice-second (a .file .now) (a .read) (a .first) (asksOf (a .file .now) (a .questions)) (a .second) (asksOf (a .file .now) (a .others)) _ (r .result) (c .before .before .before .before .read .given .1) (sym (c .before .before .carried .ensures) ∙ c .before .if1 .taken) (r .ensures .0)
+    (choice-second (a .file .now) (a .read) (a .first) (asksOf (a .file .now) (a .questions)) (a .second) (asksOf (a .file .now) (a .others)) _ (r .result) (c .before .before .before .before .read .given .1) (sym (c .before .before .carried .ensures) ∙ c .before .if1 .taken) (r .ensures .0), rw (c .before .before .before .before .read .given .1) (r .ensures .1))
 
 read-record-requires-2 : tie.Need-read-record-requires-2
 read-record-requires-2 c κs = search needs
@@ -30,12 +30,12 @@ returns-2 : tie.Need-returns-2
 returns-2 c =
     let a = c .before .before .before .before .before .before .before .args in
     let r = c .read-record2 in
-    choice-first (a .file .now) (a .read) (a .first) (asksOf (a .file .now) (a .questions)) (a .second) (asksOf (a .file .now) (a .others)) _ (r .result) (c .before .before .before .before .read .given .1) (sym (c .before .before .carried .ensures) ∙ c .before .if1 .left) (r .ensures .0)
+    (choice-first (a .file .now) (a .read) (a .first) (asksOf (a .file .now) (a .questions)) (a .second) (asksOf (a .file .now) (a .others)) _ (r .result) (c .before .before .before .before .read .given .1) (sym (c .before .before .carried .ensures) ∙ c .before .if1 .left) (r .ensures .0), rw (c .before .before .before .before .read .given .1) (r .ensures .1))
 
 returns-3 : tie.Need-returns-3
 returns-3 c =
     let a = c .before .before .before .before .args in
-    choice-refused (a .file .now) (a .read) (a .first) (asksOf (a .file .now) (a .questions)) (a .second) (asksOf (a .file .now) (a .others)) _ (c .before .read2 .given .1)
+    (choice-refused (a .file .now) (a .read) (a .first) (asksOf (a .file .now) (a .questions)) (a .second) (asksOf (a .file .now) (a .others)) _ (c .before .read2 .given .1), tt)
 
 pub choice-spec : {M : Type 1} → statement M
 choice-spec =

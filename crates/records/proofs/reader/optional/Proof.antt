@@ -1,4 +1,4 @@
-use mathlib.Core.Path.{sym, _∙_}
+use mathlib.Core.Path.{refl, sym, _∙_}
 use Rattle.records.specs.Views.{asksOf}
 use Rattle.records.proofs.Views.{optional-there, optional-absent, optional-refused}
 use borrow.Author.Needs.{needs}
@@ -18,7 +18,7 @@ returns : tie.Need-returns
 returns c =
     let a = c .before .before .before .before .before .before .before .args in
     let r = c .read-record in
-    optional-there (a .file .now) (a .read) (a .kind) (asksOf (a .file .now) (a .questions)) _ (r .result) (c .before .before .before .before .read .given .1) (sym (c .before .before .carried .ensures) ∙ c .before .if1 .taken) (r .ensures .0)
+    (optional-there (a .file .now) (a .read) (a .kind) (asksOf (a .file .now) (a .questions)) _ (r .result) (c .before .before .before .before .read .given .1) (sym (c .before .before .carried .ensures) ∙ c .before .if1 .taken) (r .ensures .0), rw (c .before .before .before .before .read .given .1) (r .ensures .1))
 
 start-requires : tie.Need-start-requires
 start-requires c κs = search needs
@@ -29,12 +29,12 @@ enum-known-read-2 c = search needs
 returns-2 : tie.Need-returns-2
 returns-2 c =
     let a = c .before .before .before .before .before .before .before .args in
-    rw (c .start .ensures) (optional-absent (a .file .now) (a .read) (a .kind) (asksOf (a .file .now) (a .questions)) _ (c .before .before .before .before .read .given .1) (sym (c .before .before .carried .ensures) ∙ c .before .if1 .left))
+    (rw (c .start .ensures) (optional-absent (a .file .now) (a .read) (a .kind) (asksOf (a .file .now) (a .questions)) _ (c .before .before .before .before .read .given .1) (sym (c .before .before .carried .ensures) ∙ c .before .if1 .left)), rw (c .start .ensures, c .before .before .before .before .read .given .1) refl)
 
 returns-3 : tie.Need-returns-3
 returns-3 c =
     let a = c .before .before .before .before .args in
-    optional-refused (a .file .now) (a .read) (a .kind) (asksOf (a .file .now) (a .questions)) _ (c .before .read2 .given .1)
+    (optional-refused (a .file .now) (a .read) (a .kind) (asksOf (a .file .now) (a .questions)) _ (c .before .read2 .given .1), tt)
 
 pub optional-spec : {M : Type 1} → statement M
 optional-spec =

@@ -1,6 +1,6 @@
 use mathlib.Core.Path.{ap, _∙_}
 use Rattle.records.specs.Records.{kindLayers}
-use Rattle.records.specs.FlowFile.{layersAsks}
+use Rattle.records.specs.FlowFile.{eachAsks}
 use Rattle.records.specs.Views.{recordBehind}
 use Rattle.records.specs.declared.reader.RecordRead.{RecordRead}
 use Rattle.records.proofs.ReadingFiles.{flow-steps, flow-in-file}
@@ -26,7 +26,7 @@ returns c =
     let l = c .before .before .next in
     let e = c .before .next2 in
     let z = c .before .before .before .start .ensures in
-    let hl = l .ensures .0 ∙ ap (λ (f : RecordRead). recordBehind (a .file .now) f kindLayers (layersAsks (a .n))) z in
+    let hl = l .ensures .0 ∙ ap (λ (f : RecordRead). recordBehind (a .file .now) f kindLayers (eachAsks 1 (a .n))) z in
     (rw (c .flow-from .ensures) (flow-steps (a .file .now) (a .at) (a .n) (l .result) (e .result) hl (e .ensures .0)), rw (c .flow-from .ensures) (flow-in-file (a .file .now) (a .at) (a .n) (l .result) (e .result) hl (e .ensures .0) (rw z at (l .ensures .1)) (e .ensures .1)))
 
 pub read-flow-spec : {M : Type 1} → statement M

@@ -1,4 +1,4 @@
-use Prim.Native.Nat.{_+_, _-_}
+use Prim.Native.Nat.{_+_, _*_, _≤_}
 use mathlib.Core.Path.{_≡_, refl, ap, _∙_}
 use native.Mathlib.Omega.{arith}
 use borrow.Author.Needs.{needs}
@@ -35,21 +35,21 @@ set-at-requires c κs = search needs
 count-requires : tie.Need-count-requires Inv-loop μ-loop
 count-requires c κs = search needs
 
-add-len : tie.Need-add-len Inv-loop μ-loop
-add-len c = let l = c .before .before .before .before .before .loop in
+-- no more than all entries of a table
+small : (c : tie.After-count Inv-loop μ-loop) → c .before .before .before .before .before .loop .len + (2 + c .count .result) ≤ capacity * (capacity + 2)
+small c =
+    let l = c .before .before .before .before .before .loop in
     let g = c .before .before .before .before .before .before .before .args .sets .now in
     let left = unless-in (c .before .before .before .before .is-empty .result) (anyBelow capacity (member (l .left))) (c .before .before .before .before .is-empty .ensures) (c .before .before .before .if1 .taken) in
-    let size = entry-length (member (l .left)) (removed (member (l .left)) (lowest capacity (member (l .left)))) left (refl) (setAt (g)) ((c .before .before .lowest) .result) ((c .before .before .lowest) .ensures) in
+    let size = entry-length (member (l .left)) (removed (member (l .left)) (lowest capacity (member (l .left)))) left refl (setAt g) (c .before .before .lowest .result) (c .before .before .lowest .ensures) in
     let same = c .count .ensures ∙ ap (count capacity) (c .before .set-at .ensures) in
-    omega (arith, size, same, entries-most (setAt g) (member (l .left)), entries-most (setAt g) (member (c .before .before .before .before .before .before .before .args .nodes)))
+    omega (arith, size, same, entries-most (setAt g) (member (c .before .before .before .before .before .before .before .args .nodes)))
+
+add-len : tie.Need-add-len Inv-loop μ-loop
+add-len c = omega (arith, small c)
 
 add-len-2 : tie.Need-add-len-2 Inv-loop μ-loop
-add-len-2 c = let l = c .before .before .before .before .before .loop in
-    let g = c .before .before .before .before .before .before .before .args .sets .now in
-    let left = unless-in (c .before .before .before .before .is-empty .result) (anyBelow capacity (member (l .left))) (c .before .before .before .before .is-empty .ensures) (c .before .before .before .if1 .taken) in
-    let size = entry-length (member (l .left)) (removed (member (l .left)) (lowest capacity (member (l .left)))) left (refl) (setAt (g)) ((c .before .before .lowest) .result) ((c .before .before .lowest) .ensures) in
-    let same = c .count .ensures ∙ ap (count capacity) (c .before .set-at .ensures) in
-    omega (arith, size, same, entries-most (setAt g) (member (l .left)), entries-most (setAt g) (member (c .before .before .before .before .before .before .before .args .nodes)))
+add-len-2 c = omega (arith, small c)
 
 without-lowest-requires : tie.Need-without-lowest-requires Inv-loop μ-loop
 without-lowest-requires c κs = search needs

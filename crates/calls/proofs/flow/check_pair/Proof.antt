@@ -1,0 +1,137 @@
+use mathlib.Core.Path.{_≡_, sym, ap, _∙_}
+use mathlib.Core.Bool.{Bool, true}
+use mathlib.Core.List.{[]}
+use Prim.Native.Nat.{ℕ, _≤_, _<_}
+use native.Mathlib.Omega.{arith}
+use borrow.Author.Tests.{not-true, not-false, lt-ltb, le-ltb}
+use Rattle.nodes.specs.NodeSet.{member}
+use Rattle.nodes.proofs.SetTable.{set-past}
+use Rattle.flows.specs.Job.{Job}
+use Rattle.finder.specs.Searches.{jobIn}
+use Rattle.records.specs.FlowFile.{Flow}
+use Rattle.verdicts.specs.Verdict.{each, later, neighbourAsk}
+use Rattle.calls.specs.Loaded.{flowIn, noNodes, askedOf}
+use Rattle.calls.proofs.Asking.{ask-yes, ask-no}
+use Rattle.calls.proofs.AskingNodes.{order-plain}
+use Rattle.calls.proofs.AskingDefinition.{pair-late, pair-around, pair-last}
+use borrow.Author.Needs.{needs}
+use Rattle.calls.proofs.flow.check_pair.Statement.{statement}
+use Rattle.calls.proofs.flow.check_pair.Tie as tie
+
+abbrev G : tie.Start → Job
+G s = jobIn (s .args .n) (s .args .graph .now) noNodes noNodes []
+
+abbrev F : tie.Start → Flow
+F s = flowIn (s .args .layers .now) noNodes []
+
+abbrev start : tie.After-set-at → tie.Start
+start c = c .before .before .before .before .before .before
+
+late : (c : tie.After-set-at) → let s = start c in later (G s) (F s) (s .args .i) (s .args .k) ≡ true
+late c =
+    let t = c .before .before in
+    let s = start c in
+    let l : t .before .layer-at .result < t .layer-at2 .result = omega arith in
+    rw (← t .before .layer-at .ensures, ← t .layer-at2 .ensures) (lt-ltb _ _ l)
+
+around : (c : tie.After-in-order) → let s = start (c .before .before .before) in each (s .args .n) (neighbourAsk (G s) (F s) (s .args .i) (s .args .k)) ≡ askedOf (c .in-order .result)
+around c =
+    let d = c .before in
+    let m = d .before in
+    let e = m .before in
+    let s = start e in
+    order-plain (s .args .n) (s .args .i) (F s .layer) (G s .edge (s .args .k)) (member (d .intersection .result)) (λ k l. set-past (s .args .graph .now) (s .args .k) k l)
+    (λ k. ap (λ (f : ℕ → Bool). f k) (d .intersection .ensures) ∙ rw (e .set-at .ensures, m .not-later .ensures))
+    ∙ sym (c .in-order .ensures)
+
+layer-at-requires : tie.Need-layer-at-requires
+layer-at-requires c κs = search needs
+
+layer-at-requires-2 : tie.Need-layer-at-requires-2
+layer-at-requires-2 c κs = search needs
+
+cast-t11 : tie.Need-cast-t11
+cast-t11 c = search needs
+
+cast-t12 : tie.Need-cast-t12
+cast-t12 c = search needs
+
+returns : tie.Need-returns
+returns c = let t = c .before in
+    let s = t .before .before .before .before in
+    let l : t .layer-at2 .result ≤ t .before .layer-at .result = omega arith in
+    pair-late (G s) (F s) (s .args .i) (s .args .k) (rw (← t .before .layer-at .ensures, ← t .layer-at2 .ensures) (le-ltb _ _ l))
+
+set-at-requires : tie.Need-set-at-requires
+set-at-requires c κs = search needs
+
+not-later-requires : tie.Need-not-later-requires
+not-later-requires c κs = search needs
+
+intersection-requires : tie.Need-intersection-requires
+intersection-requires c κs = search needs
+
+in-order-requires : tie.Need-in-order-requires
+in-order-requires c κs = search needs
+
+enum-told : tie.Need-enum-told
+enum-told c = search needs
+
+enum-told-2 : tie.Need-enum-told-2
+enum-told-2 c = search needs
+
+returns-2 : tie.Need-returns-2
+returns-2 c = let m = c .before .before in
+    let e = m .before .before .before in
+    let s = start e in
+    let t = ap askedOf (c .enum-told2 .given .1) in
+    t ∙ sym (pair-around (G s) (F s) (s .args .i) (s .args .k) (late e) _ (around m ∙ t))
+
+has-requires : tie.Need-has-requires
+has-requires c κs = search needs
+
+cast-t17 : tie.Need-cast-t17
+cast-t17 c = search needs
+
+cast-t18 : tie.Need-cast-t18
+cast-t18 c = search needs
+
+returns-3 : tie.Need-returns-3
+returns-3 c = let h = c .before in
+    let t = h .before in
+    let m = t .before .before in
+    let e = m .before .before .before in
+    let s = start e in
+    sym (pair-last (G s) (F s) (s .args .i) (s .args .k) (late e) (around m ∙ ap askedOf (t .enum-told .given .1))
+    ∙ ask-no (G s .edge (s .args .k) (s .args .i)) 18 (s .args .i) (s .args .k) (sym (h .has .ensures ∙ rw (e .set-at .ensures)) ∙ not-true _ (c .if2 .taken)))
+
+returns-4 : tie.Need-returns-4
+returns-4 c = let h = c .before in
+    let t = h .before in
+    let m = t .before .before in
+    let e = m .before .before .before in
+    let s = start e in
+    sym (pair-last (G s) (F s) (s .args .i) (s .args .k) (late e) (around m ∙ ap askedOf (t .enum-told .given .1))
+    ∙ ask-yes (G s .edge (s .args .k) (s .args .i)) 18 (s .args .i) (s .args .k) (sym (h .has .ensures ∙ rw (e .set-at .ensures)) ∙ not-false _ (c .if2 .left)))
+
+pub check-pair-spec : {M : Type 1} → statement M
+check-pair-spec =
+    tie.close
+    (tie.spec
+    layer-at-requires
+    layer-at-requires-2
+    cast-t11
+    cast-t12
+    returns
+    set-at-requires
+    not-later-requires
+    intersection-requires
+    in-order-requires
+    enum-told
+    enum-told-2
+    returns-2
+    has-requires
+    cast-t17
+    cast-t18
+    returns-3
+    returns-4)

@@ -1,0 +1,199 @@
+use mathlib.Core.Path.{_≡_, refl, sym, ap, _∙_, fun-ext}
+use mathlib.Core.Bool.{Bool, false, _&&_}
+use mathlib.Core.Option.{Option}
+use Prim.Native.Nat.{ℕ}
+use lib.Dec.{eqb}
+use Rattle.nodes.specs.Row.{parity}
+use Rattle.nodes.specs.NodeSet.{member}
+use Rattle.nodes.specs.SetTable.{setAt}
+use Rattle.nodes.proofs.SetTable.{set-past}
+use Rattle.flows.specs.Job.{Job, odd, own}
+use Rattle.flows.specs.Conditions.{memberExcused, oddExcused, yAsked}
+use Rattle.finder.specs.Searches.{jobIn}
+use Rattle.answers.specs.Answer.{Refusal}
+use Rattle.records.specs.JobFile.{modePauli}
+use Rattle.records.specs.FlowFile.{Flow}
+use Rattle.verdicts.specs.Verdict.{ask, _next_, each, memberAsk, oddAsk, yAsk, ownAsk, definitionAsk}
+use Rattle.calls.specs.Loaded.{flowIn, noNodes, askedOf, firstIn}
+use Rattle.calls.proofs.AskingNodes.{odd-past, order-excused, y-first}
+use Rattle.calls.proofs.AskingDefinition.{node-output, node-members, node-odd, node-rest}
+use borrow.Author.Needs.{needs}
+use Rattle.calls.proofs.pflow.check_node.Statement.{statement}
+use Rattle.calls.proofs.pflow.check_node.Tie as tie
+
+abbrev G : tie.Start → Job
+G s = jobIn (s .args .n) (s .args .graph .now) noNodes (s .args .outputs) (s .args .measured .now)
+
+abbrev F : tie.Start → Flow
+F s = flowIn (s .args .layers .now) noNodes (s .args .sets .now)
+
+abbrev start : tie.After-set-at → tie.Start
+start c = c .before .before .before .before .before .before .before .before
+
+plain : (c : tie.After-set-at) → G (start c) .output (start c .args .i) ≡ false
+plain c = sym (c .before .before .before .has .ensures) ∙ c .before .before .if1 .left
+
+first : (c : tie.After-in-order) → let s = start (c .before .before .before .before) in each (s .args .n) (memberAsk (G s) (F s) (s .args .mode) (s .args .i)) ≡ askedOf (c .in-order .result)
+first c =
+    let d = c .before in
+    let m = d .before in
+    let e = m .before .before in
+    let s = start e in
+    order-excused (s .args .n) (s .args .i) (F s .layer) (F s .set (s .args .i)) (memberExcused (G s) (eqb (s .args .mode) modePauli)) (member (d .intersection .result)) (λ k l. set-past (s .args .sets .now) (s .args .i) k l)
+    (λ k. ap (λ (f : ℕ → Bool). f k) (d .intersection .ensures) ∙ rw (e .set-at .ensures, m .difference .ensures, e .before .not-later .ensures, s .pre .1 .members))
+    ∙ sym (c .in-order .ensures)
+
+set-odd : (c : tie.After-odd-of) → let s = start (c .before .before .before .before .before .before .before) in member (c .odd-of .result) ≡ odd (G s) (F s .set (s .args .i))
+set-odd c =
+    let e = c .before .before .before .before .before .before .before in
+    let s = start e in
+    c .odd-of .ensures ∙ fun-ext (λ v. ap (λ (x : ℕ → Bool). parity (s .args .n) (λ k. setAt (s .args .graph .now) k v && x k)) (e .set-at .ensures))
+
+second : (c : tie.After-in-order2) → let s = start (c .before .before .before .before .before .before .before .before .before .before .before) in each (s .args .n) (oddAsk (G s) (F s) (s .args .mode) (s .args .i)) ≡ askedOf (c .in-order2 .result)
+second c =
+    let d = c .before in
+    let m = d .before in
+    let o = m .before .before in
+    let e = o .before .before .before .before .before .before .before in
+    let s = start e in
+    order-excused (s .args .n) (s .args .i) (F s .layer) (odd (G s) (F s .set (s .args .i))) (oddExcused (G s) (eqb (s .args .mode) modePauli)) (member (d .intersection2 .result))
+    (odd-past (s .args .n) (setAt (s .args .graph .now)) (F s .set (s .args .i)) (set-past (s .args .graph .now)))
+    (λ k. ap (λ (f : ℕ → Bool). f k) (d .intersection2 .ensures) ∙ rw (set-odd o, m .difference2 .ensures, e .before .not-later .ensures, s .pre .1 .odds))
+    ∙ sym (c .in-order2 .ensures)
+
+rest : (c : tie.After-enum-told3) → let s = start (c .before .before .before .before .before .before .before .before .before .before .before .before .before) in definitionAsk (G s) (F s) (s .args .mode) (s .args .i) ≡ (each (s .args .n) (yAsk (G s) (F s) (s .args .mode) (s .args .i)) next ownAsk (G s) (F s) (s .args .i))
+rest c =
+    let l = c .before .before in
+    let t = l .before .before .before .before .before in
+    let m = t .before .before in
+    let e = m .before .before .before .before in
+    let s = start e in
+    node-rest (G s) (F s) (s .args .mode) (s .args .i) (plain e) (s .pre .0 .2) (first m ∙ ap askedOf (t .enum-told .given .1)) (second l ∙ ap askedOf (c .enum-told3 .given .1))
+
+-- the Y nodes
+third : (c : tie.After-intersection4) → let s = start (c .before .before .before .before .before .before .before .before .before .before .before .before .before .before .before .before .before) in each (s .args .n) (yAsk (G s) (F s) (s .args .mode) (s .args .i)) ≡ firstIn (member (c .intersection4 .result)) (λ k. record { number = 19; a = s .args .i; b = 0 })
+third c =
+    let m = c .before in
+    let x = m .before in
+    let o = x .before .before .before .before .before .before .before .before in
+    let e = o .before .before .before .before .before .before .before in
+    let s = start e in
+    y-first (s .args .n) (s .args .i) (F s .layer) (F s .set (s .args .i)) (odd (G s) (F s .set (s .args .i))) (yAsked (G s) (eqb (s .args .mode) modePauli)) (member (c .intersection4 .result))
+    (λ k l. set-past (s .args .sets .now) (s .args .i) k l)
+    (odd-past (s .args .n) (setAt (s .args .graph .now)) (F s .set (s .args .i)) (set-past (s .args .graph .now)))
+    (λ k. ap (λ (f : ℕ → Bool). f k) (c .intersection4 .ensures) ∙ rw (m .intersection3 .ensures, x .xor .ensures, set-odd o, e .set-at .ensures, e .before .not-later .ensures, s .pre .1 .ys))
+
+has-requires : tie.Need-has-requires
+has-requires c κs = search needs
+
+returns : tie.Need-returns
+returns c = let s = c .before .before .before .before .before .before in node-output (G s) (F s) (s .args .mode) (s .args .i) (sym (c .before .has .ensures) ∙ c .if1 .taken)
+
+not-later-requires : tie.Need-not-later-requires
+not-later-requires c κs = search needs
+
+set-at-requires : tie.Need-set-at-requires
+set-at-requires c κs = search needs
+
+difference-requires : tie.Need-difference-requires
+difference-requires c κs = search needs
+
+intersection-requires : tie.Need-intersection-requires
+intersection-requires c κs = search needs
+
+in-order-requires : tie.Need-in-order-requires
+in-order-requires c κs = search needs
+
+enum-told : tie.Need-enum-told
+enum-told c = search needs
+
+enum-told-2 : tie.Need-enum-told-2
+enum-told-2 c = search needs
+
+returns-2 : tie.Need-returns-2
+returns-2 c = let m = c .before .before in
+    let e = m .before .before .before .before in
+    let s = start e in
+    let t = ap askedOf (c .enum-told2 .given .1) in
+    t ∙ sym (node-members (G s) (F s) (s .args .mode) (s .args .i) (plain e) (s .pre .0 .2) _ (first m ∙ t))
+
+odd-of-requires : tie.Need-odd-of-requires
+odd-of-requires c κs = search needs
+
+difference-requires-2 : tie.Need-difference-requires-2
+difference-requires-2 c κs = search needs
+
+intersection-requires-2 : tie.Need-intersection-requires-2
+intersection-requires-2 c κs = search needs
+
+in-order-requires-2 : tie.Need-in-order-requires-2
+in-order-requires-2 c κs = c .before .before .before .before .before .before .before .before .before .before .before .before .before .before .before .before .before .before .pre .0 .1
+
+enum-told-3 : tie.Need-enum-told-3
+enum-told-3 c = search needs
+
+enum-told-4 : tie.Need-enum-told-4
+enum-told-4 c = search needs
+
+returns-3 : tie.Need-returns-3
+returns-3 c = let l = c .before .before in
+    let t = l .before .before .before .before .before in
+    let m = t .before .before in
+    let e = m .before .before .before .before in
+    let s = start e in
+    let x = ap askedOf (c .enum-told4 .given .1) in
+    x ∙ sym (node-odd (G s) (F s) (s .args .mode) (s .args .i) (plain e) (s .pre .0 .2) (first m ∙ ap askedOf (t .enum-told .given .1)) _ (second l ∙ x))
+
+xor-requires : tie.Need-xor-requires
+xor-requires c κs = search needs
+
+intersection-requires-3 : tie.Need-intersection-requires-3
+intersection-requires-3 c κs = search needs
+
+intersection-requires-4 : tie.Need-intersection-requires-4
+intersection-requires-4 c κs = search needs
+
+byte-at-requires : tie.Need-byte-at-requires
+byte-at-requires c κs = search needs
+
+check-measurement-requires : tie.Need-check-measurement-requires
+check-measurement-requires c κs = c .before .before .before .before .before .before .before .before .before .before .before .before .before .before .before .before .before .before .before .before .before .before .before .before .before .before .pre .0 .1
+
+returns-4 : tie.Need-returns-4
+returns-4 c = let b = c .before in
+    let w = b .before in
+    let t = w .before .before .before .before in
+    let o = t .before .before .before .before .before .before in
+    let e = o .before .before .before .before .before .before .before in
+    let s = start e in
+    c .check-measurement .ensures
+    ∙ ap (λ (p : Option Refusal). p next ask (own (b .byte-at .result) (member (e .set-at .result) (s .args .i)) (member (o .odd-of .result) (s .args .i))) 19 (s .args .i) 0) (sym (third w))
+    ∙ rw (b .byte-at .ensures, e .set-at .ensures, set-odd o) (sym (rest t))
+
+pub check-node-spec : {M : Type 1} → statement M
+check-node-spec =
+    tie.close
+    (tie.spec
+    has-requires
+    returns
+    not-later-requires
+    set-at-requires
+    difference-requires
+    intersection-requires
+    in-order-requires
+    enum-told
+    enum-told-2
+    returns-2
+    odd-of-requires
+    difference-requires-2
+    intersection-requires-2
+    in-order-requires-2
+    enum-told-3
+    enum-told-4
+    returns-3
+    xor-requires
+    intersection-requires-3
+    intersection-requires-4
+    byte-at-requires
+    check-measurement-requires
+    returns-4)

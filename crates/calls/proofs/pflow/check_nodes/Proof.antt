@@ -1,0 +1,75 @@
+use mathlib.Core.Path.{_≡_, sym, ap, _∙_}
+use Prim.Native.Nat.{_-_, _≤_}
+use native.Mathlib.Omega.{arith}
+use Rattle.finder.specs.Searches.{jobIn}
+use Rattle.verdicts.specs.Verdict.{each, eachFrom, definitionAsk}
+use Rattle.calls.specs.Loaded.{flowIn, noNodes, askedOf}
+use Rattle.calls.proofs.Asking.{each-start, each-end, each-no, each-yes}
+use borrow.Author.Needs.{needs}
+use Rattle.calls.proofs.pflow.check_nodes.Statement.{statement}
+use Rattle.calls.proofs.pflow.check_nodes.Tie as tie
+
+abbrev Inv-loop : tie.InvT-loop
+Inv-loop n mode graph outputs measured layers sets excused i₀ i = (i ≤ n) × (each n (definitionAsk (jobIn n graph noNodes outputs measured) (flowIn layers noNodes sets) mode) ≡ eachFrom i (n - i) (definitionAsk (jobIn n graph noNodes outputs measured) (flowIn layers noNodes sets) mode))
+
+abbrev μ-loop : tie.MeasureT-loop
+μ-loop n mode graph outputs measured layers sets excused i₀ i = n - i
+
+excused-by-requires : tie.Need-excused-by-requires Inv-loop μ-loop
+excused-by-requires c κs = search needs
+
+loop-holds : tie.Need-loop-holds Inv-loop μ-loop
+loop-holds c = (search needs, each-start _ _)
+
+check-node-requires : tie.Need-check-node-requires Inv-loop μ-loop
+check-node-requires c κs = let s = c .before .before .before .before .before .before .before in ((s .pre .0, omega (arith, s .pre .0), s .pre .1), c .before .before .excused-by .ensures)
+
+enum-told : tie.Need-enum-told Inv-loop μ-loop
+enum-told c = search needs
+
+enum-told-2 : tie.Need-enum-told-2 Inv-loop μ-loop
+enum-told-2 c = search needs
+
+returns : tie.Need-returns Inv-loop μ-loop
+returns c = let k = c .before .before in
+    let l = k .before .before .loop in
+    let a = k .before .before .before .before .before .before .before .before .args in
+    let f = definitionAsk (jobIn (a .n) (a .graph .now) noNodes (a .outputs) (a .measured .now)) (flowIn (a .layers .now) noNodes (a .sets .now)) (a .mode) in
+    let t = ap askedOf (c .enum-told2 .given .1) in
+    t ∙ sym (l .inv .1 ∙ each-no (a .n) (l .i) f (omega arith) _ (sym (k .check-node .ensures) ∙ t))
+
+add-i : tie.Need-add-i Inv-loop μ-loop
+add-i c = search needs
+
+loop-less : tie.Need-loop-less Inv-loop μ-loop
+loop-less c = search needs
+
+loop-again : tie.Need-loop-again Inv-loop μ-loop
+loop-again c = let k = c .before .before in
+    let l = k .before .before .loop in
+    let a = k .before .before .before .before .before .before .before .before .args in
+    let f = definitionAsk (jobIn (a .n) (a .graph .now) noNodes (a .outputs) (a .measured .now)) (flowIn (a .layers .now) noNodes (a .sets .now)) (a .mode) in
+    (search needs, l .inv .1 ∙ each-yes (a .n) (l .i) f (omega arith) (sym (k .check-node .ensures) ∙ ap askedOf (c .enum-told .given .1)))
+
+returns-2 : tie.Need-returns-2 Inv-loop μ-loop
+returns-2 c = let l = c .before .loop in
+    let a = c .before .before .before .before .before .before .before .args in
+    let f = definitionAsk (jobIn (a .n) (a .graph .now) noNodes (a .outputs) (a .measured .now)) (flowIn (a .layers .now) noNodes (a .sets .now)) (a .mode) in
+    sym (l .inv .1 ∙ each-end (a .n) (l .i) f (omega arith))
+
+pub check-nodes-spec : {M : Type 1} → statement M
+check-nodes-spec =
+    tie.close
+    (tie.spec
+    Inv-loop
+    μ-loop
+    excused-by-requires
+    loop-holds
+    check-node-requires
+    enum-told
+    enum-told-2
+    returns
+    add-i
+    loop-less
+    loop-again
+    returns-2)
