@@ -8,15 +8,16 @@ use mathlib.Core.Logic.{_↔_}
 use native.Mathlib.Omega.{arith}
 use lib.Dec.{leb}
 use lib.ListN.{length, drop}
-use Rattle.answers.specs.Answer.{Refusal, Answer, gives, refuses, refusal}
+use Rattle.answers.specs.Answer.{Refusal, Answer, gives, refuses, refusal, asks, _>>_}
 use Rattle.answers.proofs.Answer.{never}
 use Rattle.solver.specs.Solver as Solver
 use Rattle.records.specs.Records.{written, kindAccepted}
+use Rattle.records.specs.Splice.{fitsIn}
 use Rattle.records.specs.Encoding.{Bytes}
 use Rattle.records.specs.Writing.{mostOutput}
 use Rattle.records.specs.JobFile.{JobFile}
 use Rattle.records.proofs.Records.{written-length}
-use Rattle.records.proofs.JobFile.{job-asked}
+use Rattle.records.proofs.Encoding.{job-asked}
 use Rattle.demands.specs.Calls.{Outcome, put, findAsks, findOutcome, findCall, verifyAsks, verifyOutcome, verifyCall}
 use Rattle.demands.proofs.Demand.{found-fits, asked-find}
 use Rattle.capi.specs.Codes.{numberUnit, answerCode, coded, counted, codedBits, Tells, TellsWhy}
@@ -32,9 +33,9 @@ numbered-fits bytes r t = (t .number, t .a, t .b)
 
 put-fits : (bytes : Type 0) (work result out : List ℕ) → length result ≤ mostOutput → Fits bytes (put work result out .answer)
 unfolding put
-put-fits bytes work result out h = by (leb (length result) (length out))
+put-fits bytes work result out h = by (fitsIn result out)
   where
-    by : (c : Bool) → Fits bytes (cond {A = Outcome} c (record { answer = gives (length result); work = work; out = result ++ drop (length result) out }) (record { answer = refuses (refusal 20); work = work; out = out }) .answer)
+    by : (c : Bool) → Fits bytes (asks 20 c >> gives (length result))
     by true = h
     by false = (omega arith, omega arith, λ x. omega arith)
 

@@ -1,4 +1,4 @@
--- A search gives a node no member that is no node of the job.
+-- A search gives a node no member that is no node of the job. Serves calls.
 use Prim.Native.Nat.{ℕ, zero, suc, _+_, _<_}
 use mathlib.Core.Path.{_≡_, refl, sym, ap, subst}
 use mathlib.Core.Bool.{Bool, true, false, cond, _&&_}

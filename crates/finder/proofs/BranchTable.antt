@@ -1,4 +1,4 @@
--- The code's table of branches: row m - 1 lists exactly the branches of m. It is tested over the whole table at once.
+-- The code's table of branches: row m - 1 lists exactly the branches of m. It is tested over the whole table at once. Serves Tries.
 use Prim.Native.Nat.{ℕ, zero, suc, _-_, _≤_, _<_}
 use mathlib.Core.Path.{_≡_, refl, sym, ap, _∙_}
 use mathlib.Core.Bool.{Bool, true, false, cond, not, _&&_}

@@ -1,32 +1,30 @@
--- What stands in the lent buffers: how a search starts, how a node is placed, and the layers and sets that are left.
-use Prim.Native.Nat.{ℕ, zero, suc, _+_, _*_, _/_, _%_, _≤_, _<_, _-_}
+-- What stands in the lent buffers: how a search starts, and the layers and sets that are left.
+use Prim.Native.Nat.{ℕ, _+_, _*_, _/_, _%_, _≤_, _<_, _-_}
 use mathlib.Core.Path.{_≡_, refl, sym, ap, ap₂, _∙_, fun-ext}
 use mathlib.Core.Bool.{Bool, true, false, cond, not, _&&_, _||_}
 use mathlib.Core.Logic.{_⊎_, inl, inr, _≢_}
-use mathlib.Core.Option.{none, some}
 use mathlib.Core.List.{List}
 use native.Mathlib.Omega.{arith}
 use native.Mathlib.Numerals.{add-one, lt-of-le-of-ne}
 use native.Mathlib.Decide.{ℕ-discrete}
 use lib.Dec.{T, eqb, leb, ltb, le→leb, leb→le, eqb→eq, ltb→lt}
 use lib.ListN.{length, getD, set}
-use lib.Seq.{getD-set-same, getD-set-other}
 use Rattle.nodes.specs.Bit.{bit, digits}
 use Rattle.nodes.specs.Row.{anyBelow, allBelow}
-use Rattle.nodes.specs.NodeSet.{member, wordsOf, capacity, highest, wordBits}
+use Rattle.nodes.specs.NodeSet.{member, capacity, highest, wordBits}
 use Rattle.nodes.specs.Lists.{zeros}
-use Rattle.nodes.specs.SetTable.{tableWords, setWords, setAt, putSet}
+use Rattle.nodes.specs.SetTable.{tableWords, setWords, setAt}
 use Rattle.nodes.specs.declared.utils.NodeSet.{NodeSet}
 use Rattle.nodes.proofs.Logic.{is-true, from-true, beq-eq, dec, and-l, and-r, and-in, and-none, and-all, or-none, not-in, not-out, eqb-no, eqb-yes, lt-or-ge}
 use Rattle.answers.specs.Answer.{Answer, gives}
 use Rattle.nodes.proofs.Row.{any-in, any-out, all-in, all-out, all-ext, ltb-yes, ltb-no}
 use Rattle.nodes.proofs.NodeSet.{Words}
-use Rattle.nodes.proofs.SetTable.{set-in, put-same, put-other, zeros-empty}
-use Rattle.nodes.proofs.Lists.{is-listOf}
+use Rattle.nodes.proofs.SetTable.{set-in, zeros-empty}
+use Rattle.nodes.proofs.Lists.{is-listOf, zeros-at}
 use Rattle.nodes.proofs.Digits.{digits-is}
 use Rattle.flows.specs.Search.{Progress, start}
 use Rattle.solver.specs.Solver.{workBytes}
-use Rattle.finder.specs.Visits.{Sized, progressIn, cutTo, placed}
+use Rattle.finder.specs.Visits.{Sized, progressIn, cutTo}
 use Rattle.finder.specs.Searches.{jobIn, sizesFit, layersOf, setTable, progressAt, SearchOutcome, planesGiven, searched, refused, searchCall, answerOf}
 use Rattle.finder.proofs.Visits.{progress-eq}
 
@@ -38,42 +36,7 @@ pub all-more : (n : ℕ) (s : ℕ → Bool) → T (allBelow n s) → T (s n) →
 unfolding allBelow
 all-more n s t a = rw (add-one n) (and-in (s n) (allBelow n s) a t)
 
--- ---- a node is placed
-module _ (solved : NodeSet) (layers sets : List ℕ) (u r : ℕ) where
-  pub place-none : progressIn solved layers sets ≡ placed u r none (progressIn solved layers sets)
-  place-none =
-      progress-eq (progressIn solved layers sets) (placed u r none (progressIn solved layers sets))
-      (λ v. sym (ap (λ (b : Bool). member solved v || b) (and-none (eqb v u)) ∙ or-none (member solved v)))
-      (λ v. sym (ap (λ (b : Bool). cond b r (getD layers v 0)) (and-none (eqb v u))))
-      (λ v. sym (ap (λ (b : Bool). cond b (λ (k : ℕ). false) (setAt sets v)) (and-none (eqb v u))))
-
-  module _ (h : u < capacity) (hl : length layers ≡ capacity) (hs : length sets ≡ tableWords) (s next : NodeSet) (after : List ℕ)
-      (e : member next ≡ (λ v. member solved v || eqb v u)) (f : after ≡ putSet sets u (wordsOf s)) where
-    solved-place : (v : ℕ) → member next v ≡ member solved v || (eqb v u && true)
-    solved-place v = ap (λ (g : ℕ → Bool). g v) e ∙ ap (λ (b : Bool). member solved v || b) (sym (and-all (eqb v u)))
-
-    layer-place : (v : ℕ) → Dec (v ≡ u) → getD (set layers u r) v 0 ≡ cond (eqb v u && true) r (getD layers v 0)
-    layer-place v (yes q) = rw (q, eqb-yes u) (getD-set-same layers u r 0 (omega arith))
-    layer-place v (no q) = rw (eqb-no v u q) (getD-set-other layers u v r 0 q)
-
-    fits : setWords * u + setWords ≤ length sets
-    fits = omega arith
-
-    set-place : (v : ℕ) → Dec (v ≡ u) → setAt after v ≡ cond (eqb v u && true) (member s) (setAt sets v)
-    set-place v (yes q) = rw (q, eqb-yes u, f) (put-same sets u (wordsOf s) refl fits)
-    set-place v (no q) = rw (eqb-no v u q, f) (put-other sets u (wordsOf s) refl v (λ x. q (sym x)))
-
-    pub place-some : progressIn next (set layers u r) after ≡ placed u r (some (member s)) (progressIn solved layers sets)
-    place-some =
-        progress-eq (progressIn next (set layers u r) after) (placed u r (some (member s)) (progressIn solved layers sets))
-        solved-place (λ v. layer-place v (ℕ-discrete v u)) (λ v. set-place v (ℕ-discrete v u))
-
 -- ---- the start
-zeros-at : (n i : ℕ) → getD (zeros n) i 0 ≡ 0
-zeros-at zero i = refl
-zeros-at (suc n) zero = refl
-zeros-at (suc n) (suc i) = zeros-at n i
-
 -- the outputs below n, no layer and no set
 pub start-cut : (n : ℕ) → n ≤ capacity → (outputs solved : NodeSet) (layers sets : List ℕ) (a b : ℕ)
     → member solved ≡ (λ u. member outputs u && (ltb u n && leb u highest)) → layers ≡ zeros a → sets ≡ zeros b

@@ -1,31 +1,68 @@
 -- A round visits its nodes one after the other, and the rounds follow one another: what stands in the search's set and in
 -- the lent buffers is at each point the progress of the definition, of the nodes below n.
-use Prim.Native.Nat.{ℕ, zero, suc, _+_, _≤_, _<_}
+use Prim.Native.Nat.{ℕ, zero, suc, _+_, _≤_, _<_, _*_, _-_}
 use mathlib.Core.Path.{_≡_, refl, sym, ap, ap₂, _∙_, subst, fun-ext}
 use mathlib.Core.Bool.{Bool, true, false, cond, not, _&&_, _||_}
 use mathlib.Core.Logic.{_⊎_, inl, inr}
-use mathlib.Core.Option.{none, Option}
+use mathlib.Core.Option.{none, Option, some}
 use native.Mathlib.Omega.{arith}
 use lib.Dec.{T, eqb, leb, ltb, eqb→eq, le→leb}
 use Rattle.nodes.specs.Bit.{_⊕_}
 use Rattle.nodes.specs.Row.{anyBelow, allBelow, count}
-use Rattle.nodes.specs.NodeSet.{capacity, highest}
-use Rattle.nodes.proofs.Logic.{is-true, is-false, from-true, from-false, both-ways, dec, and-l, and-r, and-in, and-none, and-all, or-r, or-none, not-in, not-out, eqb-yes, lt-or-ge, ⊕-self, ⊕-eq}
+use Rattle.nodes.specs.NodeSet.{capacity, highest, member, wordsOf}
+use Rattle.nodes.proofs.Logic.{is-true, is-false, from-true, from-false, both-ways, dec, and-l, and-r, and-in, and-none, and-all, or-r, or-none, not-in, not-out, eqb-yes, lt-or-ge, ⊕-self, ⊕-eq, eqb-no}
 use Rattle.nodes.proofs.Row.{any-in, any-none, all-in, all-out, ltb-yes, ltb-no}
 use Rattle.nodes.proofs.Count.{count-le, count-ext}
 use Rattle.nodes.proofs.Remove.{removed}
 use Rattle.nodes.specs.Options.{isSome}
 use Rattle.flows.specs.Search.{Progress, orNone, solvedNow, round, rounds}
-use Rattle.finder.specs.Visits.{cutTo, placed, visited}
+use Rattle.finder.specs.Visits.{cutTo, placed, visited, progressIn}
 use Rattle.finder.specs.Searches.{advanced}
 use Rattle.flows.proofs.Search.{fresh-open, fewer}
 use Rattle.flows.proofs.Progress.{SameProgress, progress-sym, progress-trans, rounds-agree}
+use mathlib.Core.List.{List}
+use native.Mathlib.Decide.{ℕ-discrete}
+use lib.ListN.{length, getD, set}
+use lib.Seq.{getD-set-same, getD-set-other}
+use Rattle.nodes.specs.SetTable.{tableWords, setWords, setAt, putSet}
+use Rattle.nodes.specs.declared.utils.NodeSet.{NodeSet}
+use Rattle.nodes.proofs.SetTable.{put-same, put-other}
 
 pub progress-eq : (p q : Progress) → ((u : ℕ) → p .solved u ≡ q .solved u) → ((u : ℕ) → p .layer u ≡ q .layer u) → ((u : ℕ) → p .set u ≡ q .set u) → p ≡ q
 progress-eq p q a b c =
     ap {B = Progress} (λ (f : ℕ → Bool). record { solved = f; layer = p .layer; set = p .set }) (fun-ext a)
     ∙ ap {B = Progress} (λ (f : ℕ → ℕ). record { solved = q .solved; layer = f; set = p .set }) (fun-ext b)
     ∙ ap {B = Progress} (λ (f : ℕ → ℕ → Bool). record { solved = q .solved; layer = q .layer; set = f }) (fun-ext c)
+
+-- ---- a node is placed
+module _ (solved : NodeSet) (layers sets : List ℕ) (u r : ℕ) where
+  pub place-none : progressIn solved layers sets ≡ placed u r none (progressIn solved layers sets)
+  place-none =
+      progress-eq (progressIn solved layers sets) (placed u r none (progressIn solved layers sets))
+      (λ v. sym (ap (λ (b : Bool). member solved v || b) (and-none (eqb v u)) ∙ or-none (member solved v)))
+      (λ v. sym (ap (λ (b : Bool). cond b r (getD layers v 0)) (and-none (eqb v u))))
+      (λ v. sym (ap (λ (b : Bool). cond b (λ (k : ℕ). false) (setAt sets v)) (and-none (eqb v u))))
+
+  module _ (h : u < capacity) (hl : length layers ≡ capacity) (hs : length sets ≡ tableWords) (s next : NodeSet) (after : List ℕ)
+      (e : member next ≡ (λ v. member solved v || eqb v u)) (f : after ≡ putSet sets u (wordsOf s)) where
+    solved-place : (v : ℕ) → member next v ≡ member solved v || (eqb v u && true)
+    solved-place v = ap (λ (g : ℕ → Bool). g v) e ∙ ap (λ (b : Bool). member solved v || b) (sym (and-all (eqb v u)))
+
+    layer-place : (v : ℕ) → Dec (v ≡ u) → getD (set layers u r) v 0 ≡ cond (eqb v u && true) r (getD layers v 0)
+    layer-place v (yes q) = rw (q, eqb-yes u) (getD-set-same layers u r 0 (omega arith))
+    layer-place v (no q) = rw (eqb-no v u q) (getD-set-other layers u v r 0 q)
+
+    fits : setWords * u + setWords ≤ length sets
+    fits = omega arith
+
+    set-place : (v : ℕ) → Dec (v ≡ u) → setAt after v ≡ cond (eqb v u && true) (member s) (setAt sets v)
+    set-place v (yes q) = rw (q, eqb-yes u, f) (put-same sets u (wordsOf s) refl fits)
+    set-place v (no q) = rw (eqb-no v u q, f) (put-other sets u (wordsOf s) refl v (λ x. q (sym x)))
+
+    pub place-some : progressIn next (set layers u r) after ≡ placed u r (some (member s)) (progressIn solved layers sets)
+    place-some =
+        progress-eq (progressIn next (set layers u r) after) (placed u r (some (member s)) (progressIn solved layers sets))
+        solved-place (λ v. layer-place v (ℕ-discrete v u)) (λ v. set-place v (ℕ-discrete v u))
 
 -- ---- the nodes below n alone
 pub cut-ext : (n : ℕ) (s t : Progress) → SameProgress n s t → cutTo n s ≡ cutTo n t

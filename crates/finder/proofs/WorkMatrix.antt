@@ -1,4 +1,4 @@
--- The work matrix is filled row by row, a row by its words, a word by its bytes; and what a try takes from the sets at hand.
+-- The graph by rows, and the work matrix that is filled from it: row by row, a row by its words, a word by its bytes.
 use Prim.Native.Nat.{ℕ, _+_, _-_, _*_, _/_, _%_, _^_, _≤_, _<_}
 use mathlib.Core.Path.{_≡_, refl, sym, ap, ap₂, _∙_, subst, fun-ext}
 use mathlib.Core.Bool.{Bool, true, false, not, _&&_, _||_}

@@ -11,11 +11,10 @@ ghost use Rattle.nodes.specs.SetTable.{setAt};
 ghost use Rattle.solver.specs.Solver.{rowBytes};
 ghost use Rattle.finder.specs.WorkMatrix.{WordPut, RowPut, rowBit, LaidOut, Transposed};
 use nodes::utils::NodeSet;
+use nodes::utils::WORD_BYTES;
 use nodes::utils::add_to;
 use nodes::utils::set_at;
 use solver::gf2_linalg::ROW_BYTES;
-
-const WORD_BYTES: usize = 8;
 
 // What a try meets: the columns, and the nodes of the upper and of the lower rows.
 pub(crate) struct Context {

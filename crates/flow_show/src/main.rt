@@ -16,7 +16,7 @@ use records::common::KIND_LAYERS;
 use records::common::KIND_NO_FLOW;
 use records::common::KIND_REFUSAL;
 use records::common::MOST_NODES;
-use records::common::read_flow;
+use records::reader::read_flow;
 use streams::Input;
 use streams::only_usage;
 use streams::output_failed;

@@ -11,12 +11,15 @@ ghost use Rattle.nodes.specs.NodeSet.{wordBits, highest, capacity, words
 ghost use Rattle.nodes.specs.Lists.{zeros};
 ghost use Rattle.nodes.specs.SetTable.{setAt, putSet, addSet, addSets, raised};
 
-const WORD_BITS: usize = 64;
+pub const WORD_BITS: usize = 64;
+
+pub const WORD_BYTES: usize = WORD_BITS / 8;
 
 // How many nodes a set can have.
 pub const CAPACITY: usize = NodeSet::HIGHEST + 1;
 
-const SET_WORDS: usize = CAPACITY / WORD_BITS;
+// The words of a set.
+pub const SET_WORDS: usize = CAPACITY / WORD_BITS;
 
 // The words of a table with a set for each node.
 pub const TABLE_WORDS: usize = CAPACITY * SET_WORDS;

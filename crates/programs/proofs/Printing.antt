@@ -1,5 +1,5 @@
 -- What a program's call leaves: its whole output where it fits, and it fits where any has room.
-use Prim.Native.Nat.{ℕ, _-_, _≤_, _<_, min}
+use Prim.Native.Nat.{ℕ, _-_, _%_, _≤_, _<_, min}
 use mathlib.Core.Path.{_≡_, refl, sym, ap, _∙_, subst}
 use mathlib.Core.Bool.{Bool, true, false, cond}
 use mathlib.Core.Option.{Option, none, some}
@@ -14,14 +14,14 @@ use lib.Seq.{take-all, take-length}
 use Rattle.nodes.specs.Lists.{zeros}
 use Rattle.nodes.proofs.Logic.{le-or-lt}
 use Rattle.solver.specs.Solver.{workBytes}
-use Rattle.answers.specs.Answer.{Refusal, Answer, gives, refuses, refusal}
+use Rattle.answers.specs.Answer.{Refusal, Answer, gives, refuses, refusal, asks, _>>_}
 use Rattle.records.specs.Records.{written, kindAccepted, kindRefusal}
 use Rattle.records.specs.JobFile.{JobFile}
-use Rattle.records.specs.Splice.{putFirst, putCount}
+use Rattle.records.specs.Splice.{fitsIn, putFront, putAnswer}
 use Rattle.records.specs.Writing.{mostOutput}
 use Rattle.answers.proofs.Answer.{give-inj, never}
 use Rattle.records.proofs.Records.{written-length}
-use Rattle.records.proofs.JobFile.{job-asked}
+use Rattle.records.proofs.Encoding.{job-asked}
 use Rattle.demands.specs.Calls.{foundBytes, Outcome, put, findAsks, findOutcome, findCall, verifyAsks, verifyOutcome, verifyCall}
 use Rattle.demands.specs.Programs.{judgedBytes, refusalBytes, findOutput, findProgram, verifyOutput, verifyProgram}
 use Rattle.demands.proofs.Demand.{found-fits, asked-find}
@@ -54,24 +54,24 @@ printed-few refused output out p e = subst (λ (p : Printed). p .count ≤ lengt
 
 -- ---- 001F
 refusal-length : (r : Refusal) → length (refusalBytes r) ≡ 9
-refusal-length r = written-length kindRefusal (r .number ∷ r .a ∷ r .b ∷ [])
+refusal-length r = written-length kindRefusal (r .number ∷ r .a ∷ r .b % 256 ∷ [])
 
 -- what is told, and how much is written, where so many bytes fit
-abbrev pub fitting : Refusal → Option ℕ → Refusal
-fitting r (some k) = r
-fitting r none = refusal tooLong
+abbrev pub fitting : Refusal → Answer ℕ → Refusal
+fitting r (gives k) = r
+fitting r (refuses q) = refusal tooLong
 
-abbrev pub fitted : Option ℕ → ℕ
-fitted (some k) = k
-fitted none = 0
+abbrev pub fitted : Answer ℕ → ℕ
+fitted (gives k) = k
+fitted (refuses q) = 0
 
-pub refusal-put : (r : Refusal) (x : Option ℕ) (bytes out o : List ℕ) → x ≡ putCount bytes out → o ≡ putFirst bytes out
+pub refusal-put : (r : Refusal) (x : Answer ℕ) (bytes out o : List ℕ) → x ≡ putAnswer bytes out → o ≡ putFront bytes out
     → record { refused = some (fitting r x); count = fitted x; out = o } ≡ printed (some r) bytes out
 unfolding printed
-refusal-put r x bytes out o p q = rw (p, q) (by (leb (length bytes) (length out)))
+refusal-put r x bytes out o p q = rw (p, q) (by (fitsIn bytes out))
   where
     by : (t : Bool)
-        → _≡_ {A = Printed} (record { refused = some (fitting r (cond t (some (length bytes)) none)); count = fitted (cond t (some (length bytes)) none); out = cond t (bytes ++ drop (length bytes) out) out })
+        → _≡_ {A = Printed} (record { refused = some (fitting r (asks 20 t >> gives (length bytes))); count = fitted (asks 20 t >> gives (length bytes)); out = cond t (bytes ++ drop (length bytes) out) out })
         (cond t (record { refused = some r; count = length bytes; out = bytes ++ drop (length bytes) out }) (record { refused = some (refusal tooLong); count = 0; out = out }))
     by true = refl
     by false = refl
@@ -84,7 +84,7 @@ module _ (w result out o work : List ℕ) where
   put-gives k e = by (leb (length result) (length out)) e
     where
       by : (t : Bool)
-          → _≡_ {A = Outcome} (record { answer = gives k; work = work; out = o }) (cond t (record { answer = gives (length result); work = w; out = result ++ drop (length result) out }) (record { answer = refuses (refusal tooLong); work = w; out = out }))
+          → _≡_ {A = Outcome} (record { answer = gives k; work = work; out = o }) (record { answer = asks 20 t >> gives (length result); work = w; out = cond t (result ++ drop (length result) out) out })
           → _≡_ {A = Printed} (record { refused = none; count = k; out = o }) (cond t (record { refused = none; count = length result; out = result ++ drop (length result) out }) (record { refused = some (refusal tooLong); count = 0; out = out }))
       by true e = let count : k ≡ length result = give-inj (ap (λ (x : Outcome). x .answer) e) in rw (count, ap (λ (x : Outcome). x .out) e)
       by false e = absurd (never (sym (ap (λ (x : Outcome). x .answer) e)))
@@ -96,7 +96,7 @@ module _ (w result out o work : List ℕ) where
   put-refuses r e = by (leb (length result) (length out)) refl e
     where
       by : (t : Bool) → leb (length result) (length out) ≡ t
-          → _≡_ {A = Outcome} (record { answer = refuses r; work = work; out = o }) (cond t (record { answer = gives (length result); work = w; out = result ++ drop (length result) out }) (record { answer = refuses (refusal tooLong); work = w; out = out }))
+          → _≡_ {A = Outcome} (record { answer = refuses r; work = work; out = o }) (record { answer = asks 20 t >> gives (length result); work = w; out = cond t (result ++ drop (length result) out) out })
           → (length out < length result) × (r ≡ refusal tooLong) × (o ≡ out)
       by true h e = absurd (never (ap (λ (x : Outcome). x .answer) e))
       by false h e = (nleb→lt (length result) (length out) (rw h tt), refuse-inj (ap (λ (x : Outcome). x .answer) e), ap (λ (x : Outcome). x .out) e)

@@ -7,7 +7,7 @@ use Rattle.nodes.specs.NodeSet.{member}
 use mathlib.Core.Path.{refl, sym, ap, _∙_}
 use Rattle.solver.specs.BasisCalls.{solutionOf}
 use Rattle.finder.specs.Visits.{placed, progressIn}
-use Rattle.finder.proofs.Searches.{place-none, place-some}
+use Rattle.finder.proofs.Visits.{place-none, place-some}
 use borrow.Author.Needs.{needs}
 use Rattle.finder.proofs.round.place.Statement.{statement}
 use Rattle.finder.proofs.round.place.Tie as tie

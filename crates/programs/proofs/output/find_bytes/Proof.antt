@@ -5,7 +5,7 @@ use mathlib.Core.Option.{some}
 use Rattle.nodes.specs.Lists.{zeros}
 use Rattle.solver.specs.Solver.{workBytes}
 use Rattle.answers.specs.Answer.{Refusal}
-use Rattle.records.specs.Refusals.{refusalOf}
+use Rattle.answers.specs.Refusals.{refusalOf}
 use Rattle.demands.specs.Calls.{Outcome, findCall}
 use Rattle.demands.specs.Programs.{judgedBytes, refusalBytes}
 use Rattle.calls.specs.declared.Reply.{Reply}
@@ -44,9 +44,6 @@ wrote-requires c κs = search needs
 enum-known-q : tie.Need-enum-known-q
 enum-known-q c = search needs
 
-numbers-of-requires : tie.Need-numbers-of-requires
-numbers-of-requires c κs = search needs
-
 refused-requires : tie.Need-refused-requires
 refused-requires c κs = search needs
 
@@ -54,15 +51,13 @@ same-length : tie.Need-same-length
 same-length c = search needs
 
 returns : tie.Need-returns
-returns c = let a = c .before .before .before .before .before .before .before .before .before .before .before .before .before .before .before .before .before .args in
-    let r = c .before .before .before .before .before .before .before .before .before .before .find in
-    let j = c .before .before .before .before .before .before .before .before .before .before .before .before .before .before .judged in
+returns c = let a = c .before .before .before .before .before .before .before .before .before .before .before .before .before .before .before .before .args in
+    let r = c .before .before .before .before .before .before .before .before .before .find in
+    let j = c .before .before .before .before .before .before .before .before .before .before .before .before .before .judged in
     let o = r .last .1 .1 .0 in
-    let here = ap {B = Outcome} (λ (x : Reply). record { answer = replyOf x; work = r .last .1 .0; out = o }) (sym (c .before .before .before .before .before .q .given .1)) in
+    let here = ap {B = Outcome} (λ (x : Reply). record { answer = replyOf x; work = r .last .1 .0; out = o }) (sym (c .before .before .before .before .q .given .1)) in
     let call = here ∙ r .ensures ∙ ap (λ (s : List ℕ). findCall s (zeros workBytes) (a .out .now)) (first-bytes judgedBytes (j .result) (a .input .now) (j .ensures)) in
-    let n = c .before .before .before .numbers-of in
-    let same = n .ensures in
-    ap (λ (x : Output). outputOf x o) (c .refused .ensures) ∙ ap {B = Printed} (λ (r : Refusal). record { refused = some r; count = 0; out = o }) same ∙ find-20 (a .input .now) (a .out .now) o (r .last .1 .0) (refusalOf (c .before .before .before .before .before .q .given .0 .0)) (subst (λ (r : Refusal). r .number ≡ tooLong) same (c .before .if1 .taken)) call
+    ap (λ (x : Output). outputOf x o) (c .refused .ensures) ∙ find-20 (a .input .now) (a .out .now) o (r .last .1 .0) (refusalOf (c .before .before .before .before .q .given .0 .0)) (c .before .if1 .taken) call
 
 write-refusal-requires : tie.Need-write-refusal-requires
 write-refusal-requires c κs = search needs
@@ -83,15 +78,13 @@ same-length-3 : tie.Need-same-length-3
 same-length-3 c = search needs
 
 returns-3 : tie.Need-returns-3
-returns-3 c = let a = c .before .before .before .before .before .before .before .before .before .before .before .before .before .before .before .before .before .before .before .before .args in
-    let r = c .before .before .before .before .before .before .before .before .before .before .before .before .before .find in
-    let j = c .before .before .before .before .before .before .before .before .before .before .before .before .before .before .before .before .before .judged in
+returns-3 c = let a = c .before .before .before .before .before .before .before .before .before .before .before .before .before .before .before .before .before .before .before .args in
+    let r = c .before .before .before .before .before .before .before .before .before .before .before .before .find in
+    let j = c .before .before .before .before .before .before .before .before .before .before .before .before .before .before .before .before .judged in
     let o = r .last .1 .1 .0 in
-    let here = ap {B = Outcome} (λ (x : Reply). record { answer = replyOf x; work = r .last .1 .0; out = o }) (sym (c .before .before .before .before .before .before .before .before .q .given .1)) in
+    let here = ap {B = Outcome} (λ (x : Reply). record { answer = replyOf x; work = r .last .1 .0; out = o }) (sym (c .before .before .before .before .before .before .before .q .given .1)) in
     let call = here ∙ r .ensures ∙ ap (λ (s : List ℕ). findCall s (zeros workBytes) (a .out .now)) (first-bytes judgedBytes (j .result) (a .input .now) (j .ensures)) in
-    let n = c .before .before .before .before .before .before .numbers-of in
-    let same = n .ensures in
-    c .before .before .write-refusal .ensures ∙ ap (λ (r : Refusal). printed (some r) (refusalBytes r) o) same ∙ find-refuses (a .input .now) (a .out .now) o (r .last .1 .0) (refusalOf (c .before .before .before .before .before .before .before .before .q .given .0 .0)) (λ (e : refusalOf (c .before .before .before .before .before .before .before .before .q .given .0 .0) .number ≡ tooLong). c .before .before .before .before .if1 .left (ap (λ (r : Refusal). r .number) same ∙ e)) call
+    c .before .before .write-refusal .ensures ∙ find-refuses (a .input .now) (a .out .now) o (r .last .1 .0) (refusalOf (c .before .before .before .before .before .before .before .q .given .0 .0)) (c .before .before .before .before .if1 .left) call
 
 pub find-bytes-spec : {M : Type 1} → statement M
 find-bytes-spec =
@@ -106,7 +99,6 @@ find-bytes-spec =
     enum-known-k
     wrote-requires
     enum-known-q
-    numbers-of-requires
     refused-requires
     same-length
     returns

@@ -3,7 +3,7 @@ use mathlib.Core.Path.{sym, ap, _∙_}
 use mathlib.Core.List.{List, []}
 use mathlib.Core.Option.{some}
 use Rattle.answers.specs.Answer.{Refusal}
-use Rattle.records.specs.Refusals.{refusalOf}
+use Rattle.answers.specs.Refusals.{refusalOf}
 use Rattle.demands.specs.Calls.{Outcome, verifyCall}
 use Rattle.demands.specs.Programs.{judgedBytes, refusalBytes}
 use Rattle.calls.specs.declared.Reply.{Reply}
@@ -39,9 +39,6 @@ wrote-requires c κs = search needs
 enum-known-q : tie.Need-enum-known-q
 enum-known-q c = search needs
 
-numbers-of-requires : tie.Need-numbers-of-requires
-numbers-of-requires c κs = search needs
-
 write-refusal-requires : tie.Need-write-refusal-requires
 write-refusal-requires c κs = search needs
 
@@ -61,13 +58,13 @@ same-length-2 : tie.Need-same-length-2
 same-length-2 c = search needs
 
 returns-2 : tie.Need-returns-2
-returns-2 c = let a = c .before .before .before .before .before .before .before .before .before .before .before .before .before .before .before .before .args in
-    let r = c .before .before .before .before .before .before .before .before .before .before .verify in
-    let j = c .before .before .before .before .before .before .before .before .before .before .before .before .before .judged in
+returns-2 c = let a = c .before .before .before .before .before .before .before .before .before .before .before .before .before .before .before .args in
+    let r = c .before .before .before .before .before .before .before .before .before .verify in
+    let j = c .before .before .before .before .before .before .before .before .before .before .before .before .judged in
     let o = r .last .1 .0 in
-    let here = ap {B = Outcome} (λ (x : Reply). record { answer = replyOf x; work = []; out = o }) (sym (c .before .before .before .before .before .before .q .given .1)) in
+    let here = ap {B = Outcome} (λ (x : Reply). record { answer = replyOf x; work = []; out = o }) (sym (c .before .before .before .before .before .q .given .1)) in
     let call = here ∙ r .ensures ∙ ap (λ (s : List ℕ). verifyCall s (a .out .now)) (first-bytes judgedBytes (j .result) (a .input .now) (j .ensures)) in
-    c .before .before .write-refusal .ensures ∙ ap (λ (r : Refusal). printed (some r) (refusalBytes r) o) (c .before .before .before .numbers-of .ensures) ∙ verify-refuses (a .input .now) (a .out .now) o [] (refusalOf (c .before .before .before .before .before .before .q .given .0 .0)) call
+    c .before .before .write-refusal .ensures ∙ verify-refuses (a .input .now) (a .out .now) o [] (refusalOf (c .before .before .before .before .before .q .given .0 .0)) call
 
 pub verify-bytes-spec : {M : Type 1} → statement M
 verify-bytes-spec =
@@ -81,7 +78,6 @@ verify-bytes-spec =
     enum-known-k
     wrote-requires
     enum-known-q
-    numbers-of-requires
     write-refusal-requires
     same-length
     returns

@@ -1,15 +1,17 @@
 use mathlib.Core.Path.{sym, ap, _∙_}
-use mathlib.Core.Option.{none, some}
-use Rattle.answers.specs.Answer.{Refusal}
-use Rattle.records.specs.Refusals.{numbersIn}
+use Rattle.answers.specs.Answer.{gives, refuses, refusal}
+use Rattle.answers.specs.Refusals.{refusalOf}
 use Rattle.records.specs.Splice.{putOf}
 use Rattle.demands.specs.Programs.{refusalBytes}
 use Rattle.programs.specs.declared.output.Output.{Output}
-use Rattle.programs.specs.Printing.{Printed, outputOf}
+use Rattle.programs.specs.Printing.{tooLong, outputOf}
 use Rattle.programs.proofs.Printing.{refusal-put}
 use borrow.Author.Needs.{needs}
 use Rattle.programs.proofs.output.write_refusal.Statement.{statement}
 use Rattle.programs.proofs.output.write_refusal.Tie as tie
+
+cast-t6 : tie.Need-cast-t6
+cast-t6 c = search needs
 
 slice-aggregate-write-record : tie.Need-slice-aggregate-write-record
 slice-aggregate-write-record c = search needs
@@ -26,9 +28,6 @@ refused-requires c κs = search needs
 enum-told : tie.Need-enum-told
 enum-told c = search needs
 
-numbers-of-requires : tie.Need-numbers-of-requires
-numbers-of-requires c κs = search needs
-
 refused-requires-2 : tie.Need-refused-requires-2
 refused-requires-2 c κs = search needs
 
@@ -36,29 +35,29 @@ same-length : tie.Need-same-length
 same-length c = search needs
 
 returns : tie.Need-returns
-returns c = let m = numbersIn (c .before .before .before .before .before .before .before .before .before .before .args .m) in
+returns c = let r = refusalOf (c .before .before .before .before .before .before .before .before .before .before .before .args .q) in
     let w = c .before .before .before .before .before .before .write-record in
     let k = c .before .before .k .given in
-    ap (λ (x : Output). outputOf x (w .last .0)) (c .refused .ensures) ∙ refusal-put m (some (k .0 .0)) (refusalBytes m) _ (w .last .0) (sym (ap putOf (k .1)) ∙ w .ensures .0) (w .ensures .1)
+    ap (λ (x : Output). outputOf x (w .last .0)) (c .refused .ensures) ∙ refusal-put r (gives (k .0 .0)) (refusalBytes r) _ (w .last .0) (sym (ap putOf (k .1)) ∙ w .ensures .0) (w .ensures .1)
 
 same-length-2 : tie.Need-same-length-2
 same-length-2 c = search needs
 
 returns-2 : tie.Need-returns-2
-returns-2 c = let m = numbersIn (c .before .before .before .before .before .before .before .before .before .before .args .m) in
-    let w = c .before .before .before .before .before .before .write-record in
-    ap (λ (x : Output). outputOf x (w .last .0)) (c .refused2 .ensures) ∙ ap {B = Printed} (λ (r : Refusal). record { refused = some r; count = 0; out = w .last .0 }) (c .before .numbers-of .ensures) ∙ refusal-put m none (refusalBytes m) _ (w .last .0) (sym (ap putOf (c .before .before .enum-told .given .1)) ∙ w .ensures .0) (w .ensures .1)
+returns-2 c = let r = refusalOf (c .before .before .before .before .before .before .before .before .before .before .args .q) in
+    let w = c .before .before .before .before .before .write-record in
+    ap (λ (x : Output). outputOf x (w .last .0)) (c .refused2 .ensures) ∙ refusal-put r (refuses (refusal tooLong)) (refusalBytes r) _ (w .last .0) (sym (ap putOf (c .before .enum-told .given .1)) ∙ w .ensures .0) (w .ensures .1)
 
 pub write-refusal-spec : {M : Type 1} → statement M
 write-refusal-spec =
     tie.close
     (tie.spec
+    cast-t6
     slice-aggregate-write-record
     write-record-requires
     enum-known-k
     refused-requires
     enum-told
-    numbers-of-requires
     refused-requires-2
     same-length
     returns
