@@ -110,9 +110,11 @@ module _ (d : ℕ → Bool) (r : ℕ → Refusal) where
 
 -- ---- one question, and one after another
 pub ask-yes : (b : Bool) (q a k : ℕ) → b ≡ true → ask b q a k ≡ none
+unfolding ask
 ask-yes b q a k e = rw e
 
 pub ask-no : (b : Bool) (q a k : ℕ) → b ≡ false → ask b q a k ≡ some (record { number = q; a = a; b = k })
+unfolding ask
 ask-no b q a k e = rw e
 
 pub next-stops : (p q : Option Refusal) (r : Refusal) → p ≡ some r → (p next q) ≡ some r

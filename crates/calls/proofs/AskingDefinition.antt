@@ -18,7 +18,7 @@ use Rattle.flows.specs.Job.{Job, odd}
 use Rattle.answers.specs.Answer.{Refusal}
 use Rattle.records.specs.JobFile.{modeCausal, modePlanes, modePauli}
 use Rattle.records.specs.FlowFile.{Flow}
-use Rattle.verdicts.specs.Verdict.{_next_, each, later, laterAsk, memberAsk, oddAsk, yAsk, ownAsk, nodeAsk, neighbourAsk, adjacentAsk, causalAsk, causalNodeAsk, measuredAsk, definitionAsk, checkDomain, checkInitial, checkDefinition, verify}
+use Rattle.verdicts.specs.Verdict.{ask, _next_, each, later, laterAsk, memberAsk, oddAsk, yAsk, ownAsk, nodeAsk, neighbourAsk, adjacentAsk, causalAsk, causalNodeAsk, measuredAsk, definitionAsk, checkDomain, checkInitial, checkDefinition, verify}
 use Rattle.calls.specs.Loaded.{within}
 use Rattle.verdicts.proofs.Questions.{each-in}
 use Rattle.calls.proofs.Asking.{each-ext, each-at, within-yes}
@@ -44,21 +44,22 @@ module _ (j : Job) (f : Flow) (mode i : ℕ) where
 
 -- mode 2 has no question on Y nodes
 pub planes-y : (j : Job) (f : Flow) (i : ℕ) → each (j .nodes) (yAsk j f modePlanes i) ≡ none
+unfolding ask
 planes-y j f i = each-in (j .nodes) (yAsk j f modePlanes i) (λ v l. refl)
 
 -- ---- mode 1
 module _ (j : Job) (f : Flow) (i k : ℕ) where
   pub pair-late : later j f i k ≡ false → some (record { number = 18; a = i; b = k }) ≡ causalAsk j f i k
-  unfolding causalAsk
+  unfolding causalAsk ask
   pair-late e = rw e
 
   module _ (e : later j f i k ≡ true) where
     pub pair-around : (r : Refusal) → each (j .nodes) (neighbourAsk j f i k) ≡ some r → causalAsk j f i k ≡ some r
-    unfolding causalAsk
+    unfolding causalAsk ask
     pair-around r g = rw (e, g)
 
     pub pair-last : each (j .nodes) (neighbourAsk j f i k) ≡ none → causalAsk j f i k ≡ adjacentAsk j f i k
-    unfolding causalAsk
+    unfolding causalAsk ask
     pair-last g = rw (e, g)
 
 pub causal-node : (j : Job) (f : Flow) (i : ℕ) → j .output i ≡ false → definitionAsk j f modeCausal i ≡ causalNodeAsk j f i
@@ -132,6 +133,7 @@ one-of low m = by (ℕ-discrete m low) (le-or-lt low m)
 -- where the mode is neither 1 nor 3, it does not matter which
 module _ (j : Job) (f : Flow) (mode i : ℕ) (c : eqb mode modeCausal ≡ false) (p : eqb mode modePauli ≡ false) where
   no-y : each (j .nodes) (yAsk j f mode i) ≡ none
+  unfolding ask
   no-y = each-in (j .nodes) (yAsk j f mode i) (λ v l. rw p)
 
   plain-node : definitionAsk j f mode i ≡ cond (j .output i) none (each (j .nodes) (laterAsk j f (f .set i) (λ k. false) i) next each (j .nodes) (laterAsk j f (odd j (f .set i)) (λ k. false) i) next ownAsk j f i)

@@ -82,6 +82,7 @@ odd-past n edge s z v h = parity-none n (λ k. edge k v && s k) (λ k l. ap (λ 
 
 -- ---- 13
 input-ask : (u k : ℕ) (s i e : Bool) → ask (not s || not i || e) 13 u 0 ≡ cond ((s && i) && not e) (some (refused 13 u 0)) none
+unfolding ask
 input-ask u k false i e = refl
 input-ask u k true false e = refl
 input-ask u k true true true = refl
@@ -112,6 +113,7 @@ domain-test a false false e = rw e
 
 -- ---- 17
 measured-ask : (u : ℕ) (e m : Bool) → ask (not e || not m) 17 u 0 ≡ cond (e && m) (some (refused 17 u 0)) none
+unfolding ask
 measured-ask u true true = refl
 measured-ask u true false = refl
 measured-ask u false m = refl
@@ -148,6 +150,7 @@ not-ltb a b = by (le-or-lt a b)
     by (inr l) = rw (lt-leb a b l, lt-ltb b a l)
 
 order-ask : (i k : ℕ) (s e l x : Bool) → ask (not s || e || l || x) 18 i k ≡ cond ((s && (not l && not e)) && not x) (some (refused 18 i k)) none
+unfolding ask
 order-ask i k false e l x = refl
 order-ask i k true true true x = refl
 order-ask i k true true false x = refl
@@ -193,6 +196,7 @@ order-excused n i layer s x d z f = order-first n i layer s x d z (λ k. f k ∙
 
 -- ---- 19, the Y nodes
 y-ask : (i : ℕ) (y t e l : Bool) → ask (not (y && t) || e || l) 19 i 0 ≡ cond ((y && t) && (not l && not e)) (some (refused 19 i 0)) none
+unfolding ask
 y-ask i false t e l = refl
 y-ask i true false e l = refl
 y-ask i true true true true = refl

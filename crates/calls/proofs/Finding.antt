@@ -35,7 +35,7 @@ use Rattle.records.specs.Splice.{putFirst, putCount}
 use Rattle.records.proofs.JobFile.{job-asked, measured-plane}
 use Rattle.records.proofs.ReadingRecords.{has-small}
 use Rattle.calls.proofs.Found.{found-written}
-use Rattle.nodes.specs.SetTable.{zeros}
+use Rattle.nodes.specs.Lists.{zeros}
 use Rattle.solver.specs.Solver.{workBytes}
 use Rattle.demands.specs.Calls.{foundBytes, Outcome, put, findAsks, findCall}
 use Rattle.calls.specs.Replies.{putReply, recordsFor}
