@@ -1,22 +1,19 @@
 -- Demand 3, for both modes: the finder's flow is accepted, every accepted flow gives each node at least the layer of
 -- the finder's, and 'no flow' is said exactly where no flow is accepted.
 use Prim.Native.Nat.{ℕ, _+_, _≤_, _<_}
-use mathlib.Core.Path.{_≡_, refl, sym, ap, ap₂, _∙_, subst}
+use mathlib.Core.Path.{_≡_, refl, sym, ap, _∙_, subst}
 use mathlib.Core.Bool.{Bool, true, false, cond}
 use mathlib.Core.Option.{Option, none, some}
 use mathlib.Core.List.{List, [], _++_}
 use mathlib.Core.Logic.{_⊎_, inl, inr, _≢_}
 use native.Mathlib.Omega.{arith}
-use lib.Dec.{T, eqb, ltb, leb, eqb→eq}
+use lib.Dec.{T, eqb, leb, eqb→eq}
 use lib.ListN.{length, take, drop}
 use lib.Seq.{take-append-seam}
 use Rattle.nodes.proofs.Logic.{is-false, from-true, or-out, not-in, not-out}
 use Rattle.flows.specs.Job.{Job}
-use Rattle.flows.specs.Search.{Progress, firstRound, laterThan}
-use Rattle.flows.specs.Conditions.{corrects}
+use Rattle.flows.specs.Search.{Progress}
 use Rattle.flows.specs.Flows.{findAt}
-use Rattle.flows.proofs.Conditions.{corrects-ext}
-use Rattle.flows.proofs.Flows.{FoundAt, found-flow, found-corrects}
 use Rattle.answers.specs.Answer.{Answer, gives, refuses, refusal, asks, _>>_}
 use Rattle.records.specs.Records.{written, kindNoFlow}
 use Rattle.records.specs.JobFile.{JobFile, mostNodes, readJob, jobOf, modeCausal, modePlanes, modePauli}
@@ -28,8 +25,6 @@ use Rattle.solver.specs.Solver.{workBytes}
 use Rattle.demands.specs.Calls.{modeOf, hasSearch, Outcome, put, findOutcome, findAsks, findCall, foundBytes, search}
 use Rattle.records.specs.Splice.{fitsIn}
 use Rattle.records.specs.Writing.{flowBytes, mostOutput}
-use Rattle.verdicts.specs.Published.{Measured, LayerRule}
-use Rattle.verdicts.specs.Rule.{FlowRule}
 use Rattle.demands.specs.Demand.{premise, Accepted, FlowBytes, layerIn, DemandHolds, Demand3}
 use Rattle.answers.proofs.Answer.{give-inj, never, bind-out, asks-out}
 use Rattle.records.proofs.Encoding.{job-asked, flow-asked}
@@ -38,7 +33,7 @@ use Rattle.records.proofs.FlowFile.{nothing-left, one-member-other}
 use Rattle.records.proofs.Records.{written-length}
 use Rattle.records.proofs.Writing.{found-most, found-reads, found-valid, found-layer, found-entry, found-set, no-flow-unread}
 use Rattle.verdicts.proofs.Verdict.{domain-asked, initial-asked, definition-asked}
-use Rattle.verdicts.proofs.Rule.{Readable, measured-known, corrects-rule, verify-rule, rule-smallest}
+use Rattle.verdicts.proofs.Rule.{Readable, verify-rule, found-rule, rule-smallest}
 use Rattle.demands.proofs.Judging.{Judged, judged-in, judged-out, searched-works, causal-works, readable, planes}
 
 -- ---- a job in mode 2 or 3
@@ -68,37 +63,18 @@ module _ (file : List ℕ) (f : JobFile) (reads : readJob file ≡ gives f) (end
 
   -- ---- (a) the found flow is accepted
   module _ (s : Progress) (e : findAt j pauli ≡ some s) where
-    flow-found : FoundAt j pauli s
-    flow-found = found-flow j pauli s e
-
     abbrev g : FlowFile
     g = foundFlow j s
 
     reading : Readable j (flowOf g)
     reading = readable f valid g (found-valid j s)
 
-    node-right : (u : ℕ) → Measured j u → T (corrects j pauli (laterThan (flowOf g .layer) u) (flowOf g .set u) u)
-    node-right u m =
-        corrects-ext j (s .set u) (flowOf g .set u) (λ k l. sym (found-set j s u k (m .0) l ∙ rw (is-false (j .output u) (m .1))))
-        pauli (laterThan (s .layer) u) (laterThan (flowOf g .layer) u) (λ k l. sym (ap₂ ltb (found-layer j s k l) (found-layer j s u (m .0)))) u (m .0)
-        (found-corrects j pauli (measured-known j (flowOf g) reading) s flow-found u (m .0) (m .1))
-
-    layer-rule : LayerRule (modeOf f) j (flowOf g .layer)
-    layer-rule = record {
-      outputs = λ u l o. found-layer j s u l ∙ flow-found .output-layer u o;
-      others = λ e u m. subst (λ (x : ℕ). 0 < x) (sym (found-layer j s u (m .0))) (positive e (flow-found .least u (m .0) (m .1)));
-    }
-      where
-        positive : {x : ℕ} → modeOf f ≡ modePlanes → firstRound pauli ≤ x → 0 < x
-        positive e h = rw e at h
-
-    found-rule : FlowRule (modeOf f) j (flowOf g)
-    found-rule =
-        corrects-rule j (flowOf g) reading (modeOf f) searched
-        (λ u l. ((λ t. not-out (j .output u) (rw (found-entry j s u l) at t)), λ o. rw (found-entry j s u l) (not-in (j .output u) o))) layer-rule node-right
-
     found-verified : verify j (flowOf g) (modeOf f) ≡ none
-    found-verified = verify-rule j (flowOf g) reading (modeOf f) searched .1 found-rule
+    found-verified =
+        verify-rule j (flowOf g) reading (modeOf f) searched .1
+        (found-rule j (flowOf g) reading (modeOf f) searched s e
+        (λ u l. ((λ t. not-out (j .output u) (rw (found-entry j s u l) at t)), λ o. rw (found-entry j s u l) (not-in (j .output u) o)))
+        (found-layer j s) (λ u k m l. found-set j s u k (m .0) l ∙ rw (is-false (j .output u) (m .1))))
 
     -- the block that FATAL_MSG guards in the Rust is needless: none of its three checks can fail
     pub fatal-needless : (checkDomain j (flowOf g) ≡ none) × (checkInitial j (flowOf g) (modeOf f) ≡ none) × (checkDefinition j (flowOf g) (modeOf f) ≡ none)

@@ -1,22 +1,22 @@
 -- The verifier accepts exactly what obeys the rule of its mode.
 use Prim.Native.Nat.{ℕ, _≤_, _<_, zero-le}
-use mathlib.Core.Path.{_≡_, sym, subst}
+use mathlib.Core.Path.{_≡_, sym, ap₂, _∙_, subst}
 use mathlib.Core.Bool.{Bool, false, _&&_}
 use mathlib.Core.Option.{none, some}
 use mathlib.Core.Logic.{_⊎_, inl, inr, _↔_, _≢_}
 use native.Mathlib.Omega.{arith}
-use lib.Dec.{T, eqb, eqb→eq, eqb-refl, ltb→lt, lt→ltb}
+use lib.Dec.{T, eqb, ltb, eqb→eq, eqb-refl, ltb→lt, lt→ltb}
 use Rattle.nodes.specs.Row.{anyBelow}
 use Rattle.nodes.proofs.Logic.{is-false, from-false, dec, and-none}
 use Rattle.nodes.proofs.Row.{any-in, any-out, parity-none}
 use Rattle.flows.specs.Job.{Job, odd, own, planeXZ}
 use Rattle.flows.specs.Conditions.{corrects}
-use Rattle.flows.specs.Search.{Progress, laterThan}
+use Rattle.flows.specs.Search.{Progress, firstRound, laterThan}
 use Rattle.flows.specs.Flows.{findAt}
 use Rattle.flows.specs.Premise.{premiseAt}
-use Rattle.flows.proofs.Conditions.{own-inputs, own-measured, corrects-by, corrects-own, corrects-later, causal-in, causal-inputs, causal-adjacent, needs-member}
+use Rattle.flows.proofs.Conditions.{own-inputs, own-measured, corrects-by, corrects-own, corrects-later, corrects-ext, causal-in, causal-inputs, causal-adjacent, needs-member}
 use Rattle.flows.proofs.Table.{needs-one}
-use Rattle.flows.proofs.Flows.{found-smallest}
+use Rattle.flows.proofs.Flows.{FoundAt, found-flow, found-corrects, found-smallest}
 use Rattle.records.specs.JobFile.{modeCausal, modePlanes, modePauli}
 use Rattle.records.specs.FlowFile.{Flow}
 use Rattle.verdicts.specs.Verdict as Q
@@ -47,7 +47,7 @@ module _ (j : Job) (f : Flow) (r : Readable j f) where
           empty k l = is-false (f .set i k) (λ q. d (any-in (j .nodes) (f .set i) k l q))
 
   -- each node's measurement is one of the table
-  pub measured-known : (u : ℕ) → u < j .nodes → j .measured u < 7
+  measured-known : (u : ℕ) → u < j .nodes → j .measured u < 7
   measured-known u l = go (dec (j .output u))
     where
       go : T (j .output u) ⊎ (T (j .output u) → ⊥) → j .measured u < 7
@@ -121,6 +121,24 @@ module _ (j : Job) (f : Flow) (r : Readable j f) where
     -- a flow is accepted exactly where it obeys the rule
     pub verify-rule : Q.verify j f mode ≡ none ↔ FlowRule mode j f
     verify-rule = (accepted-rule, rule-accepted)
+
+    -- ---- a flow with the layers and sets that the search finds obeys the rule
+    pub found-rule : (s : Progress) → findAt j pauli ≡ some s → Domain j (f .entry) → ((u : ℕ) → u < j .nodes → f .layer u ≡ s .layer u)
+        → ((u k : ℕ) → Measured j u → k < j .nodes → f .set u k ≡ s .set u k) → FlowRule mode j f
+    found-rule s e d layers sets =
+        corrects-rule d
+        (record {
+          outputs = λ u l o. layers u l ∙ found .output-layer u o;
+          others = λ q u m. subst (λ (x : ℕ). 0 < x) (sym (layers u (m .0))) (positive q (found .least u (m .0) (m .1)));
+        })
+        (λ u m. corrects-ext j (s .set u) (f .set u) (λ k l. sym (sets u k m l)) pauli (laterThan (s .layer) u) (laterThan (f .layer) u)
+        (λ k l. sym (ap₂ ltb (layers k l) (layers u (m .0)))) u (m .0) (found-corrects j pauli measured-known s found u (m .0) (m .1)))
+      where
+        found : FoundAt j pauli s
+        found = found-flow j pauli s e
+
+        positive : {x : ℕ} → mode ≡ modePlanes → firstRound pauli ≤ x → 0 < x
+        positive q h = rw q at h
 
     -- ---- under the premise the search finds a flow wherever one obeys the rule, and no layer of that one is smaller
     pub rule-smallest : (mode ≡ modePlanes → (u : ℕ) → Measured j u → j .measured u ≤ planeXZ) → ((u : ℕ) → j .edge u u ≡ false) → T (premiseAt j pauli)
