@@ -1,9 +1,9 @@
 -- What a call that gives something has shown: each of its questions was answered yes.
-use Prim.Native.Nat.{ℕ, suc}
+use Prim.Native.Nat.{ℕ}
 use mathlib.Core.Path.{_≡_, refl}
 use mathlib.Core.Bool.{Bool, true, false}
 use native.Mathlib.Omega.{arith}
-use Rattle.answers.specs.Answer.{Refusal, Answer, gives, refuses, _>>=_, _>>_, asks, no}
+use Rattle.answers.specs.Answer.{Refusal, Answer, gives, refuses, _>>=_, _>>_, asks}
 
 pub give-inj : {A : Type 0} {a b : A} → _≡_ {A = Answer A} (gives a) (gives b) → a ≡ b
 give-inj e = cc
@@ -23,7 +23,3 @@ asks-yes q false b e = absurd (never e)
 pub bind-out : {A B : Type 0} (m : Answer A) (k : A → Answer B) (b : B) → (m >>= k) ≡ gives b → (a : A) × (m ≡ gives a) × (k a ≡ gives b)
 bind-out (gives a) k b e = (a, refl, e)
 bind-out (refuses r) k b e = absurd (never e)
-
-pub no-out : (q : ℕ) (c : Bool) (rest : ℕ) → no (suc q) c rest ≡ 0 → (c ≡ true) × (rest ≡ 0)
-no-out q true rest e = (refl, e)
-no-out q false rest e = absurd (omega arith)

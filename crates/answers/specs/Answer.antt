@@ -1,5 +1,5 @@
 -- What a call answers: a value, or a refusal.
-use Prim.Native.Nat.{ℕ, zero, suc}
+use Prim.Native.Nat.{ℕ}
 use mathlib.Core.Bool.{Bool, true, false}
 
 -- the number of the question that was answered no, and its a and b, 0 where unused
@@ -29,13 +29,3 @@ refusal q = record { number = q; a = 0; b = 0 }
 abbrev pub asks : ℕ → Bool → Answer Bool
 asks q true = gives true
 asks q false = refuses (refusal q)
-
--- the number of the first question that is answered no; 0 where none is
-abbrev pub no : ℕ → Bool → ℕ → ℕ
-no q true rest = rest
-no q false rest = q
-
--- a value whose questions have this first no
-abbrev pub passed : {A : Type 0} → ℕ → A → Answer A
-passed zero a = gives a
-passed (suc q) a = refuses (refusal (suc q))

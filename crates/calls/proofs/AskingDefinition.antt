@@ -1,6 +1,6 @@
 -- The questions of one node, by what the code has answered, and the members of a set, visited from the least on.
 use Prim.Native.Nat.{ℕ, _+_, _≤_, _<_}
-use mathlib.Core.Path.{_≡_, refl, sym, ap, _∙_}
+use mathlib.Core.Path.{_≡_, refl}
 use mathlib.Core.Bool.{Bool, true, false, cond, not, _&&_, _||_}
 use mathlib.Core.Option.{Option, none, some}
 use mathlib.Core.Logic.{_⊎_, inl, inr, _≢_}
@@ -14,7 +14,7 @@ use Rattle.nodes.proofs.Logic.{is-true, is-false, from-true, and-all, lt-or-ge,
 use Rattle.nodes.proofs.Row.{any-in}
 use Rattle.nodes.proofs.Members.{lowest-none, lowest-member}
 use Rattle.nodes.proofs.Remove.{removed, removed-other, removed-same}
-use Rattle.flows.specs.Job.{Job, odd}
+use Rattle.flows.specs.Job.{Job}
 use Rattle.answers.specs.Answer.{Refusal}
 use Rattle.records.specs.JobFile.{modeCausal}
 use Rattle.records.specs.FlowFile.{Flow}

@@ -1,7 +1,7 @@
 -- From the records that were read to the verdict.
 use Prim.Native.Nat.{ℕ, _≤_, _<_}
 use mathlib.Core.Path.{_≡_, refl, sym, ap, _∙_}
-use mathlib.Core.Bool.{Bool, true, false, not, _&&_, _||_, false≢true}
+use mathlib.Core.Bool.{Bool, true, false, not, _||_, false≢true}
 use mathlib.Core.Option.{Option, none, some}
 use mathlib.Core.List.{List, [], _∷_}
 use native.Mathlib.Omega.{arith}
@@ -13,7 +13,7 @@ use Rattle.flows.specs.Job.{Job}
 use Rattle.answers.specs.Answer.{Refusal, refusal, gives, refuses}
 use Rattle.nodes.proofs.Logic.{and-out}
 use Rattle.records.specs.Records.{written, kindAccepted}
-use Rattle.nodes.specs.Lists.{has, all}
+use Rattle.nodes.specs.Lists.{has}
 use Rattle.records.specs.JobFile.{JobFile, mostNodes, modeCausal, workingOf, hasEdge, readJob, jobOf}
 use Rattle.nodes.specs.Options.{isSome}
 use Rattle.records.specs.FlowFile.{SetEntry, FlowFile, Flow, listed, allEntries, entryBelow, readFlow, setIn, entryIn, flowOf}

@@ -1,14 +1,13 @@
 -- What the code of the entries answers, and what the finder writes from its tables.
 use Prim.Native.Nat.{ℕ}
 use mathlib.Core.Bool.{Bool, not, _&&_}
-use mathlib.Core.Option.{Option, none, some}
 use mathlib.Core.List.{List}
 use lib.Dec.{leb, ltb}
 use lib.ListN.{take}
 use Rattle.nodes.specs.Row.{members}
 use Rattle.nodes.specs.NodeSet.{highest, capacity}
 use Rattle.nodes.specs.SetTable.{setAt}
-use Rattle.answers.specs.Answer.{Answer, gives, refuses, refusal}
+use Rattle.answers.specs.Answer.{Answer, gives, refuses}
 use Rattle.answers.specs.Refusals.{refusalOf}
 use Rattle.records.specs.Writing.{layerBytes, flowRecords}
 use Rattle.calls.specs.declared.Reply.{Reply}

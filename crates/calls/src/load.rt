@@ -13,9 +13,9 @@ ghost use Rattle.records.specs.FlowFile.{entriesOf, listed, allEntries, entryBe
 ghost use Rattle.records.specs.Encoding.{ValidJob};
 ghost use Rattle.records.specs.Views.{bytesAt, InFile, jobAt, JobInFile, flowAt};
 ghost use Rattle.calls.specs.Loaded.{hasSet, jobLoaded, flowIn};
-use nodes::utils::CAPACITY;
 use nodes::utils::NodeSet;
-use nodes::utils::TABLE_WORDS;
+use nodes::utils::SET_WORDS;
+use nodes::utils::WORD_BITS;
 use nodes::utils::clear_table;
 use nodes::utils::mask;
 use nodes::utils::put_set;
@@ -26,11 +26,6 @@ use records::common::JobPlaces;
 use records::common::payload;
 use records::questions::entries_end;
 use records::reader::set_of;
-
-// The words of a set in a table, and the nodes of a word.
-const SET_WORDS: usize = TABLE_WORDS / CAPACITY;
-
-const WORD_NODES: usize = CAPACITY / SET_WORDS;
 
 // The nodes of more join set u, where the table has it.
 fn add_set(table: &mut [u64], u: usize, more: NodeSet)
@@ -45,7 +40,7 @@ fn join(graph: &mut [u64], a: usize, b: usize)
     requires { ⌜ (length (now graph) ≡ tableWords) × (a < capacity) × (b < capacity) ⌝ }
     ensures { λ _. ⌜ ((u v : ℕ) → setAt (now (graph .exit)) u v ≡ setAt (now (graph .entry)) u v || (eqb u a && eqb v b)) ⌝ }
 {
-    let at = SET_WORDS * a + b / WORD_NODES;
+    let at = SET_WORDS * a + b / WORD_BITS;
     graph[at] |= mask(b);
 }
 

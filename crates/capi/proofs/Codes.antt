@@ -1,14 +1,13 @@
 -- What the one number tells a program in C: an answer exactly where it is below 2^32, and else the refusal's number, a and b.
 use Prim.Native.Nat.{ℕ, _≤_, _<_}
 use mathlib.Core.Path.{_≡_, refl}
-use mathlib.Core.Bool.{Bool, true, false, cond}
+use mathlib.Core.Bool.{Bool, true, false}
 use mathlib.Core.Option.{Option, none, some}
-use mathlib.Core.List.{List, [], _++_}
+use mathlib.Core.List.{List, []}
 use mathlib.Core.Logic.{_↔_}
 use native.Mathlib.Omega.{arith}
-use lib.Dec.{leb}
-use lib.ListN.{length, drop}
-use Rattle.answers.specs.Answer.{Refusal, Answer, gives, refuses, refusal, asks, _>>_}
+use lib.ListN.{length}
+use Rattle.answers.specs.Answer.{Refusal, Answer, gives, refuses, asks, _>>_}
 use Rattle.answers.proofs.Answer.{never}
 use Rattle.solver.specs.Solver as Solver
 use Rattle.records.specs.Records.{written, kindAccepted}
@@ -18,7 +17,7 @@ use Rattle.records.specs.Writing.{mostOutput}
 use Rattle.records.specs.JobFile.{JobFile}
 use Rattle.records.proofs.Records.{written-length}
 use Rattle.records.proofs.Encoding.{job-asked}
-use Rattle.demands.specs.Calls.{Outcome, put, findAsks, findOutcome, findCall, verifyAsks, verifyOutcome, verifyCall}
+use Rattle.demands.specs.Calls.{put, findAsks, findOutcome, findCall, verifyAsks, verifyOutcome, verifyCall}
 use Rattle.demands.proofs.Demand.{found-fits, asked-find}
 use Rattle.capi.specs.Codes.{numberUnit, answerCode, coded, counted, codedBits, Tells, TellsWhy}
 use Rattle.demands.proofs.Refusals.{Numbered, AllNumbered, given, asks-then, find-numbered, verify-numbered}

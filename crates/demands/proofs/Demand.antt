@@ -7,14 +7,14 @@ use mathlib.Core.Option.{Option, none, some}
 use mathlib.Core.List.{List, [], _++_}
 use mathlib.Core.Logic.{_⊎_, inl, inr, _≢_}
 use native.Mathlib.Omega.{arith}
-use lib.Dec.{T, eqb, leb, eqb→eq}
+use lib.Dec.{T, eqb, eqb→eq}
 use lib.ListN.{length, take, drop}
 use lib.Seq.{take-append-seam}
 use Rattle.nodes.proofs.Logic.{is-false, from-true, or-out, not-in, not-out}
 use Rattle.flows.specs.Job.{Job}
 use Rattle.flows.specs.Search.{Progress}
 use Rattle.flows.specs.Flows.{findAt}
-use Rattle.answers.specs.Answer.{Answer, gives, refuses, refusal, asks, _>>_}
+use Rattle.answers.specs.Answer.{Answer, gives, refuses, asks, _>>_}
 use Rattle.records.specs.Records.{written, kindNoFlow}
 use Rattle.records.specs.JobFile.{JobFile, mostNodes, readJob, jobOf, modeCausal, modePlanes, modePauli}
 use Rattle.records.specs.FlowFile.{FlowFile, readFlow, flowOf, nothingLeft}
@@ -22,7 +22,7 @@ use Rattle.records.specs.Encoding.{ValidJob, foundFlow}
 use Rattle.verdicts.specs.Verdict.{verify, checkDomain, checkInitial, checkDefinition}
 use Rattle.nodes.specs.Lists.{zeros}
 use Rattle.solver.specs.Solver.{workBytes}
-use Rattle.demands.specs.Calls.{modeOf, hasSearch, Outcome, put, findOutcome, findAsks, findCall, foundBytes, search}
+use Rattle.demands.specs.Calls.{modeOf, hasSearch, put, findOutcome, findAsks, findCall, foundBytes, search}
 use Rattle.records.specs.Splice.{fitsIn}
 use Rattle.records.specs.Writing.{flowBytes, mostOutput}
 use Rattle.demands.specs.Demand.{premise, Accepted, FlowBytes, layerIn, DemandHolds, Demand3}

@@ -1,13 +1,13 @@
 -- Every refusal of `findAsks` and `verifyAsks`, specs/Calls, has a number from 1 to 19 and a byte a; its b is a byte too, where the
 -- file holds bytes.
-use Prim.Native.Nat.{ℕ, zero, suc, _+_, _%_, _≤_, _<_}
-use mathlib.Core.Path.{_≡_, refl, sym, ap, _∙_}
-use mathlib.Core.Bool.{Bool, true, false, cond, not, _&&_, _||_}
+use Prim.Native.Nat.{ℕ, zero, suc, _+_, _≤_, _<_}
+use mathlib.Core.Path.{_≡_, refl}
+use mathlib.Core.Bool.{Bool, true, false, cond, not, _||_}
 use mathlib.Core.Option.{Option, none, some}
-use mathlib.Core.List.{List, _++_}
+use mathlib.Core.List.{List}
 use native.Mathlib.Omega.{arith}
-use lib.Dec.{eqb, leb, ltb}
-use lib.ListN.{length, getD, length-append, List·getD-append}
+use lib.Dec.{eqb}
+use lib.ListN.{length}
 use Rattle.answers.specs.Answer.{Refusal, Answer, gives, refuses, refusal, asks, _>>=_, _>>_}
 use Rattle.records.specs.JobFile.{JobFile, mostNodes, readJob, jobOf, modeCausal}
 use Rattle.records.specs.FlowFile.{FlowFile, Flow, allEntries, readFlow, flowOf}

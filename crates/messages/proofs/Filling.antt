@@ -1,16 +1,15 @@
 -- A template filled letter by letter, and written piece by piece.
-use Prim.Native.Nat.{ℕ, suc, _+_, _/_, _%_, _≤_, _<_}
+use Prim.Native.Nat.{ℕ, suc, _+_, _≤_, _<_}
 use mathlib.Core.Path.{_≡_, refl, sym, ap, ap₂, _∙_, subst}
 use mathlib.Core.Bool.{Bool, true, false, cond}
 use mathlib.Core.List.{List, [], _∷_, _++_, append-assoc}
 use native.Mathlib.Nat.{zero-add}
 use native.Mathlib.Omega.{arith}
-use lib.Dec.{eqb, ltb}
+use lib.Dec.{eqb}
 use lib.ListN.{length, getD, set, take, drop, length-append, drop-of-length-le}
 use lib.Seq.{sets, drop-cons, sets-eq, take-append-seam}
-use borrow.Author.Tests.{le-leb, lt-leb, leb-true, ne-eqb}
+use borrow.Author.Tests.{le-leb, lt-leb, ne-eqb}
 use Prim.Native.Char.{code}
-use Prim.Native.String.{String}
 use Rattle.answers.specs.Answer.{Refusal}
 use Rattle.messages.specs.Message.{decimalIn, inDecimal, spelled, filled, longest, Written, putWhole}
 use Rattle.messages.proofs.Sets.{sets-append}

@@ -9,7 +9,9 @@ use answers::Refusal;
 use calls::Reply;
 use calls::find::find;
 use calls::verify::verify;
+use records::common::HEAD_BYTES;
 use records::common::KIND_REFUSAL;
+use records::common::MOST_NODES;
 use records::writer::Put;
 use records::writer::write_record;
 use solver::gf2_linalg::WORK_BYTES;
@@ -17,8 +19,9 @@ use solver::gf2_linalg::WORK_BYTES;
 // Each judges the first 65,536 bytes.
 pub const JUDGED_BYTES: usize = 65536;
 
-// With a buffer of so many bytes no call ends with 20.
-pub const MOST_OUTPUT: usize = 16780;
+// With a buffer of so many bytes no call ends with 20: the heads of two records, a layer for each node, and entries of node,
+// count and members.
+pub const MOST_OUTPUT: usize = 2 * HEAD_BYTES + MOST_NODES + MOST_NODES * (MOST_NODES + 2);
 
 // The writer's question.
 const TOO_LONG: u8 = 20;

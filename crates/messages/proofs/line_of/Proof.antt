@@ -1,7 +1,5 @@
-use mathlib.Core.Path.{_≡_, refl, _∙_, sym, ap}
 use Rattle.messages.proofs.Text.{line-at, line-none}
 use native.Mathlib.Omega.{arith}
-use lib.ListN.{length}
 use borrow.Author.Needs.{needs}
 use Rattle.messages.proofs.line_of.Statement.{statement}
 use Rattle.messages.proofs.line_of.Tie as tie

@@ -1,14 +1,12 @@
-use Prim.Native.Nat.{ℕ, _≤_}
-use mathlib.Core.Path.{_≡_, refl, sym, ap, ap₂, _∙_}
+use Prim.Native.Nat.{ℕ}
+use mathlib.Core.Path.{_≡_, ap, ap₂, _∙_}
 use mathlib.Core.List.{List}
 use native.Mathlib.Omega.{arith}
-use lib.ListN.{length, replicate, length-replicate}
-use Rattle.nodes.specs.Row.{allBelow}
+use lib.ListN.{length, length-replicate}
 use Rattle.nodes.specs.NodeSet.{member, capacity}
 use Rattle.nodes.specs.SetTable.{tableWords}
 use Rattle.nodes.specs.Lists.{zeros}
 use Rattle.solver.specs.Solver.{workBytes}
-use Rattle.flows.specs.Search.{Progress}
 use Rattle.finder.specs.Searches.{SearchOutcome, searchOf, searched}
 use Rattle.records.specs.Splice.{putFront, putAnswer}
 use Rattle.calls.specs.Replies.{recordsFor}

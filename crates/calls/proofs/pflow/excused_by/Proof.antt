@@ -1,12 +1,10 @@
-use mathlib.Core.Path.{_≡_, ap, sym, _∙_, fun-ext}
-use mathlib.Core.Bool.{Bool, false, _&&_}
-use Prim.Native.Nat.{ℕ}
+use mathlib.Core.Path.{ap, sym, _∙_, fun-ext}
+use mathlib.Core.Bool.{Bool, _&&_}
 use borrow.Author.Tests.{eq-eqb, ne-eqb}
-use lib.Dec.{eqb, leb}
+use lib.Dec.{leb}
 use lib.ListN.{getD}
 use Rattle.nodes.proofs.Logic.{and-none}
 use Rattle.records.specs.JobFile.{modePauli}
-use Rattle.flows.specs.Job.{isXorY, isYorZ, pauliY}
 use Rattle.calls.specs.Loaded.{within}
 use Rattle.calls.proofs.AskingDefinition.{range-cut, two-of, one-of}
 use borrow.Author.Needs.{needs}

@@ -1,4 +1,4 @@
-use mathlib.Core.Path.{_≡_, sym, ap, _∙_}
+use mathlib.Core.Path.{sym, ap, _∙_}
 use borrow.Author.Tests.{ne-eqb}
 use Rattle.records.specs.JobFile.{modeCausal}
 use Rattle.verdicts.specs.Verdict.{nodeAsk, causalAsk, checkDefinition}

@@ -1,11 +1,10 @@
 use Prim.Native.Nat.{ℕ}
-use mathlib.Core.Path.{_≡_, refl, sym, ap, _∙_}
+use mathlib.Core.Path.{refl, ap}
 use native.Mathlib.Omega.{arith}
 use lib.ListN.{length-replicate}
-use Rattle.nodes.specs.NodeSet.{capacity}
 use Rattle.nodes.specs.SetTable.{tableWords}
 use Rattle.flows.specs.Job.{Job}
-use Rattle.records.specs.Views.{jobAt, flowAt}
+use Rattle.records.specs.Views.{flowAt}
 use Rattle.calls.proofs.LoadingFiles.{entries-fit}
 use Rattle.calls.proofs.Loaded.{verify-joined}
 use borrow.Author.Needs.{needs}

@@ -1,17 +1,15 @@
 use Prim.Native.Nat.{ℕ}
-use mathlib.Core.Path.{_≡_, sym, ap, _∙_, subst}
+use mathlib.Core.Path.{sym, ap, _∙_}
 use mathlib.Core.List.{List}
-use mathlib.Core.Option.{some}
 use Rattle.nodes.specs.Lists.{zeros}
 use Rattle.solver.specs.Solver.{workBytes}
-use Rattle.answers.specs.Answer.{Refusal}
 use Rattle.answers.specs.Refusals.{refusalOf}
 use Rattle.demands.specs.Calls.{Outcome, findCall}
-use Rattle.demands.specs.Programs.{judgedBytes, refusalBytes}
+use Rattle.demands.specs.Programs.{judgedBytes}
 use Rattle.calls.specs.declared.Reply.{Reply}
 use Rattle.programs.specs.declared.output.Output.{Output}
 use Rattle.calls.specs.Replies.{replyOf}
-use Rattle.programs.specs.Printing.{Printed, tooLong, printed, outputOf}
+use Rattle.programs.specs.Printing.{outputOf}
 use Rattle.programs.proofs.Printing.{first-bytes, find-gives, find-20, find-refuses}
 use borrow.Author.Needs.{needs}
 use Rattle.programs.proofs.output.find_bytes.Statement.{statement}

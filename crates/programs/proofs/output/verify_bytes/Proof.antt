@@ -1,15 +1,13 @@
 use Prim.Native.Nat.{ℕ}
 use mathlib.Core.Path.{sym, ap, _∙_}
 use mathlib.Core.List.{List, []}
-use mathlib.Core.Option.{some}
-use Rattle.answers.specs.Answer.{Refusal}
 use Rattle.answers.specs.Refusals.{refusalOf}
 use Rattle.demands.specs.Calls.{Outcome, verifyCall}
-use Rattle.demands.specs.Programs.{judgedBytes, refusalBytes}
+use Rattle.demands.specs.Programs.{judgedBytes}
 use Rattle.calls.specs.declared.Reply.{Reply}
 use Rattle.programs.specs.declared.output.Output.{Output}
 use Rattle.calls.specs.Replies.{replyOf}
-use Rattle.programs.specs.Printing.{printed, outputOf}
+use Rattle.programs.specs.Printing.{outputOf}
 use Rattle.programs.proofs.Printing.{first-bytes, verify-gives, verify-refuses}
 use borrow.Author.Needs.{needs}
 use Rattle.programs.proofs.output.verify_bytes.Statement.{statement}
