@@ -31,15 +31,15 @@ node-below j c u l set e k t =
     member b x h (inr s) = subst (λ (v : ℕ). v < j .nodes) (sym (eqb→eq k u (and-r (inSet b) (eqb k u) s))) l
 
 -- ---- rounds
-module _ (n : ℕ) (try : (ℕ → Bool) → ℕ → Option (ℕ → Bool)) (below : (gone : ℕ → Bool) (u : ℕ) → u < n → (set : ℕ → Bool) → try gone u ≡ some set → Below n set) where
+module _ (n : ℕ) (try : (ℕ → Bool) → ℕ → Option (ℕ → Bool)) (below : (later : ℕ → Bool) (u : ℕ) → u < n → (set : ℕ → Bool) → try later u ≡ some set → Below n set) where
   abbrev pub SetsBelow : Progress → Type 0
   SetsBelow s = (u : ℕ) → u < n → Below n (s .set u)
 
   pub start-below : (output : ℕ → Bool) → SetsBelow (start output)
   start-below output u l k t = absurd t
 
-  pub round-below : (gone : ℕ → Bool) (r : ℕ) (s : Progress) → SetsBelow s → SetsBelow (round (try gone) r s)
-  round-below gone r s h u l = go (solvedNow (try gone) s u) (try gone u) (below gone u l)
+  pub round-below : (later : ℕ → Bool) (r : ℕ) (s : Progress) → SetsBelow s → SetsBelow (round (try later) r s)
+  round-below later r s h u l = go (solvedNow (try later) s u) (try later u) (below later u l)
     where
       go : (b : Bool) (o : Option (ℕ → Bool)) → ((set : ℕ → Bool) → o ≡ some set → Below n set) → Below n (cond b (orNone o) (s .set u))
       go true none f = λ k t. absurd t
@@ -58,15 +58,15 @@ module _ (n : ℕ) (try : (ℕ → Bool) → ℕ → Option (ℕ → Bool)) (bel
       go (inr (t, p)) ih = rw p ih
 
 -- ---- both searches
-planes-below : (j : Job) (gone : ℕ → Bool) (u : ℕ) → u < j .nodes → (set : ℕ → Bool) → Planes.try j gone u ≡ some set → Below (j .nodes) set
-planes-below j gone u l set e = node-below j (Planes.context j gone) u l set e
+planes-below : (j : Job) (later : ℕ → Bool) (u : ℕ) → u < j .nodes → (set : ℕ → Bool) → Planes.try j later u ≡ some set → Below (j .nodes) set
+planes-below j later u l set e = node-below j (Planes.context j later) u l set e
 
-paulis-below : (j : Job) (gone : ℕ → Bool) (u : ℕ) → u < j .nodes → (set : ℕ → Bool) → Paulis.try j gone u ≡ some set → Below (j .nodes) set
-paulis-below j gone u l set e = go (Paulis.noColumnFor j gone u) e
+paulis-below : (j : Job) (later : ℕ → Bool) (u : ℕ) → u < j .nodes → (set : ℕ → Bool) → Paulis.try j later u ≡ some set → Below (j .nodes) set
+paulis-below j later u l set e = go (Paulis.noColumnFor j later u) e
   where
-    go : (b : Bool) → cond b none (tryNode j (Paulis.context j gone u) u) ≡ some set → Below (j .nodes) set
+    go : (b : Bool) → cond b none (tryNode j (Paulis.context j later u) u) ≡ some set → Below (j .nodes) set
     go true e = absurd (Option·none-ne-some _ e)
-    go false e = node-below j (Paulis.context j gone u) u l set e
+    go false e = node-below j (Paulis.context j later u) u l set e
 
 pub progress-below : (pauli : Bool) (j : Job) (u : ℕ) → u < j .nodes → Below (j .nodes) (progressAt pauli j .set u)
 progress-below true j =

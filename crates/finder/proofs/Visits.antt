@@ -228,18 +228,18 @@ module _ (stops : Progress → Bool) (try : (ℕ → Bool) → ℕ → Option (�
 
   -- Before round r, with s found so far, the search is on its way to w: the rounds that are left lead there, and there are as
   -- many as nodes can still be solved.
-  pub record Going (w : Progress) (r : ℕ) (s : Progress) : Type 0 where
+  pub record Pending (w : Progress) (r : ℕ) (s : Progress) : Type 0 where
     pub cut : s ≡ cutTo n s
     pub bound : ℕ
     pub all : r + bound ≡ n + 1
     pub unsolved : count n (λ u. not (s .solved u)) ≤ bound
     pub same : SameProgress n (rounds stops try n bound r s) w
 
-  going-stop : (w : Progress) (r : ℕ) (s : Progress) → Going w r s → T (stops s) → s ≡ cutTo n w
+  going-stop : (w : Progress) (r : ℕ) (s : Progress) → Pending w r s → T (stops s) → s ≡ cutTo n w
   going-stop w r s g t = g .cut ∙ cut-ext n s w (rw (stopped (g .bound) r s t) at (g .same))
 
   -- what round r has made of s
-  module _ (w : Progress) (r : ℕ) (s t : Progress) (g : Going w r s) (e : t ≡ cutTo n (round (try (s .solved)) r s)) where
+  module _ (w : Progress) (r : ℕ) (s t : Progress) (g : Pending w r s) (e : t ≡ cutTo n (round (try (s .solved)) r s)) where
     nothing-new : anyBelow n (solvedNow (try (s .solved)) s) ≡ false → t ≡ cutTo n s
     nothing-new f = e ∙ cut-ext n (round (try (s .solved)) r s) s (record { solved = λ u l. rw (none′ u l) (or-none (s .solved u)); layer = λ u l. rw (none′ u l); set = λ u l. rw (none′ u l) })
       where
@@ -283,8 +283,8 @@ module _ (stops : Progress → Bool) (try : (ℕ → Bool) → ℕ → Option (�
           omega arith
 
       going-on : ((x y : Progress) → SameProgress n x y → stops x ≡ stops y)
-          → ((gone gone′ : ℕ → Bool) → ((v : ℕ) → v < n → gone v ≡ gone′ v) → (u : ℕ) → u < n → try gone u ≡ try gone′ u)
-          → (T (stops s) → ⊥) → Going w (r + 1) t
+          → ((later later′ : ℕ → Bool) → ((v : ℕ) → v < n → later v ≡ later′ v) → (u : ℕ) → u < n → try later u ≡ try later′ u)
+          → (T (stops s) → ⊥) → Pending w (r + 1) t
       going-on x y f = go (g .bound) (g .all) (g .unsolved) (g .same)
         where
           less : (k : ℕ) → count n (λ u. not (s .solved u)) ≤ k → count n (λ u. not (t .solved u)) < k
@@ -299,7 +299,7 @@ module _ (stops : Progress → Bool) (try : (ℕ → Bool) → ℕ → Option (�
           no-bound : (m : ℕ) → m < 0 → ⊥
           no-bound m h = omega arith
 
-          go : (k : ℕ) → r + k ≡ n + 1 → count n (λ u. not (s .solved u)) ≤ k → SameProgress n (rounds stops try n k r s) w → Going w (r + 1) t
+          go : (k : ℕ) → r + k ≡ n + 1 → count n (λ u. not (s .solved u)) ≤ k → SameProgress n (rounds stops try n k r s) w → Pending w (r + 1) t
           go zero b c d = absurd (no-bound (count n (λ u. not (t .solved u))) (less zero c))
           go (suc k) b c d = record {
             cut = cut-again n t (round (try (s .solved)) r s) e;
@@ -310,7 +310,7 @@ module _ (stops : Progress → Bool) (try : (ℕ → Bool) → ℕ → Option (�
           }
 
   -- what a round has made of s, or left of it where the search stops
-  module _ (w : Progress) (r : ℕ) (s t : Progress) (g : Going w r s) (e : t ≡ advanced stops (try (s .solved)) n r s) where
+  module _ (w : Progress) (r : ℕ) (s t : Progress) (g : Pending w r s) (e : t ≡ advanced stops (try (s .solved)) n r s) where
     abbrev unchanged : Bool
     unchanged = allBelow capacity (λ u. not (t .solved u ⊕ s .solved u))
 
@@ -337,13 +337,13 @@ module _ (stops : Progress → Bool) (try : (ℕ → Bool) → ℕ → Option (�
       going-less = going-fewer w r s t g (went-on goes-on) (going-new w r s t g (went-on goes-on) q)
 
       pub going-next : ((x y : Progress) → SameProgress n x y → stops x ≡ stops y)
-          → ((gone gone′ : ℕ → Bool) → ((v : ℕ) → v < n → gone v ≡ gone′ v) → (u : ℕ) → u < n → try gone u ≡ try gone′ u)
-          → Going w (r + 1) t
+          → ((later later′ : ℕ → Bool) → ((v : ℕ) → v < n → later v ≡ later′ v) → (u : ℕ) → u < n → try later u ≡ try later′ u)
+          → Pending w (r + 1) t
       going-next x y = going-on w r s t g (went-on goes-on) (going-new w r s t g (went-on goes-on) q) x y goes-on
 
   pub going-start : ((x y : Progress) → SameProgress n x y → stops x ≡ stops y)
-      → ((gone gone′ : ℕ → Bool) → ((v : ℕ) → v < n → gone v ≡ gone′ v) → (u : ℕ) → u < n → try gone u ≡ try gone′ u)
-      → (s t : Progress) → s ≡ cutTo n t → Going (rounds stops try n n 1 t) 1 s
+      → ((later later′ : ℕ → Bool) → ((v : ℕ) → v < n → later v ≡ later′ v) → (u : ℕ) → u < n → try later u ≡ try later′ u)
+      → (s t : Progress) → s ≡ cutTo n t → Pending (rounds stops try n n 1 t) 1 s
   going-start x y s t e = record {
     cut = cut-again n s t e;
     bound = n;

@@ -113,6 +113,6 @@ abbrev pub PlanesAdvanced : (n : ℕ) (graph : List ℕ) (inputs : NodeSet) (mea
 PlanesAdvanced n graph inputs measured r p q =
     (outputs : NodeSet) → let j = jobIn n graph inputs outputs measured in q ≡ advanced (Planes.stops j) (Planes.try j (p .solved)) n r p
 
-abbrev pub PaulisAdvanced : (n : ℕ) (graph : List ℕ) (inputs : NodeSet) (measured : List ℕ) (gone : ℕ → Bool) (r : ℕ) (p q : Progress) → Type 0
-PaulisAdvanced n graph inputs measured gone r p q =
-    (outputs : NodeSet) → let j = jobIn n graph inputs outputs measured in q ≡ advanced (λ s. false) (Paulis.try j gone) n r p
+abbrev pub PaulisAdvanced : (n : ℕ) (graph : List ℕ) (inputs : NodeSet) (measured : List ℕ) (later : ℕ → Bool) (r : ℕ) (p q : Progress) → Type 0
+PaulisAdvanced n graph inputs measured later r p q =
+    (outputs : NodeSet) → let j = jobIn n graph inputs outputs measured in q ≡ advanced (λ s. false) (Paulis.try j later) n r p

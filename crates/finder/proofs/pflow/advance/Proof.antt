@@ -19,8 +19,8 @@ round-requires c κs =
     let a = entry d .args in
     let p = entry d .pre in
     let e = d .context .ensures in
-    let inside : (v : ℕ) → T (member (a .gone) v) → v < a .n = λ v t. cut-inside (a .n) (a .state .solved) (a .layers .now) (a .sets .now) (p .1 .2) v (p .1 .1 v t) in
-    (p .0 .0, p .0 .1, p .0 .2, paulis-context (a .n) (a .graph .now) (a .inputs) (a .measured .now) (a .gone) (a .kinds) (d .context .result) (p .0 .0 .nodes) (p .1 .0) inside (e .0) (e .1) (e .2) (a .state .solved) (p .1 .1))
+    let inside : (v : ℕ) → T (member (a .later) v) → v < a .n = λ v t. cut-inside (a .n) (a .state .solved) (a .layers .now) (a .sets .now) (p .1 .2) v (p .1 .1 v t) in
+    (p .0 .0, p .0 .1, p .0 .2, paulis-context (a .n) (a .graph .now) (a .inputs) (a .measured .now) (a .later) (a .kinds) (d .context .result) (p .0 .0 .nodes) (p .1 .0) inside (e .0) (e .1) (e .2) (a .state .solved) (p .1 .1))
 
 same-length : tie.Need-same-length
 same-length c = search needs
@@ -50,8 +50,8 @@ returns c =
     let a = entry d .args in
     let p = entry d .pre in
     let e = d .context .ensures in
-    let inside : (v : ℕ) → T (member (a .gone) v) → v < a .n = λ v t. cut-inside (a .n) (a .state .solved) (a .layers .now) (a .sets .now) (p .1 .2) v (p .1 .1 v t) in
-    (λ o. r .round .ensures .0 ∙ paulis-advanced (a .n) (a .graph .now) (a .inputs) (a .measured .now) (a .gone) (a .kinds) (d .context .result) (p .0 .0 .nodes) (p .1 .0) inside (e .0) (e .1) (e .2) (a .state .solved) (p .1 .1) (a .layers .now) (a .sets .now) (p .1 .2) (a .r) o, r .round .ensures .1)
+    let inside : (v : ℕ) → T (member (a .later) v) → v < a .n = λ v t. cut-inside (a .n) (a .state .solved) (a .layers .now) (a .sets .now) (p .1 .2) v (p .1 .1 v t) in
+    (λ o. r .round .ensures .0 ∙ paulis-advanced (a .n) (a .graph .now) (a .inputs) (a .measured .now) (a .later) (a .kinds) (d .context .result) (p .0 .0 .nodes) (p .1 .0) inside (e .0) (e .1) (e .2) (a .state .solved) (p .1 .1) (a .layers .now) (a .sets .now) (p .1 .2) (a .r) o, r .round .ensures .1)
 
 pub advance-spec : {M : Type 1} → statement M
 advance-spec =

@@ -28,7 +28,7 @@ returns : tie.Need-returns
 returns c = let a = c .before .before .before .before .before .before .args in (
   c .before .before .before .before .difference .ensures ∙ ap {B = ℕ → Bool} (λ (f : ℕ → Bool) (k : ℕ). f k && not (member (a .inputs) k)) (c .before .before .before .before .before .union .ensures),
   c .before .difference3 .ensures
-      ∙ ap {B = ℕ → Bool} (λ (f : ℕ → Bool) (v : ℕ). f v && not (member (a .kinds .yz) v)) (c .before .before .difference2 .ensures ∙ ap {B = ℕ → Bool} (λ (f : ℕ → Bool) (v : ℕ). f v && not (member (a .gone) v)) (c .before .before .before .below .ensures)),
+      ∙ ap {B = ℕ → Bool} (λ (f : ℕ → Bool) (v : ℕ). f v && not (member (a .kinds .yz) v)) (c .before .before .difference2 .ensures ∙ ap {B = ℕ → Bool} (λ (f : ℕ → Bool) (v : ℕ). f v && not (member (a .later) v)) (c .before .before .before .below .ensures)),
   c .difference4 .ensures,
 )
 
