@@ -1,4 +1,4 @@
--- Questions asked of the nodes in order: by a loop, or of the least member of a set.
+-- For the verifier's loops: questions asked of the nodes in order, by a loop or of the least member of a set.
 use Prim.Native.Nat.{ℕ, zero, suc, _+_, _-_, _≤_, _<_, zero-le}
 use mathlib.Core.Path.{_≡_, refl, sym, ap, _∙_}
 use mathlib.Core.Bool.{Bool, true, false, cond, _&&_}

@@ -1,4 +1,4 @@
--- The questions of one node, by what the code has answered, and the members of a set, visited from the least on.
+-- For flow.rt and pflow.rt: the questions of one node, by what the code has answered, and the members of a set, visited from the least on.
 use Prim.Native.Nat.{ℕ, _+_, _≤_, _<_}
 use mathlib.Core.Path.{_≡_, refl}
 use mathlib.Core.Bool.{Bool, true, false, cond, not, _&&_, _||_}

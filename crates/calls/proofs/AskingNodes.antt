@@ -1,4 +1,4 @@
--- The questions of the verifier as sets of the nodes that are refused, from which the code takes the least.
+-- For validate.rt and pflow.rt: the questions of the verifier as sets of the nodes that are refused, from which the code takes the least.
 use Prim.Native.Nat.{ℕ, _+_, _≤_, _<_}
 use mathlib.Core.Path.{_≡_, refl, sym, ap, ap₂, _∙_}
 use mathlib.Core.Bool.{Bool, true, false, cond, not, _&&_, _||_, Bool·beq}

@@ -1,4 +1,4 @@
--- The finder's call: what is written of the search of a job that was loaded is what the definition says.
+-- For find.rt: what is written of the search of a job that was loaded is what the definition says.
 use Prim.Native.Nat.{ℕ, zero, suc, _≤_, _<_}
 use mathlib.Core.Path.{_≡_, refl, sym, _∙_}
 use mathlib.Core.Bool.{Bool, true, false, cond, not, _&&_, _||_}

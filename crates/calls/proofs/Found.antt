@@ -1,4 +1,4 @@
--- What is written from the finder's tables is the flow file of what its search found.
+-- For find.rt: what is written from the finder's tables is the flow file of what its search found.
 use Prim.Native.Nat.{ℕ, _+_, _*_, _/_, _%_, _≤_, _<_}
 use mathlib.Core.Path.{_≡_, refl, sym, ap, ap₂, _∙_, fun-ext}
 use mathlib.Core.Bool.{Bool, true, cond, not, _&&_}

@@ -1,4 +1,4 @@
--- Edges as a table of sets: those put in so far, and those of the rest.
+-- For `load_graph`: edges as a table of sets: those put in so far, and those of the rest.
 use Prim.Native.Nat.{ℕ, _+_, _*_, _-_, _/_, _%_, _^_, _<_, _≤_}
 use mathlib.Core.Path.{_≡_, refl, sym, ap, ap₂, _∙_}
 use mathlib.Core.Bool.{Bool, true, false, cond, _&&_, _||_}

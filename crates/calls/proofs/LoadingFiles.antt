@@ -1,4 +1,4 @@
--- From the records that were read to the verdict.
+-- For verify.rt: from the records that were read to the verdict.
 use Prim.Native.Nat.{ℕ, _≤_, _<_}
 use mathlib.Core.Path.{_≡_, refl, sym, ap, _∙_}
 use mathlib.Core.Bool.{Bool, true, false, not, _||_, false≢true}

@@ -1,4 +1,4 @@
--- Entries as a table of sets: those put in so far, and those of the rest.
+-- For `load_entries`: entries as a table of sets: those put in so far, and those of the rest.
 use Prim.Native.Nat.{ℕ, _+_, _-_, _<_, _≤_}
 use mathlib.Core.Path.{_≡_, refl, sym, ap, _∙_}
 use mathlib.Core.Bool.{Bool, true, false, _&&_, _||_}

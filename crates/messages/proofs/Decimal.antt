@@ -1,4 +1,4 @@
--- Numbers in decimal: one digit more, and how many digits there are at most.
+-- For `put_decimal`, of specs/Message: numbers in decimal: one digit more, and how many digits there are at most.
 use Prim.Native.Nat.{ℕ, zero, suc, _+_, _*_, _/_, _%_, _^_, _≤_, _<_}
 use mathlib.Core.Path.{_≡_, refl, sym, ap, ap₂, _∙_}
 use mathlib.Core.Bool.{Bool, true, false, cond}

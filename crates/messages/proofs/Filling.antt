@@ -1,4 +1,4 @@
--- A template filled letter by letter, and written piece by piece.
+-- For `put_filled` and `put_line`, of specs/Message: a template filled letter by letter, and written piece by piece.
 use Prim.Native.Nat.{ℕ, suc, _+_, _≤_, _<_}
 use mathlib.Core.Path.{_≡_, refl, sym, ap, ap₂, _∙_, subst}
 use mathlib.Core.Bool.{Bool, true, false, cond}

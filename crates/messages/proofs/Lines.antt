@@ -1,4 +1,4 @@
--- What holds of every line, and a worked example.
+-- Of specs/Message: what holds of every line, a worked example, and the code's table of words.
 use Prim.Native.Nat.{ℕ, zero, suc, _+_, _≤_}
 use Prim.Native.String.{String}
 use mathlib.Core.Path.{_≡_, refl, sym, ap, _∙_, subst}

@@ -23,7 +23,6 @@ abbrev put-decimal-below : ℕ → In 1 put-decimal-kinds.ps
 put-decimal-below t =
     and 1 put-decimal-kinds.ps (falls 1 put-decimal-kinds.ps _<_ μ-put-decimal t) put-decimal.Pre
 
--- src/lib.rt:29:19
 put-decimal-digit-requires : (t : ℕ) → put-decimal-lts.Need-digit-requires (
   digit-reads.Asked,
   digit-reads.Learnt,
@@ -32,7 +31,6 @@ put-decimal-digit-requires : (t : ℕ) → put-decimal-lts.Need-digit-requires (
 ) (put-decimal-at t) put-decimal.Post
 put-decimal-digit-requires t c κs = c .if1 .taken
 
--- src/lib.rt:29:9
 put-decimal-slice-write-out : (t : ℕ) → put-decimal-lts.Need-slice-write-out (
   digit-reads.Asked,
   digit-reads.Learnt,
@@ -41,7 +39,6 @@ put-decimal-slice-write-out : (t : ℕ) → put-decimal-lts.Need-slice-write-out
 ) (put-decimal-at t) put-decimal.Post
 put-decimal-slice-write-out t c = let a = c .before .before .before .args in omega (arith, one-long (a .n) (c .before .if1 .taken), c .before .before .before .pre .1)
 
--- src/lib.rt:30:16
 put-decimal-add-result : (t : ℕ) → put-decimal-lts.Need-add-result (
   digit-reads.Asked,
   digit-reads.Learnt,
@@ -50,7 +47,6 @@ put-decimal-add-result : (t : ℕ) → put-decimal-lts.Need-add-result (
 ) (put-decimal-at t) put-decimal.Post
 put-decimal-add-result t c = let a = c .before .before .before .args in record { fits = omega (arith, one-long (a .n) (c .before .if1 .taken), c .before .before .before .pre .1, c .before .before .before .good .0 .0) }
 
--- src/lib.rt:30:9
 put-decimal-same-length : (t : ℕ) → put-decimal-lts.Need-same-length (
   digit-reads.Asked,
   digit-reads.Learnt,
@@ -59,7 +55,6 @@ put-decimal-same-length : (t : ℕ) → put-decimal-lts.Need-same-length (
 ) (put-decimal-at t) put-decimal.Post
 put-decimal-same-length t c = search needs
 
--- src/lib.rt:30:9
 put-decimal-returns : (t : ℕ) → put-decimal-lts.Need-returns (
   digit-reads.Asked,
   digit-reads.Learnt,
@@ -68,7 +63,6 @@ put-decimal-returns : (t : ℕ) → put-decimal-lts.Need-returns (
 ) (put-decimal-at t) put-decimal.Post
 put-decimal-returns t c = let a = c .before .before .before .args in (put-one (a .n) (c .digit .result) (a .at) (a .out .now) (c .before .if1 .taken) (c .digit .ensures), ap (λ (k : ℕ). a .at + k) (sym (one-long (a .n) (c .before .if1 .taken))))
 
--- src/lib.rt:32:9
 put-decimal-put-decimal-requires : (t : ℕ) → put-decimal-lts.Need-put-decimal-requires (
   digit-reads.Asked,
   digit-reads.Learnt,
@@ -77,7 +71,6 @@ put-decimal-put-decimal-requires : (t : ℕ) → put-decimal-lts.Need-put-decima
 ) (put-decimal-at t) put-decimal.Post
 put-decimal-put-decimal-requires t c κs = let a = c .before .before .before .args in let big : 10 ≤ a .n = omega (arith, c .before .if1 .left) in (omega (arith, c .before .before .before .pre .0), omega (arith, more-long (a .n) big, c .before .before .before .pre .1))
 
--- src/lib.rt:33:14
 put-decimal-digit-requires-2 : (t : ℕ) → put-decimal-lts.Need-digit-requires-2 (
   digit-reads.Asked,
   digit-reads.Learnt,
@@ -86,7 +79,6 @@ put-decimal-digit-requires-2 : (t : ℕ) → put-decimal-lts.Need-digit-requires
 ) (put-decimal-at t) put-decimal.Post
 put-decimal-digit-requires-2 t c κs = search needs
 
--- src/lib.rt:33:5
 put-decimal-slice-write-out-2 : (t : ℕ) → put-decimal-lts.Need-slice-write-out-2 (
   digit-reads.Asked,
   digit-reads.Learnt,
@@ -95,7 +87,6 @@ put-decimal-slice-write-out-2 : (t : ℕ) → put-decimal-lts.Need-slice-write-o
 ) (put-decimal-at t) put-decimal.Post
 put-decimal-slice-write-out-2 t c = let a = c .before .before .before .before .before .before .before .args in let big : 10 ≤ a .n = omega (arith, c .before .before .before .before .before .if1 .left) in omega (arith, more-long (a .n) big, c .before .before .before .before .before .before .before .pre .1, c .before .before .before .put-decimal .ensures .1, c .before .before .before .put-decimal .kept .0)
 
--- src/lib.rt:34:5
 put-decimal-add-result-2 : (t : ℕ) → put-decimal-lts.Need-add-result-2 (
   digit-reads.Asked,
   digit-reads.Learnt,
@@ -104,7 +95,6 @@ put-decimal-add-result-2 : (t : ℕ) → put-decimal-lts.Need-add-result-2 (
 ) (put-decimal-at t) put-decimal.Post
 put-decimal-add-result-2 t c = let a = c .before .before .before .before .before .before .before .args in let big : 10 ≤ a .n = omega (arith, c .before .before .before .before .before .if1 .left) in record { fits = omega (arith, more-long (a .n) big, c .before .before .before .before .before .before .before .pre .1, c .before .before .before .put-decimal .ensures .1, c .before .before .before .before .before .before .before .good .0 .0) }
 
--- src/lib.rt:23:1
 put-decimal-same-length-2 : (t : ℕ) → put-decimal-lts.Need-same-length-2 (
   digit-reads.Asked,
   digit-reads.Learnt,
@@ -113,7 +103,6 @@ put-decimal-same-length-2 : (t : ℕ) → put-decimal-lts.Need-same-length-2 (
 ) (put-decimal-at t) put-decimal.Post
 put-decimal-same-length-2 t c = search needs
 
--- src/lib.rt:23:1
 put-decimal-returns-2 : (t : ℕ) → put-decimal-lts.Need-returns-2 (
   digit-reads.Asked,
   digit-reads.Learnt,

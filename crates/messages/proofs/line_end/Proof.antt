@@ -9,8 +9,6 @@ use Rattle.messages.proofs.Text.{line-done, line-end, line-feed, line-o
 use borrow.Author.Needs.{needs}
 use Rattle.messages.proofs.line_end.Statement.{statement}
 use Rattle.messages.proofs.line_end.Tie as tie
-use Rattle.messages.proofs.line_end.Reads as reads
-use Rattle.messages.proofs.line_end.Lts as lts
 
 abbrev Inv-loop : tie.InvT-loop
 Inv-loop text start i₀ i = (start ≤ i) × (i ≤ length text) × (take (i - start) (drop start text) ++ firstLine (drop i text) ≡ firstLine (drop start text))
@@ -18,35 +16,28 @@ Inv-loop text start i₀ i = (start ≤ i) × (i ≤ length text) × (take (i - 
 abbrev μ-loop : tie.MeasureT-loop
 μ-loop text start i₀ i = length text - i
 
--- src/lib.rt:121:5
 loop-holds : tie.Need-loop-holds Inv-loop μ-loop
 loop-holds c = (search needs, search needs, line-start (c .args .text .now) (c .args .start))
 
--- src/lib.rt:122:12
 shared-slice-read-if1 : tie.Need-shared-slice-read-if1 Inv-loop μ-loop
 shared-slice-read-if1 c = search needs
 
--- src/lib.rt:123:13
 returns : tie.Need-returns Inv-loop μ-loop
 returns c = let l = c .before .before .before .loop in
     let a = c .before .before .before .before .args in
     (search needs, search needs, line-done (a .text .now) (l .i) (a .start) (l .inv .0) (l .inv .2) (line-feed (a .text .now) (l .i) (omega arith) (c .if1 .taken)))
 
--- src/lib.rt:125:9
 add-i : tie.Need-add-i Inv-loop μ-loop
 add-i c = search needs
 
--- src/lib.rt:121:5
 loop-less : tie.Need-loop-less Inv-loop μ-loop
 loop-less c = search needs
 
--- src/lib.rt:121:5
 loop-again : tie.Need-loop-again Inv-loop μ-loop
 loop-again c = let l = c .before .before .before .loop in
     let a = c .before .before .before .before .args in
     (search needs, search needs, line-on (a .text .now) (l .i) (a .start) (l .inv .0) (omega arith) (ne-eqb (getD (a .text .now) (l .i) 0) lineFeed (c .if1 .left)) (l .inv .2))
 
--- src/lib.rt:116:1
 returns-2 : tie.Need-returns-2 Inv-loop μ-loop
 returns-2 c = let l = c .before .loop in
     let a = c .before .before .args in

@@ -3,19 +3,13 @@ use native.Mathlib.Omega.{arith}
 use borrow.Author.Needs.{needs}
 use Rattle.messages.proofs.line_of.Statement.{statement}
 use Rattle.messages.proofs.line_of.Tie as tie
-use Rattle.messages.proofs.line_of.Reads as reads
-use Rattle.messages.proofs.line_of.Lts as lts
-use Rattle.messages.proofs.line_start.Reads as line-start-reads
 
--- src/lib.rt:131:9
 line-start-requires : tie.Need-line-start-requires
 line-start-requires c κs = search needs
 
--- src/lib.rt:133:9
 returns : tie.Need-returns
 returns c = let a = c .before .before .before .args in let s = c .before .line-start in (search needs, line-none (a .text .now) (a .k) (s .result) (s .ensures .1) (omega (arith, c .if1 .taken)))
 
--- src/lib.rt:128:1
 returns-2 : tie.Need-returns-2
 returns-2 c = let a = c .before .before .before .args in let s = c .before .line-start in (s .ensures .0, line-at (a .text .now) (a .k) (s .result) (s .ensures .1) (omega (arith, c .if1 .left, s .ensures .0)))
 

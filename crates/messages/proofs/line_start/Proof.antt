@@ -7,9 +7,6 @@ use Rattle.messages.proofs.Text.{behind-all, behind-end, behind-next}
 use borrow.Author.Needs.{needs}
 use Rattle.messages.proofs.line_start.Statement.{statement}
 use Rattle.messages.proofs.line_start.Tie as tie
-use Rattle.messages.proofs.line_start.Reads as reads
-use Rattle.messages.proofs.line_start.Lts as lts
-use Rattle.messages.proofs.lines_left.Reads as lines-left-reads
 
 abbrev Inv-loop : tie.InvT-loop
 Inv-loop text k left₀ i₀ left i = (i ≤ length text) × (behind left (drop i text) ≡ behind k text)
@@ -17,33 +14,26 @@ Inv-loop text k left₀ i₀ left i = (i ≤ length text) × (behind left (drop 
 abbrev μ-loop : tie.MeasureT-loop
 μ-loop text k left₀ i₀ left i = length text - i
 
--- src/lib.rt:117:5
 loop-holds : tie.Need-loop-holds Inv-loop μ-loop
 loop-holds c = (search needs, refl)
 
--- src/lib.rt:119:13
 returns : tie.Need-returns Inv-loop μ-loop
 returns c = let l = c .before .before .loop in
     let a = c .before .before .before .before .args in
     (search needs, behind-all (a .text .now) (l .i) (l .left) (c .if1 .taken) ∙ l .inv .1)
 
--- src/lib.rt:121:33
 shared-slice-read-lines-left : tie.Need-shared-slice-read-lines-left Inv-loop μ-loop
 shared-slice-read-lines-left c = search needs
 
--- src/lib.rt:121:9
 lines-left-requires : tie.Need-lines-left-requires Inv-loop μ-loop
 lines-left-requires c κs = search needs
 
--- src/lib.rt:122:9
 add-i : tie.Need-add-i Inv-loop μ-loop
 add-i c = search needs
 
--- src/lib.rt:117:5
 loop-less : tie.Need-loop-less Inv-loop μ-loop
 loop-less c = search needs
 
--- src/lib.rt:117:5
 loop-again : tie.Need-loop-again Inv-loop μ-loop
 loop-again c = let l = c .before .before .before .before .loop in
     let a = c .before .before .before .before .before .before .args in
@@ -52,7 +42,6 @@ loop-again c = let l = c .before .before .before .before .loop in
       ap (λ (k : ℕ). behind k (drop (l .i + 1) (a .text .now))) (c .lines-left .ensures) ∙ sym (behind-next (a .text .now) (l .i) (l .left) positive (omega arith)) ∙ l .inv .1,
     )
 
--- src/lib.rt:112:1
 returns-2 : tie.Need-returns-2 Inv-loop μ-loop
 returns-2 c = let l = c .before .loop in
     let a = c .before .before .before .args in

@@ -9,25 +9,18 @@ use Rattle.messages.proofs.Lines.{line-fits, words-line}
 use borrow.Author.Needs.{needs}
 use Rattle.messages.proofs.message.Statement.{statement}
 use Rattle.messages.proofs.message.Tie as tie
-use Rattle.messages.proofs.message.Reads as reads
-use Rattle.messages.proofs.message.Lts as lts
-use Rattle.messages.proofs.tell.Reads as tell-reads
 
--- src/lib.rt:169:9
 slice-aggregate-tell : tie.Need-slice-aggregate-tell
 slice-aggregate-tell c = search needs
 
--- src/lib.rt:168:5
 tell-requires : tie.Need-tell-requires
 unfolding codes textOf
 tell-requires c κs = let a = c .before .before .before .args in
     subst (λ (words : List ℕ). length (filled (refusalOf (a .q)) (template words)) ≤ lineRoom) (sym (words-line (a .q .0))) (line-fits (refusalOf (a .q)) (search (needs, c .before .before .before .good), search needs, search needs))
 
--- src/lib.rt:165:1
 same-length : tie.Need-same-length
 same-length c = search needs
 
--- src/lib.rt:165:1
 returns : tie.Need-returns
 unfolding codes textOf
 returns c = let a = c .before .before .before .before .before .before .args in

@@ -9,9 +9,6 @@ use Rattle.messages.proofs.Filling.{filled-end, length-step, put-step}
 use borrow.Author.Needs.{needs}
 use Rattle.messages.proofs.put_filled.Statement.{statement}
 use Rattle.messages.proofs.put_filled.Tie as tie
-use Rattle.messages.proofs.put_filled.Reads as reads
-use Rattle.messages.proofs.put_filled.Lts as lts
-use Rattle.messages.proofs.put_letter.Reads as put-letter-reads
 
 abbrev Inv-loop : tie.InvT-loop
 Inv-loop out₀ at letters q p₀ i₀ out p i = (i ≤ length letters)
@@ -22,29 +19,23 @@ Inv-loop out₀ at letters q p₀ i₀ out p i = (i ≤ length letters)
 abbrev μ-loop : tie.MeasureT-loop
 μ-loop out₀ at letters q p₀ i₀ out p i = length letters - i
 
--- src/lib.rt:61:5
 loop-holds : tie.Need-loop-holds Inv-loop μ-loop
 loop-holds c = (search needs, refl, refl, refl)
 
--- src/lib.rt:62:32
 shared-slice-read-put-letter : tie.Need-shared-slice-read-put-letter Inv-loop μ-loop
 shared-slice-read-put-letter c = search needs
 
--- src/lib.rt:62:9
 put-letter-requires : tie.Need-put-letter-requires Inv-loop μ-loop
 put-letter-requires c κs = let l = c .before .before .before .loop in
     let a = c .before .before .before .before .before .before .args in
     omega (arith, length-step (refusalOf (a .q)) (a .letters .now) (l .i) (omega arith), l .inv .2)
 
--- src/lib.rt:63:9
 add-i : tie.Need-add-i Inv-loop μ-loop
 add-i c = search needs
 
--- src/lib.rt:61:5
 loop-less : tie.Need-loop-less Inv-loop μ-loop
 loop-less c = search needs
 
--- src/lib.rt:61:5
 loop-again : tie.Need-loop-again Inv-loop μ-loop
 loop-again c = let l = c .before .before .before .before .before .before .loop in
     let a = c .before .before .before .before .before .before .before .before .before .args in
@@ -55,11 +46,9 @@ loop-again c = let l = c .before .before .before .before .before .before .loop i
       put-step (refusalOf (a .q)) (a .letters .now) (l .i) (l .p) _ (l .out) _ (omega arith) (put .1) (put .0) ∙ l .inv .3,
     )
 
--- src/lib.rt:54:1
 same-length : tie.Need-same-length Inv-loop μ-loop
 same-length c = search needs
 
--- src/lib.rt:54:1
 returns : tie.Need-returns Inv-loop μ-loop
 returns c = let l = c .before .loop in
     let a = c .before .before .before .before .args in

@@ -6,67 +6,49 @@ use Rattle.messages.proofs.Filling.{put-as, spelled-number, spelled-a, 
 use borrow.Author.Needs.{needs}
 use Rattle.messages.proofs.put_letter.Statement.{statement}
 use Rattle.messages.proofs.put_letter.Tie as tie
-use Rattle.messages.proofs.put_letter.Reads as reads
-use Rattle.messages.proofs.put_letter.Lts as lts
-use Rattle.messages.proofs.put_decimal.Reads as put-decimal-reads
 
--- src/lib.rt:43:38
 cast-put-decimal : tie.Need-cast-put-decimal
 cast-put-decimal c = search needs
 
--- src/lib.rt:43:17
 put-decimal-requires : tie.Need-put-decimal-requires
 put-decimal-requires c κs = let a = c .before .before .before .before .args in omega (arith, ap length (spelled-number (refusalOf (a .q)) (a .c) (c .before .before .match .keys1)), c .before .before .before .before .pre)
 
--- src/lib.rt:44:38
 cast-put-decimal-2 : tie.Need-cast-put-decimal-2
 cast-put-decimal-2 c = search needs
 
--- src/lib.rt:44:17
 put-decimal-requires-2 : tie.Need-put-decimal-requires-2
 put-decimal-requires-2 c κs = let a = c .before .before .before .before .args in omega (arith, ap length (spelled-a (refusalOf (a .q)) (a .c) (c .before .before .match .keys2)), c .before .before .before .before .pre)
 
--- src/lib.rt:45:17
 put-decimal-requires-3 : tie.Need-put-decimal-requires-3
 put-decimal-requires-3 c κs = let a = c .before .before .before .args in omega (arith, ap length (spelled-b (refusalOf (a .q)) (a .c) (c .before .match .keys3)), c .before .before .before .pre)
 
--- src/lib.rt:47:13
 slice-write-out : tie.Need-slice-write-out
 slice-write-out c = let a = c .before .before .args in let n = c .match .rest in let e = spelled-other (refusalOf (a .q)) (a .c) (n .0 .0 .1) (n .0 .1) (n .1) in omega (arith, ap length e, c .before .before .pre)
 
--- src/lib.rt:48:13
 add-result : tie.Need-add-result
 add-result c = let a = c .before .before .args in let n = c .match .rest in let e = spelled-other (refusalOf (a .q)) (a .c) (n .0 .0 .1) (n .0 .1) (n .1) in record { fits = omega (arith, ap length e, c .before .before .pre) }
 
--- src/lib.rt:37:1
 same-length : tie.Need-same-length
 same-length c = search needs
 
--- src/lib.rt:37:1
 returns : tie.Need-returns
 returns c = let a = c .before .before .before .before .before .before .before .args in put-as _ _ (a .at) _ (a .out .now) _ (spelled-number (refusalOf (a .q)) (a .c) (c .before .before .before .before .before .match .keys1)) (c .before .before .put-decimal .ensures)
 
--- src/lib.rt:37:1
 same-length-2 : tie.Need-same-length-2
 same-length-2 c = search needs
 
--- src/lib.rt:37:1
 returns-2 : tie.Need-returns-2
 returns-2 c = let a = c .before .before .before .before .before .before .before .args in put-as _ _ (a .at) _ (a .out .now) _ (spelled-a (refusalOf (a .q)) (a .c) (c .before .before .before .before .before .match .keys2)) (c .before .before .put-decimal2 .ensures)
 
--- src/lib.rt:37:1
 same-length-3 : tie.Need-same-length-3
 same-length-3 c = search needs
 
--- src/lib.rt:37:1
 returns-3 : tie.Need-returns-3
 returns-3 c = let a = c .before .before .before .before .before .before .args in put-as _ _ (a .at) _ (a .out .now) _ (spelled-b (refusalOf (a .q)) (a .c) (c .before .before .before .before .match .keys3)) (c .before .before .put-decimal3 .ensures)
 
--- src/lib.rt:37:1
 same-length-4 : tie.Need-same-length-4
 same-length-4 c = search needs
 
--- src/lib.rt:37:1
 returns-4 : tie.Need-returns-4
 returns-4 c = let a = c .before .before .args in let n = c .match .rest in let e = spelled-other (refusalOf (a .q)) (a .c) (n .0 .0 .1) (n .0 .1) (n .1) in put-as _ _ (a .at) _ (a .out .now) _ e (refl, refl)
 

@@ -10,20 +10,13 @@ use Rattle.messages.proofs.Filling.{whole-length, whole-put}
 use borrow.Author.Needs.{needs}
 use Rattle.messages.proofs.put_line.Statement.{statement}
 use Rattle.messages.proofs.put_line.Tie as tie
-use Rattle.messages.proofs.put_line.Reads as reads
-use Rattle.messages.proofs.put_line.Lts as lts
-use Rattle.messages.proofs.put_filled.Reads as put-filled-reads
-use Rattle.messages.proofs.put_first.Reads as put-first-reads
 
--- src/lib.rt:90:28
 slice-aggregate-put-filled : tie.Need-slice-aggregate-put-filled
 slice-aggregate-put-filled c = search needs
 
--- src/lib.rt:90:42
 slice-aggregate-put-filled-2 : tie.Need-slice-aggregate-put-filled-2
 slice-aggregate-put-filled-2 c = search needs
 
--- src/lib.rt:90:9
 put-filled-requires : tie.Need-put-filled-requires
 unfolding codes
 put-filled-requires c κs = let s = c .before .before .before .before in
@@ -31,11 +24,9 @@ put-filled-requires c κs = let s = c .before .before .before .before in
     let room = whole-length (refusalOf (a .q)) (codes beginning) (a .words .now) in
     omega (arith, room, s .pre)
 
--- src/lib.rt:91:26
 slice-aggregate-put-filled-3 : tie.Need-slice-aggregate-put-filled-3
 slice-aggregate-put-filled-3 c = search needs
 
--- src/lib.rt:91:9
 put-filled-requires-2 : tie.Need-put-filled-requires-2
 unfolding codes
 put-filled-requires-2 c κs = let s = c .before .before .before .before .before .before .before in
@@ -43,15 +34,12 @@ put-filled-requires-2 c κs = let s = c .before .before .before .before .before 
     let room = whole-length (refusalOf (a .q)) (codes beginning) (a .words .now) in
     omega (arith, room, s .pre, c .before .before .put-filled .ensures .1)
 
--- src/lib.rt:92:27
 slice-aggregate-put-filled-4 : tie.Need-slice-aggregate-put-filled-4
 slice-aggregate-put-filled-4 c = search needs
 
--- src/lib.rt:92:43
 slice-aggregate-put-filled-5 : tie.Need-slice-aggregate-put-filled-5
 slice-aggregate-put-filled-5 c = search needs
 
--- src/lib.rt:92:9
 put-filled-requires-3 : tie.Need-put-filled-requires-3
 unfolding codes
 put-filled-requires-3 c κs = let s = c .before .before .before .before .before .before .before .before .before .before .before in
@@ -59,7 +47,6 @@ put-filled-requires-3 c κs = let s = c .before .before .before .before .before 
     let room = whole-length (refusalOf (a .q)) (codes beginning) (a .words .now) in
     omega (arith, room, s .pre, c .before .before .before .before .before .before .put-filled .ensures .1, c .before .before .before .put-filled2 .ensures .1)
 
--- src/lib.rt:93:20
 array-share-prefix-line : tie.Need-array-share-prefix-line
 unfolding codes
 array-share-prefix-line c = let s = c .before .before .before .before .before .before .before .before .before .before .before .before .before .before in
@@ -67,7 +54,6 @@ array-share-prefix-line c = let s = c .before .before .before .before .before .b
     let room = whole-length (refusalOf (a .q)) (codes beginning) (a .words .now) in
     omega (arith, room, s .pre, c .before .before .before .before .before .before .before .before .before .put-filled .ensures .1, c .before .before .before .before .before .before .put-filled2 .ensures .1, c .before .before .put-filled3 .ensures .1)
 
--- src/lib.rt:93:20
 slice-aggregate-put-first : tie.Need-slice-aggregate-put-first
 unfolding codes
 slice-aggregate-put-first c = let s = c .before .before .before .before .before .before .before .before .before .before .before .before .before .before .before in
@@ -76,15 +62,12 @@ slice-aggregate-put-first c = let s = c .before .before .before .before .before 
     let size : length (c .before .before .before .put-filled3 .last .0) ≡ lineRoom = search (needs, c .before .before .line6 .given) in
     sym (length-take-le (c .before .before .before .put-filled3 .result) (c .before .before .before .put-filled3 .last .0) (omega (arith, room, s .pre, size, c .before .before .before .before .before .before .before .before .before .before .put-filled .ensures .1, c .before .before .before .before .before .before .before .put-filled2 .ensures .1, c .before .before .before .put-filled3 .ensures .1)))
 
--- src/lib.rt:93:5
 put-first-requires : tie.Need-put-first-requires
 put-first-requires c κs = search needs
 
--- src/lib.rt:85:1
 same-length : tie.Need-same-length
 same-length c = search needs
 
--- src/lib.rt:85:1
 returns : tie.Need-returns
 unfolding codes
 returns c = let s = c .before .before .before .before .before .before .before .before .before .before .before .before .before .before .before .before .before .before in

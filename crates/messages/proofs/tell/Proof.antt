@@ -8,43 +8,30 @@ use Rattle.messages.specs.Text.{firstLine}
 use borrow.Author.Needs.{needs}
 use Rattle.messages.proofs.tell.Statement.{statement}
 use Rattle.messages.proofs.tell.Tie as tie
-use Rattle.messages.proofs.tell.Reads as reads
-use Rattle.messages.proofs.tell.Lts as lts
-use Rattle.messages.proofs.line_end.Reads as line-end-reads
-use Rattle.messages.proofs.line_of.Reads as line-of-reads
-use Rattle.messages.proofs.put_line.Reads as put-line-reads
 
--- src/lib.rt:159:9
 line-of-requires : tie.Need-line-of-requires
 line-of-requires c κs = search needs
 
--- src/lib.rt:160:9
 line-end-requires : tie.Need-line-end-requires
 line-end-requires c κs = search needs
 
--- src/lib.rt:161:19
 sub-put-line : tie.Need-sub-put-line
 sub-put-line c = search needs
 
--- src/lib.rt:161:19
 part-put-line-start : tie.Need-part-put-line-start
 part-put-line-start c = search needs
 
--- src/lib.rt:161:19
 part-put-line-end : tie.Need-part-put-line-end
 part-put-line-end c = search needs
 
--- src/lib.rt:161:5
 put-line-requires : tie.Need-put-line-requires
 put-line-requires c κs = let a = c .before .before .before .before .before .before .args in
     let line = c .before .before .line-end .ensures .2 ∙ ap firstLine (c .before .before .before .line-of .ensures .1) in
     subst (λ (words : List ℕ). length (filled (refusalOf (a .q)) (template words)) ≤ lineRoom) (sym line) (c .before .before .before .before .before .before .pre)
 
--- src/lib.rt:155:1
 same-length : tie.Need-same-length
 same-length c = search needs
 
--- src/lib.rt:155:1
 returns : tie.Need-returns
 returns c = let a = c .before .before .before .before .before .before .before .before .before .args in
     let line = c .before .before .before .before .before .line-end .ensures .2 ∙ ap firstLine (c .before .before .before .before .before .before .line-of .ensures .1) in

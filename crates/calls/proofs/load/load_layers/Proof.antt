@@ -5,8 +5,6 @@ use lib.ListN.{length}
 use Rattle.calls.proofs.Loaded.{FirstIn, first-none, first-more, first-all}
 use Rattle.calls.proofs.load.load_layers.Statement.{statement}
 use Rattle.calls.proofs.load.load_layers.Tie as tie
-use Rattle.calls.proofs.load.load_layers.Reads as reads
-use Rattle.calls.proofs.load.load_layers.Lts as lts
 use borrow.Author.Needs.{needs}
 
 abbrev Inv-loop : tie.InvT-loop
@@ -15,45 +13,35 @@ Inv-loop bytes to₀ i₀ to i = (i ≤ length bytes) × (length to ≡ length t
 abbrev μ-loop : tie.MeasureT-loop
 μ-loop bytes to₀ i₀ to i = length bytes - i
 
--- src/load.rt:121:5
 loop-holds : tie.Need-loop-holds Inv-loop μ-loop
 loop-holds c = (search needs, refl, first-none (c .args .bytes .now) (c .args .to .now) (c .pre .1))
 
--- src/load.rt:122:17
 shared-slice-read-to : tie.Need-shared-slice-read-to Inv-loop μ-loop
 shared-slice-read-to c = search needs
 
--- src/load.rt:122:17
 cast-to : tie.Need-cast-to Inv-loop μ-loop
 cast-to c = omega (arith, c .shared-slice-known .given (c .before .before .loop .i))
 
--- src/load.rt:122:9
 mul-to : tie.Need-mul-to Inv-loop μ-loop
 mul-to c = search needs
 
--- src/load.rt:122:9
 slice-write-to : tie.Need-slice-write-to Inv-loop μ-loop
 slice-write-to c = search needs
 
--- src/load.rt:123:9
 add-i : tie.Need-add-i Inv-loop μ-loop
 add-i c = search needs
 
--- src/load.rt:121:5
 loop-less : tie.Need-loop-less Inv-loop μ-loop
 loop-less c = search needs
 
--- src/load.rt:121:5
 loop-again : tie.Need-loop-again Inv-loop μ-loop
 loop-again c = let l = c .before .before .loop in
     let a = c .before .before .before .args in
     (search needs, search needs, first-more (a .bytes .now) (l .to) (l .i) (omega (arith, l .inv .1, c .before .before .before .pre .0)) (l .inv .2))
 
--- src/load.rt:116:1
 same-length : tie.Need-same-length Inv-loop μ-loop
 same-length c = search needs
 
--- src/load.rt:116:1
 returns : tie.Need-returns Inv-loop μ-loop
 returns c = let l = c .before .loop in
     let a = c .before .before .args in
