@@ -359,3 +359,17 @@ module _ (P : Refusal → Type 0) where
     refused = λ s r e. bind-refuses (f .decode s) _ r e (x .refused s)
         (λ p e1. bind-refuses (g (p .value) .decode (p .rest)) _ r e1 (y (p .value) .refused (p .rest)) (λ q e2. absurd (never (sym e2))));
   }
+
+  pub optional-refuses : {A : Type 0} (kind : ℕ) (f : Format A) → Refuses f → Refuses (optional kind f)
+  optional-refuses kind f x = record { refused = λ s r e. by s r (carries kind s) e }
+    where
+      by : (s : List ℕ) (r : Refusal) (c : Bool) → cond c (someOf (f .decode s)) (gives (front none s)) ≡ refuses r → P r
+      by s r true e = bind-refuses (f .decode s) _ r e (x .refused s) (λ p e1. absurd (never (sym e1)))
+      by s r false e = absurd (never (sym e))
+
+  pub choice-refuses : {A : Type 0} (second : A → Bool) (f : Format A) (kind : ℕ) (g : Format A) → Refuses f → Refuses g → Refuses (choice second f kind g)
+  choice-refuses second f kind g x y = record { refused = λ s r e. by s r (carries kind s) e }
+    where
+      by : (s : List ℕ) (r : Refusal) (c : Bool) → cond c (g .decode s) (f .decode s) ≡ refuses r → P r
+      by s r true e = y .refused s r e
+      by s r false e = x .refused s r e
