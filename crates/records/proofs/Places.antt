@@ -1,19 +1,26 @@
 -- For the reader's contracts: the places of a job and of a flow, those of empty payloads too, are decided by where the first record starts and by what lies there.
-use Prim.Native.Nat.{ℕ, _-_}
-use mathlib.Core.Path.{_≡_, sym, ap, ap₂, _∙_}
+use Prim.Native.Nat.{ℕ, _-_, _≤_}
+use mathlib.Core.Path.{_≡_, refl, sym, ap, ap₂, _∙_}
+use mathlib.Core.Bool.{Bool, true, false}
+use mathlib.Core.Option.{Option·none-ne-some, Option·some-injective}
 use mathlib.Core.List.{List}
 use native.Mathlib.Omega.{arith}
 use lib.ListN.{length, drop, length-drop}
 use Rattle.records.specs.JobFile.{JobFile}
 use Rattle.records.specs.FlowFile.{FlowFile}
-use Rattle.records.specs.Views.{bytesAt, PayloadAt, openingBytes, jobAt, JobInFile, flowAt, FlowInFile}
+use Rattle.records.specs.Views.{bytesAt, PayloadAt, someIf, OptionalAt, openingBytes, jobAt, JobInFile, flowAt, FlowInFile}
 use Rattle.records.specs.declared.common.Place.{Place}
 use Rattle.records.specs.declared.common.JobPlaces.{JobPlaces}
 use Rattle.records.specs.declared.common.FlowPlaces.{FlowPlaces}
+use Rattle.records.specs.declared.reader.RecordRead.the-variants.{Payload}
 use Rattle.records.proofs.ReadingHead.{between-length}
 
 same-place : (p q : Place) → p .start ≡ q .start → p .end ≡ q .end → p ≡ q
 same-place p q a b = ap₂ {C = Place} (λ (x y : ℕ). record { start = x; end = y }) a b
+
+-- as many bytes are left
+same-end : (s : List ℕ) (a b : ℕ) → a ≤ length s → b ≤ length s → drop a s ≡ drop b s → a ≡ b
+same-end s a b l m e = omega (arith, ap length e, length-drop a s, length-drop b s)
 
 module _ (s : List ℕ) (at : ℕ) (p q : Place) (lp : PayloadAt s at p) (lq : PayloadAt s at q) where
   -- by as many bytes
@@ -25,9 +32,21 @@ module _ (s : List ℕ) (at : ℕ) (p q : Place) (lp : PayloadAt s at p) (lq : P
 
   -- by as many bytes behind it
   by-rest : drop (p .end) s ≡ drop (q .end) s → p ≡ q
-  by-rest e =
-      let n : length s - p .end ≡ length s - q .end = sym (length-drop (p .end) s) ∙ ap length e ∙ length-drop (q .end) s in
-      same-place p q (omega arith) (omega arith)
+  by-rest e = same-place p q (omega arith) (same-end s (p .end) (q .end) (lp .1 .1) (lq .1 .1) e)
+
+-- an optional record, from its end backwards: whether it is there, its place, and where it would start
+optional-place : (s : List ℕ) (at at′ : ℕ) (b c : Bool) (p q : Place) → at ≤ length s → at′ ≤ length s
+    → OptionalAt s at (record { taken = b; read = Payload p }) → OptionalAt s at′ (record { taken = c; read = Payload q })
+    → someIf b (bytesAt p s) ≡ someIf c (bytesAt q s) → drop (p .end) s ≡ drop (q .end) s → (b ≡ c) × (p ≡ q) × (at ≡ at′)
+optional-place s at at′ true false p q l l′ x y e r = absurd (Option·none-ne-some _ (sym e))
+optional-place s at at′ false true p q l l′ x y e r = absurd (Option·none-ne-some _ e)
+optional-place s at at′ false false p q l l′ x y e r =
+    let z : at ≡ at′ = sym (ap (λ (p : Place). p .end) x) ∙ same-end s (p .end) (q .end) (rw x l) (rw y l′) r ∙ ap (λ (p : Place). p .end) y in
+    (refl, rw (x, y, z), z)
+optional-place s at at′ true true p q l l′ (x, (x1, x2)) (y, (y1, y2)) e r =
+    let z : p .end ≡ q .end = same-end s (p .end) (q .end) x2 y2 r in
+    let n : p .end - p .start ≡ q .end - q .start = sym (between-length (p .start) (p .end) s x1 x2) ∙ ap length (Option·some-injective _ _ e) ∙ between-length (q .start) (q .end) s y1 y2 in
+    (refl, same-place p q (omega arith) z, omega arith)
 
 -- a record that starts where a payload ends starts where the same payload ends
 from-same : (s : List ℕ) (p q r : Place) → p ≡ q → PayloadAt s (q .end) r → PayloadAt s (p .end) r
