@@ -9,7 +9,7 @@ use native.Mathlib.Omega.{arith}
 use native.Mathlib.Nat.{mul-le-mul}
 use borrow.Author.Tests.{ltb-true, lt-ltb, ne-eqb}
 use lib.Dec.{T, eqb, ltb, eqb→eq, eqb-refl}
-use lib.ListN.{length, length-append}
+use lib.ListN.{length}
 use Rattle.nodes.specs.Row.{membersFrom, members}
 use Rattle.nodes.proofs.Lists.{length-listOf, getD-listOf}
 use Rattle.nodes.proofs.Logic.{and-out, is-false, dec, and-none, and-all, or-none, lt-or-ge, eqb-yes}
@@ -22,11 +22,12 @@ use Rattle.records.specs.Records.{headBytes, part, checked, written, kin
 use Rattle.nodes.specs.Lists.{has, listOf, all}
 use Rattle.records.specs.JobFile.{mostNodes, rises}
 use Rattle.records.specs.FlowFile.{SetEntry, allEntries, entryBelow, entriesRise, entryBytes, FlowFile, readFlow, setIn, entryIn, flowOf}
-use Rattle.records.specs.Encoding.{Bytes, flowFileBytes, ValidFlow, entriesFor, foundFlow}
+use Rattle.records.specs.Encoding.{Bytes, flowFileBytes, flowWith, ValidFlow, entriesFor, foundFlow}
 use Rattle.records.specs.Writing.{layerBytes, flowBytes, mostOutput}
 use Rattle.answers.proofs.Answer.{never}
-use Rattle.records.proofs.Records.{all-append, all-more, written-length, written-bytes}
+use Rattle.records.proofs.Records.{all-append, all-more, written-bytes}
 use Rattle.records.proofs.Encoding.{flow-decodes}
+use Rattle.records.proofs.WritingLoops.{two-records, flow-length}
 use Rattle.records.proofs.JobFile.{rises-none, rises-out, rises-in, rises-length}
 use Rattle.records.proofs.FlowFile.{below-out, below-in, each-none, each-cons, each-out, rise-none, rise-out, rise-cons, entries-few, entry-bytes-length}
 
@@ -141,19 +142,22 @@ entry-bytes low n (e ∷ es) h a b =
     rw (lt-ltb (e .node) 256 (omega arith), lt-ltb (length (e .set)) 256 (omega arith))
     (all-append (λ b. ltb b 256) (e .set) (entryBytes es) (all-more (λ v. ltb v n) (λ v. ltb v 256) (e .set) (λ v x. let y : v < n = ltb-true v n x in lt-ltb v 256 (omega arith)) p2) (entry-bytes (e .node + 1) n es h q t))
 
--- the bytes of a valid flow whose layers are bytes
-pub flow-file-bytes : (n : ℕ) (g : FlowFile) → n < 256 → ValidFlow n g → Bytes (g .layers) → Bytes (flowFileBytes g)
-flow-file-bytes n g h v a =
-    all-append (λ b. ltb b 256) (written kindLayers (g .layers)) (written kindSets (entryBytes (g .sets)))
-    (written-bytes kindLayers (g .layers) (omega arith) a)
-    (written-bytes kindSets (entryBytes (g .sets)) (omega arith) (entry-bytes 0 n (g .sets) h (v .below) (v .rise)))
+-- a valid flow of two records
+module _ (n : ℕ) (layers : List ℕ) (es : List SetEntry) (v : ValidFlow n (flowWith layers es)) where
+  -- bytes, where its layers are
+  flow-file-bytes : n < 256 → Bytes layers → Bytes (flowFileBytes (flowWith layers es))
+  flow-file-bytes h a =
+      ap (all (λ b. ltb b 256)) (two-records layers es)
+      ∙ all-append (λ b. ltb b 256) (written kindLayers layers) (written kindSets (entryBytes es))
+      (written-bytes kindLayers layers (omega arith) a)
+      (written-bytes kindSets (entryBytes es) (omega arith) (entry-bytes 0 n es h (v .below) (v .rise)))
 
-pub flow-file-length : (n : ℕ) (g : FlowFile) → ValidFlow n g → length (flowFileBytes g) ≤ 2 * headBytes + n + n * (n + 2)
-flow-file-length n g v =
-    let few : length (g .sets) + 0 ≤ n = entries-few 0 n (g .sets) zero-le (v .below) (v .rise) in
-    let long : length (entryBytes (g .sets)) ≤ length (g .sets) * (n + 2) = entry-bytes-length 0 n (g .sets) (v .below) (v .rise) in
-    let most : length (g .sets) * (n + 2) ≤ n * (n + 2) = mul-le-mul {n₁ = length (g .sets)} {m₁ = n + 2} {n₂ = n} {m₂ = n + 2} (omega arith) (omega arith) in
-    omega (arith, v .count, length-append (written kindLayers (g .layers)) (written kindSets (entryBytes (g .sets))), written-length kindLayers (g .layers), written-length kindSets (entryBytes (g .sets)))
+  flow-file-length : length (flowFileBytes (flowWith layers es)) ≤ 2 * headBytes + n + n * (n + 2)
+  flow-file-length =
+      let few : length es + 0 ≤ n = entries-few 0 n es zero-le (v .below) (v .rise) in
+      let long : length (entryBytes es) ≤ length es * (n + 2) = entry-bytes-length 0 n es (v .below) (v .rise) in
+      let most : length es * (n + 2) ≤ n * (n + 2) = mul-le-mul {n₁ = length es} {m₁ = n + 2} {n₂ = n} {m₂ = n + 2} (omega arith) (omega arith) in
+      omega (arith, v .count, flow-length layers es)
 
 -- layers of one byte are written as they are
 pub layers-same : (l : List ℕ) → Bytes l → layerBytes l ≡ l
@@ -195,10 +199,10 @@ module _ (j : Job) (s : Progress) where
 
   pub found-bytes : j .nodes ≤ mostNodes → ((u : ℕ) → u < j .nodes → s .layer u < 256) → Bytes (flowBytes j (some s))
   found-bytes h a =
-      flow-file-bytes (j .nodes) (foundFlow j s) (omega arith) found-valid (list-all (j .nodes) (s .layer) (λ b. ltb b 256) (λ k l. lt-ltb (s .layer k) 256 (a k l)))
+      flow-file-bytes (j .nodes) _ _ found-valid (omega arith) (list-all (j .nodes) (s .layer) (λ b. ltb b 256) (λ k l. lt-ltb (s .layer k) 256 (a k l)))
 
   pub found-length : length (flowBytes j (some s)) ≤ 2 * headBytes + j .nodes + j .nodes * (j .nodes + 2)
-  found-length = flow-file-length (j .nodes) (foundFlow j s) found-valid
+  found-length = flow-file-length (j .nodes) _ _ found-valid
 
   pub found-most : j .nodes ≤ mostNodes → length (flowBytes j (some s)) ≤ mostOutput
   found-most h =

@@ -17,8 +17,8 @@ use Rattle.nodes.proofs.Count.{count-empty, count-le}
 use Rattle.nodes.proofs.Members.{members-length, lowest-some}
 use Rattle.nodes.proofs.Remove.{removed, count-lowest, members-cons}
 use Rattle.records.specs.Records.{headBytes, headOf, written, kindLayers, kindSets}
-use Rattle.records.specs.FlowFile.{entryBytes}
-use Rattle.records.specs.Encoding.{entriesFor}
+use Rattle.records.specs.FlowFile.{SetEntry, entryBytes}
+use Rattle.records.specs.Encoding.{flowFileBytes, flowWith, entriesFor}
 use Rattle.records.specs.Writing.{setBytes}
 use Rattle.records.specs.Splice.{splice, putFront, putAnswer}
 use Rattle.records.proofs.Records.{written-length}
@@ -114,14 +114,18 @@ unfolding written
 record-put at q kind p l m e h r = splice-next at q (headOf (length p) kind) p l m e h r
 
 -- the two records of a flow file
-pub records-put : (layers sets l m : List ℕ) (q : ℕ) → q ≡ headBytes + length layers → q + headBytes + length sets ≤ length l → m ≡ splice 0 (written kindLayers layers) l
-    → splice q (written kindSets sets) m ≡ splice 0 (written kindLayers layers ++ written kindSets sets) l
-records-put layers sets l m q e h r =
-    splice-next 0 q (written kindLayers layers) (written kindSets sets) l m (omega (arith, written-length kindLayers layers)) (omega (arith, written-length kindSets sets)) r
+pub two-records : (layers : List ℕ) (es : List SetEntry) → flowFileBytes (flowWith layers es) ≡ written kindLayers layers ++ written kindSets (entryBytes es)
+two-records layers es = refl
 
-pub flow-length : (layers sets : List ℕ) → length (written kindLayers layers ++ written kindSets sets) ≡ 2 * headBytes + length layers + length sets
-flow-length layers sets =
-    omega (arith, length-append (written kindLayers layers) (written kindSets sets), written-length kindLayers layers, written-length kindSets sets)
+pub records-put : (layers : List ℕ) (es : List SetEntry) (l m : List ℕ) (q : ℕ) → q ≡ headBytes + length layers → q + headBytes + length (entryBytes es) ≤ length l → m ≡ splice 0 (written kindLayers layers) l
+    → splice q (written kindSets (entryBytes es)) m ≡ splice 0 (flowFileBytes (flowWith layers es)) l
+records-put layers es l m q e h r =
+    splice-next 0 q (written kindLayers layers) (written kindSets (entryBytes es)) l m (omega (arith, written-length kindLayers layers)) (omega (arith, written-length kindSets (entryBytes es))) r
+    ∙ ap (λ (b : List ℕ). splice 0 b l) (sym (two-records layers es))
+
+pub flow-length : (layers : List ℕ) (es : List SetEntry) → length (flowFileBytes (flowWith layers es)) ≡ 2 * headBytes + length layers + length (entryBytes es)
+flow-length layers es =
+    omega (arith, ap length (two-records layers es), length-append (written kindLayers layers) (written kindSets (entryBytes es)), written-length kindLayers layers, written-length kindSets (entryBytes es))
 
 -- ---- the front of a buffer
 -- of the room for three lengths, what the first two leave

@@ -41,6 +41,10 @@ pub record ValidJob (f : JobFile) : Type 0 where
 abbrev pub flowFileBytes : FlowFile → List ℕ
 flowFileBytes g = flow (length (g .layers)) .encode (flowValue g)
 
+-- a flow of these layers and entries, and of nothing more
+abbrev pub flowWith : List ℕ → List SetEntry → FlowFile
+flowWith layers es = record { layers = layers; sets = es; after = [] }
+
 -- what reading asks, for n nodes
 pub record ValidFlow (n : ℕ) (g : FlowFile) : Type 0 where
   pub count : length (g .layers) ≡ n
@@ -54,8 +58,4 @@ entriesFor n set (u ∷ us) = record { node = u; set = members n (set u) } ∷ e
 
 -- the flow file that the finder writes for a finished search
 abbrev pub foundFlow : Job → Progress → FlowFile
-foundFlow j s = record {
-  layers = listOf (j .nodes) (s .layer);
-  sets = entriesFor (j .nodes) (s .set) (members (j .nodes) (λ u. not (j .output u)));
-  after = [];
-}
+foundFlow j s = flowWith (listOf (j .nodes) (s .layer)) (entriesFor (j .nodes) (s .set) (members (j .nodes) (λ u. not (j .output u))))

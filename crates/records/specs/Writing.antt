@@ -8,7 +8,7 @@ use Rattle.flows.specs.Search.{Progress}
 use Rattle.records.specs.Records.{headBytes, written, kindNoFlow}
 use Rattle.records.specs.JobFile.{mostNodes}
 use Rattle.records.specs.FlowFile.{entryBytes}
-use Rattle.records.specs.Encoding.{flowFileBytes, entriesFor, foundFlow}
+use Rattle.records.specs.Encoding.{flowFileBytes, flowWith, entriesFor, foundFlow}
 
 -- a byte for each layer: today's record of layers has no more, and the lowest byte is written
 abbrev pub layerBytes : List ℕ → List ℕ
@@ -20,7 +20,7 @@ setBytes n set us = entryBytes (entriesFor n set us)
 
 -- a flow file from the layers of the nodes and the sets of those that have an entry
 abbrev pub flowRecords : (layers : List ℕ) (n : ℕ) (set : ℕ → ℕ → Bool) (entries : List ℕ) → List ℕ
-flowRecords layers n set entries = flowFileBytes (record { layers = layers; sets = entriesFor n set entries; after = [] })
+flowRecords layers n set entries = flowFileBytes (flowWith layers (entriesFor n set entries))
 
 -- a flow file with an entry for each node that is no output, or 0013
 abbrev pub flowBytes : Job → Option Progress → List ℕ

@@ -8,20 +8,22 @@ use Rattle.nodes.specs.Row.{members}
 use Rattle.nodes.specs.NodeSet.{capacity, member}
 use Rattle.nodes.specs.SetTable.{setAt}
 use Rattle.records.specs.Records.{headBytes}
-use Rattle.records.specs.Writing.{layerBytes, setBytes, flowRecords}
+use Rattle.records.specs.FlowFile.{SetEntry, entryBytes}
+use Rattle.records.specs.Encoding.{entriesFor}
+use Rattle.records.specs.Writing.{layerBytes, flowRecords}
 use Rattle.records.proofs.WritingLoops.{records-put, flow-length, put-fits, put-not}
 use borrow.Author.Needs.{needs}
 use Rattle.records.proofs.writer.write_flow.Statement.{statement}
 use Rattle.records.proofs.writer.write_flow.Tie as tie
 
 -- the entries and the whole result
-abbrev entries : tie.Start → List ℕ
-entries s = let a = s .args in setBytes capacity (setAt (a .sets .now)) (members capacity (member (a .nodes)))
+abbrev entries : tie.Start → List SetEntry
+entries s = let a = s .args in entriesFor capacity (setAt (a .sets .now)) (members capacity (member (a .nodes)))
 
 abbrev result : tie.Start → List ℕ
 result s = let a = s .args in flowRecords (layerBytes (a .layers .now)) capacity (setAt (a .sets .now)) (members capacity (member (a .nodes)))
 
-result-length : (s : tie.Start) → length (result s) ≡ 2 * headBytes + length (s .args .layers .now) + length (entries s)
+result-length : (s : tie.Start) → length (result s) ≡ 2 * headBytes + length (s .args .layers .now) + length (entryBytes (entries s))
 result-length s = omega (arith, flow-length (layerBytes (s .args .layers .now)) (entries s), length-map (s .args .layers .now) (λ x. x % 256))
 
 abbrev size : (c : tie.After-room-for) → ℕ
