@@ -8,7 +8,7 @@ use native.Mathlib.Omega.{arith}
 use lib.ListN.{length, drop, length-drop}
 use Rattle.records.specs.JobFile.{JobFile}
 use Rattle.records.specs.FlowFile.{FlowFile}
-use Rattle.records.specs.Views.{bytesAt, PayloadAt, someIf, OptionalAt, openingBytes, jobAt, JobInFile, flowAt, FlowInFile}
+use Rattle.records.specs.Views.{bytesAt, InFile, PayloadAt, someIf, OptionalAt, openingBytes, jobAt, JobInFile, flowAt, FlowInFile}
 use Rattle.records.specs.declared.common.Place.{Place}
 use Rattle.records.specs.declared.common.JobPlaces.{JobPlaces}
 use Rattle.records.specs.declared.common.FlowPlaces.{FlowPlaces}
@@ -47,6 +47,11 @@ optional-place s at at′ true true p q l l′ (x, (x1, x2)) (y, (y1, y2)) e r =
     let z : p .end ≡ q .end = same-end s (p .end) (q .end) x2 y2 r in
     let n : p .end - p .start ≡ q .end - q .start = sym (between-length (p .start) (p .end) s x1 x2) ∙ ap length (Option·some-injective _ _ e) ∙ between-length (q .start) (q .end) s y1 y2 in
     (refl, same-place p q (omega arith) z, omega arith)
+
+-- it lies in the file, there or not
+pub optional-in-file : (s : List ℕ) (at : ℕ) (b : Bool) (p : Place) → at ≤ length s → OptionalAt s at (record { taken = b; read = Payload p }) → InFile s p
+optional-in-file s at true p l x = x .1
+optional-in-file s at false p l x = rw x (omega arith, l)
 
 -- a record that starts where a payload ends starts where the same payload ends
 from-same : (s : List ℕ) (p q r : Place) → p ≡ q → PayloadAt s (q .end) r → PayloadAt s (p .end) r
