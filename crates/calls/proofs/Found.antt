@@ -27,7 +27,7 @@ use Rattle.flows.specs.Search.{Progress}
 use Rattle.finder.specs.Searches.{layersOf, setTable}
 use Rattle.finder.proofs.Below.{Below}
 use Rattle.records.specs.FlowFile.{SetEntry}
-use Rattle.records.specs.Encoding.{flowFileBytes, entriesFor}
+use Rattle.records.specs.Encoding.{flowFileBytes, flowWith, entriesFor}
 use Rattle.records.specs.Writing.{flowRecords, flowBytes}
 use Rattle.records.specs.Writing.{layerBytes}
 use Rattle.records.proofs.Writing.{list-all, layers-same, members-under}
@@ -86,5 +86,5 @@ module _ (n : ℕ) (few : n ≤ capacity) (p : Progress) where
       → flowRecords (layerBytes (take n (layersOf n p))) capacity (setAt (setTable n p)) (members capacity s) ≡ flowBytes j (some p)
   found-written j e small h s q =
       ap₂ (λ (l us : List ℕ). flowRecords l capacity (setAt (setTable n p)) us) (layers-written small) (nodes-found s (j .output) q)
-      ∙ ap (λ (es : List SetEntry). flowFileBytes (record { layers = listOf n (p .layer); sets = es; after = [] })) (sets-found h (members n (λ u. not (j .output u))) (members-under n (λ u. not (j .output u))))
+      ∙ ap (λ (es : List SetEntry). flowFileBytes (flowWith (listOf n (p .layer)) es)) (sets-found h (members n (λ u. not (j .output u))) (members-under n (λ u. not (j .output u))))
       ∙ ap (λ (m : ℕ). flowRecords (listOf m (p .layer)) m (p .set) (members m (λ u. not (j .output u)))) (sym e)

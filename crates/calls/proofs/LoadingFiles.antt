@@ -20,7 +20,7 @@ use Rattle.records.specs.FlowFile.{SetEntry, FlowFile, Flow, listed, allEntries
 use Rattle.verdicts.specs.Verdict.{verify}
 use Rattle.demands.specs.Calls.{verdict, verifyAsks, put, verifyCall}
 use Rattle.answers.specs.Refusals.{refusalOf}
-use Rattle.records.specs.Views.{jobAt, jobOfRead, JobInFile, JobReadInFile, flowAt, flowOfRead, FlowInFile, FlowReadInFile}
+use Rattle.records.specs.Views.{jobAt, jobOfRead, JobPlaced, flowAt, flowOfRead, FlowPlaced}
 use Rattle.calls.specs.Loaded.{askedOf, flowAsks}
 use Rattle.answers.specs.declared.Refusal.{Refusal as Refused}
 use Rattle.records.specs.declared.common.JobPlaces.{JobPlaces}
@@ -42,8 +42,8 @@ module _ (s : List ℕ) (r : JobRead) (e : jobOfRead s r ≡ readJob s) where
   pub job-not : (q : Refused) → r ≡ NoJob q → readJob s ≡ refuses (refusalOf q)
   job-not q t = sym e ∙ ap (jobOfRead s) t
 
-pub job-inside : (s : List ℕ) (r : JobRead) → JobReadInFile s r → (p : JobPlaces) → r ≡ AJob p → JobInFile s p
-job-inside s r h p t = rw t at h
+pub job-inside : (s : List ℕ) (r : JobRead) → JobPlaced s r → (p : JobPlaces) → r ≡ AJob p → p .end ≤ length s
+job-inside s r h p t = rw t at h .1
 
 module _ (s t : List ℕ) (n : ℕ) (r : FlowRead) (e : flowOfRead s r ≡ readFlow n t) where
   pub flow-read : (p : FlowPlaces) → r ≡ AFlow p → readFlow n t ≡ gives (flowAt s p)
@@ -52,8 +52,8 @@ module _ (s t : List ℕ) (n : ℕ) (r : FlowRead) (e : flowOfRead s r ≡ readF
   pub flow-not : (q : Refused) → r ≡ NoFlow q → readFlow n t ≡ refuses (refusalOf q)
   flow-not q h = sym e ∙ ap (flowOfRead s) h
 
-pub flow-inside : (s : List ℕ) (at : ℕ) (r : FlowRead) → FlowReadInFile s at r → (p : FlowPlaces) → r ≡ AFlow p → FlowInFile s at p
-flow-inside s at r h p t = rw t at h
+pub flow-inside : (s : List ℕ) (at : ℕ) (r : FlowRead) → FlowPlaced s at r → (p : FlowPlaces) → r ≡ AFlow p → p .end ≤ length s
+flow-inside s at r h p t = rw t at h .1
 
 -- ---- every node that was read fits a set
 pub entries-fit : (n : ℕ) (es : List SetEntry) → n ≤ mostNodes → allEntries (entryBelow n) es ≡ true → allEntries (entryBelow capacity) es ≡ true

@@ -10,7 +10,7 @@ ghost use Rattle.nodes.specs.Lists.{zeros};
 ghost use Rattle.finder.specs.Searches.{planesGiven, searchOf, searchCall};
 ghost use Rattle.answers.specs.Answer.{gives};
 ghost use Rattle.records.specs.JobFile.{readJob, modePlanes, modePauli};
-ghost use Rattle.records.specs.Views.{jobAt, JobInFile};
+ghost use Rattle.records.specs.Views.{jobAt};
 ghost use Rattle.records.specs.Splice.{putFront, putAnswer};
 ghost use Rattle.records.specs.Writing.{flowBytes};
 ghost use Rattle.solver.specs.Solver.{workBytes};
@@ -104,8 +104,7 @@ fn find_loaded(
 
 // The search on a job that passed all questions before it.
 fn find_job(file: &[u8], job: JobPlaces, work: &mut [u8], out: &mut [u8]) -> Reply
-    requires { ⌜ (readJob (now file) ≡ gives (jobAt (now file) job)) × JobInFile (now file) job ⌝ }
-    requires { ⌜ length (now work) ≡ workBytes ⌝ }
+    requires { ⌜ (readJob (now file) ≡ gives (jobAt (now file) job)) × (length (now work) ≡ workBytes) ⌝ }
     ensures { λ r. ⌜ record { answer = replyOf r; work = now (work .exit); out = now (out .exit) } ≡ put (zeros workBytes) (foundBytes (jobAt (now (file .entry)) job)) (now (out .entry)) ⌝ }
 {
     let mut graph = [0u64; TABLE_WORDS];
@@ -126,12 +125,10 @@ fn has_search(mode: u8) -> bool
 
 // Is nothing left (8)? Is the mode 2 or 3 (10)? Is the work buffer right (11)?
 fn find_read(file: &[u8], job: JobPlaces, work: &mut [u8], out: &mut [u8]) -> Reply
-    requires { ⌜ (readJob (now file) ≡ gives (jobAt (now file) job)) × JobInFile (now file) job ⌝ }
+    requires { ⌜ (readJob (now file) ≡ gives (jobAt (now file) job)) × (job .end ≤ length (now file)) ⌝ }
     ensures { λ r. ⌜ record { answer = replyOf r; work = now (work .exit); out = now (out .exit) } ≡ findCall (now (file .entry)) (now (work .entry)) (now (out .entry)) ⌝ }
 {
-    let measurements = job.measurements;
-    let end = measurements.end;
-    if end != file.len() {
+    if job.end != file.len() {
         return Reply::Refused(Refusal::BYTES_LEFT);
     }
     if !has_search(job.mode) {

@@ -11,7 +11,7 @@ ghost use Rattle.nodes.specs.Options.{isSome};
 ghost use Rattle.records.specs.JobFile.{workingOf, hasEdge, jobOf};
 ghost use Rattle.records.specs.FlowFile.{entriesOf, listed, allEntries, entryBelow, setIn, entryIn, flowOf};
 ghost use Rattle.records.specs.Encoding.{ValidJob};
-ghost use Rattle.records.specs.Views.{bytesAt, InFile, jobAt, JobInFile, flowAt};
+ghost use Rattle.records.specs.Views.{bytesAt, jobAt, flowAt};
 ghost use Rattle.calls.specs.Loaded.{hasSet, jobLoaded, flowIn};
 use nodes::utils::NodeSet;
 use nodes::utils::SET_WORDS;
@@ -137,8 +137,7 @@ pub(crate) fn load_job(
     graph: &mut [u64],
     measured: &mut [u8],
 ) -> Loaded
-    requires { ⌜ ValidJob (jobAt (now file) job) × JobInFile (now file) job ⌝ }
-    requires { ⌜ (length (now graph) ≡ tableWords) × (now measured ≡ zeros capacity) ⌝ }
+    requires { ⌜ ValidJob (jobAt (now file) job) × (length (now graph) ≡ tableWords) × (now measured ≡ zeros capacity) ⌝ }
     ensures { λ r. ⌜ jobLoaded r (now (graph .exit)) (now (measured .exit)) ≡ jobOf (jobAt (now (file .entry)) job) ⌝ }
     ensures { λ r. ⌜ r .mode ≡ workingOf (jobAt (now (file .entry)) job) .mode ⌝ }
 {
@@ -164,7 +163,7 @@ pub(crate) fn load_flow(
     sets: &mut [u64],
 ) -> NodeSet
     requires { ⌜ (length (bytesAt (flow .layers) (now file)) ≤ capacity) × (allEntries (entryBelow capacity) (flowAt (now file) flow .sets) ≡ true) ⌝ }
-    requires { ⌜ InFile (now file) (flow .layers) × InFile (now file) (flow .sets) × (now layers ≡ zeros capacity) × (length (now sets) ≡ tableWords) ⌝ }
+    requires { ⌜ (now layers ≡ zeros capacity) × (length (now sets) ≡ tableWords) ⌝ }
     ensures { λ r. ⌜ flowIn (now (layers .exit)) r (now (sets .exit)) ≡ flowOf (flowAt (now (file .entry)) flow) ⌝ }
 {
     let first = flow.layers;

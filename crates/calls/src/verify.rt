@@ -11,7 +11,7 @@ ghost use Rattle.records.specs.FlowFile.{entriesOf, listed, allEntries, flowOf}
 ghost use Rattle.records.specs.Encoding.{ValidJob, ValidFlow};
 ghost use Rattle.verdicts.specs.Verdict.{checkDefinition, verify as verifyOf};
 ghost use Rattle.demands.specs.Calls.{verdict, verifyAsks, verifyCall};
-ghost use Rattle.records.specs.Views.{jobAt, JobInFile, flowAt, FlowInFile};
+ghost use Rattle.records.specs.Views.{jobAt, flowAt};
 ghost use Rattle.calls.specs.Loaded.{jobLoaded, flowIn, askedOf, flowAsks};
 ghost use Rattle.calls.specs.Replies.{replyOf};
 use crate::Reply;
@@ -87,7 +87,6 @@ fn verify_loaded(
 
 // Job and flow are loaded from the places of their payloads.
 fn verify_places(file: &[u8], job: JobPlaces, flow: FlowPlaces) -> Asked
-    requires { ⌜ JobInFile (now file) job × FlowInFile (now file) (job .measurements .end) flow ⌝ }
     requires { ⌜ ValidJob (jobAt (now file) job) × ValidFlow (job .n) (flowAt (now file) flow) ⌝ }
     ensures { λ r. ⌜ askedOf r ≡ verifyOf (jobOf (jobAt (now (file .entry)) job)) (flowOf (flowAt (now (file .entry)) flow)) (workingOf (jobAt (now (file .entry)) job) .mode) ⌝ }
 {
@@ -112,15 +111,14 @@ fn one_each(mode: u8, sets: &[u8]) -> bool
 
 // Is nothing left (8)? Then 9, and the questions on the flow.
 fn verify_read(file: &[u8], job: JobPlaces, flow: FlowPlaces) -> Asked
-    requires { ⌜ JobInFile (now file) job × FlowInFile (now file) (job .measurements .end) flow ⌝ }
+    requires { ⌜ flow .end ≤ length (now file) ⌝ }
     requires { ⌜ ValidJob (jobAt (now file) job) × ValidFlow (job .n) (flowAt (now file) flow) ⌝ }
     ensures { λ r. ⌜ verdict (askedOf r) ≡ flowAsks (jobAt (now (file .entry)) job) (flowAt (now (file .entry)) flow) ⌝ }
 {
-    let sets = flow.sets;
-    let end = sets.end;
-    if end != file.len() {
+    if flow.end != file.len() {
         return Asked::Refused(Refusal::BYTES_LEFT);
     }
+    let sets = flow.sets;
     if !one_each(job.mode, payload(file, sets)) {
         return Asked::Refused(Refusal::NOT_ONE_MEMBER);
     }
@@ -134,10 +132,7 @@ fn verify_file(file: &[u8]) -> Asked
     match read_job(file) {
         JobRead::Refused(q) => Asked::Refused(q),
         JobRead::Job(job) => {
-            let n = job.n;
-            let place = job.measurements;
-            let end = place.end;
-            match read_flow(file, end, n) {
+            match read_flow(file, job.end, job.n) {
                 FlowRead::Refused(q) => Asked::Refused(q),
                 FlowRead::Flow(flow) => verify_read(file, job, flow),
             }

@@ -15,13 +15,14 @@ use Rattle.flows.specs.Job.{Job, odd, own, planeXY, planeYZ, planeXZ}
 use Rattle.flows.specs.Branch.{branches, firstSolvable}
 use Rattle.flows.specs.Search.{rounds}
 use Rattle.answers.specs.Answer.{gives}
-use Rattle.records.specs.Records.{lengthField, part, checked, written}
+use Rattle.records.specs.Records.{lengthField, part, checked, written, eachAsks}
 use Rattle.nodes.specs.Lists.{has, listOf, all}
+use Rattle.records.specs.Format.{decodeThen}
 use Rattle.records.specs.JobFile.{JobFile, modeCausal, modePlanes, modePauli, rises, pairsRise, allows, allAllowed, openingAsks, edgesAsks, nodesAsks, measurementsAsks, readJob, hasEdge, jobOf}
-use Rattle.records.specs.FlowFile.{FlowFile, entriesIn, allEntries, entryBelow, entriesRise, entryBytes, eachAsks, setsAsks, readFlow, setIn, entryIn, flowOf}
+use Rattle.records.specs.FlowFile.{FlowFile, entriesIn, allEntries, entryBelow, entriesRise, entryBytes, setsAsks, readFlow, setIn, entryIn, flowOf}
 use Rattle.verdicts.specs.Verdict.{ask, eachFrom, nodeAsk, causalAsk, verify}
 use Rattle.demands.specs.Calls.{findAsks, verifyAsks}
-use Rattle.records.specs.Encoding.{entriesFor}
+use Rattle.records.specs.Encoding.{flowWith, entriesFor}
 use Rattle.demands.specs.Programs.{findProgram, verifyProgram}
 use Rattle.verdicts.specs.Published.{StrictOrder, Measured, NoInputs, PublishedFlow, byLayer}
 use Rattle.nodes.specs.Lists.{equal}
@@ -45,11 +46,11 @@ abbrev nodeAlone : (mode measurement : ℕ) → JobFile
 nodeAlone mode measurement = jobFile 1 mode [] [] [] (measurement ∷ [])
 
 abbrev raised : FlowFile
-raised = record { layers = 1 ∷ []; sets = []; after = [] }
+raised = flowWith (1 ∷ []) []
 
 -- the set {0} of node 0
 abbrev itself : List ℕ → FlowFile
-itself layers = record { layers = layers; sets = record { node = 0; set = 0 ∷ [] } ∷ []; after = [] }
+itself layers = flowWith layers (record { node = 0; set = 0 ∷ [] } ∷ [])
 
 -- ---- an input in a set is forbidden in every mode, whatever the order
 forbidden : (mode : ℕ) → IsNoFlow mode (jobOf (fileF mode)) (flowOf (itself (1 ∷ 0 ∷ [])))
@@ -170,7 +171,7 @@ accepted-flow job flow f g reads ends inputs r a = (
 all-hold : AllHold cases × AllHold differences
 unfolding
     bit parity anyBelow allBelow count lowestFrom membersFrom solve entryOf digits listOf matrixFits bothFit wellShaped solveAsks own branches firstSolvable rounds
-    lengthField part checked written all has rises pairsRise allows allAllowed openingAsks edgesAsks nodesAsks measurementsAsks readJob hasEdge
+    lengthField part checked decodeThen written all has rises pairsRise allows allAllowed openingAsks edgesAsks nodesAsks measurementsAsks readJob hasEdge
     entriesIn allEntries entryBelow entriesRise entryBytes eachAsks setsAsks readFlow setIn entryIn ask eachFrom nodeAsk causalAsk verify entriesFor findAsks verifyAsks findProgram verifyProgram equal
 all-hold = (
   (record { lower = tt }, ((fileF 2, itself (1 ∷ 0 ∷ []), refl, (refl, refl), forbidden 2), record { lower = tt })),

@@ -86,7 +86,7 @@ module _ (file : List ℕ) (f : JobFile) (reads : readJob file ≡ gives f) (end
   -- ---- (b) every accepted flow gives each node at least the layer of the found one
   module _ (p : T (premise f)) (other : List ℕ) (h : FlowFile) (q : Judged f other h) where
     reads-other : Readable j (flowOf h)
-    reads-other = readable f valid h (flow-asked (f .n) other h (q .reads))
+    reads-other = readable f valid h (flow-asked (f .n) other h (valid .few) (q .reads))
 
     pub smallest-found : (s : Progress) × (findAt j pauli ≡ some s) × ((u : ℕ) → u < j .nodes → s .layer u ≤ flowOf h .layer u)
     smallest-found =

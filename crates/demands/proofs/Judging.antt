@@ -171,7 +171,7 @@ module _ (s : List ℕ) (f : JobFile) (g : FlowFile) (reads-job : readJob s ≡ 
   valid = job-asked s f reads-job
 
   valid-flow : ValidFlow (f .n) g
-  valid-flow = flow-asked (f .n) (f .after) g reads-flow
+  valid-flow = flow-asked (f .n) (f .after) g (valid .few) reads-flow
 
   pub verifier-published : verifyAsks s ≡ gives true ↔ AcceptedFlow (modeOf f) (jobOf f) (flowOf g)
   unfolding verifyAsks

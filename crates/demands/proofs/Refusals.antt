@@ -13,8 +13,8 @@ use Rattle.records.specs.JobFile.{JobFile, mostNodes, readJob, jobOf, modeCausa
 use Rattle.records.specs.FlowFile.{FlowFile, Flow, allEntries, readFlow, flowOf}
 use Rattle.records.specs.Encoding.{Bytes}
 use Rattle.records.proofs.Records.{below-at}
-use Rattle.records.proofs.ReadingRefusals.{ReadingRefusal, job-refuses, flow-refuses}
-use Rattle.records.proofs.Encoding.{job-asked, job-after, flow-asked, flow-layers}
+use Rattle.records.proofs.ReadingRefusals.{ReadingRefusal}
+use Rattle.records.proofs.Encoding.{job-asked, job-after, job-refuses, flow-asked, flow-layers, flow-refuses}
 use Rattle.flows.specs.Job.{Job}
 use Rattle.solver.specs.Solver.{workBytes}
 use Rattle.verdicts.specs.Verdict as Q
@@ -66,8 +66,8 @@ module _ (bytes : Type 0) where
   job-numbered : (s : List ℕ) → AllNumbered (readJob s)
   job-numbered s = read-numbered (readJob s) (job-refuses s)
 
-  flow-numbered : (n : ℕ) (s : List ℕ) → AllNumbered (readFlow n s)
-  flow-numbered n s = read-numbered (readFlow n s) (flow-refuses n s)
+  flow-numbered : (n : ℕ) (s : List ℕ) → n ≤ mostNodes → AllNumbered (readFlow n s)
+  flow-numbered n s h = read-numbered (readFlow n s) (λ r. flow-refuses n s r h)
 
   pub find-numbered : (file work : List ℕ) → AllNumbered (findAsks file work)
   unfolding findAsks
@@ -160,13 +160,13 @@ module _ (bytes : Type 0) where
 -- the layers that were read of bytes are bytes
 layer-small : (file : List ℕ) (f : JobFile) (g : FlowFile) → readJob file ≡ gives f → readFlow (f .n) (f .after) ≡ gives g → Bytes file → (u : ℕ) → u < f .n → flowOf g .layer u < 256
 layer-small file f g e h b u l =
-    below-at 256 (g .layers) u (flow-layers (f .n) (f .after) g (job-asked file f e .few) (job-after file f b e) h) (omega (arith, flow-asked (f .n) (f .after) g h .count))
+    below-at 256 (g .layers) u (flow-layers (f .n) (f .after) g (job-asked file f e .few) (job-after file f b e) h) (omega (arith, flow-asked (f .n) (f .after) g (job-asked file f e .few) h .count))
 
 pub verify-numbered : (file : List ℕ) → AllNumbered (Bytes file) (verifyAsks file)
 unfolding verifyAsks
 verify-numbered file =
     bind-numbered (Bytes file) (readJob file) _ (job-numbered (Bytes file) file)
-    (λ f e. bind-numbered (Bytes file) (readFlow (f .n) (f .after)) _ (flow-numbered (Bytes file) (f .n) (f .after))
+    (λ f e. bind-numbered (Bytes file) (readFlow (f .n) (f .after)) _ (flow-numbered (Bytes file) (f .n) (f .after) (job-asked file f e .few))
     (λ g h. asks-then (Bytes file) 8 (eqb (length (g .after)) 0) _ (omega arith) (omega arith)
     (asks-then (Bytes file) 9 (not (eqb (f .mode) modeCausal) || allEntries (λ e. eqb (length (e .set)) 1) (g .sets)) _ (omega arith) (omega arith)
     (verdict-numbered (Bytes file) (Q.verify (jobOf f) (flowOf g) (modeOf f)) (verify-asked (Bytes file) (jobOf f) (flowOf g) (job-asked file f e .few) (λ b. layer-small file f g e h b) (modeOf f))))))

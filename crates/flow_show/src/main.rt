@@ -97,8 +97,7 @@ fn judge_flow(file: &[u8], n: usize) -> Judged {
     }
     match read_flow(file, 0, n) {
         FlowRead::Flow(flow) => {
-            let sets = flow.sets;
-            if sets.end == file.len() {
+            if flow.end == file.len() {
                 return Judged::Flow;
             }
             Judged::Other

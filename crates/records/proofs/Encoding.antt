@@ -10,17 +10,18 @@ use lib.Dec.{ltb}
 use lib.ListN.{length, getD}
 use Rattle.nodes.proofs.Logic.{and-out}
 use Rattle.nodes.specs.Lists.{has, all}
-use Rattle.answers.specs.Answer.{Answer, gives, _>>=_}
-use Rattle.answers.proofs.Answer.{give-inj, bind-out}
-use Rattle.records.specs.Records.{allYes, written, kindOpening, kindEdges, kindInputs, kindOutputs, kindMeasurements, kindLayers, kindSets}
-use Rattle.records.specs.Format.{Front, front, plain, recordOf}
+use Rattle.answers.specs.Answer.{Refusal, Answer, gives, refuses, _>>=_}
+use Rattle.answers.proofs.Answer.{give-inj, never, bind-out}
+use Rattle.records.specs.Records.{allYes, written, kindOpening, kindEdges, kindInputs, kindOutputs, kindMeasurements, kindLayers, kindSets, eachAsks}
+use Rattle.records.specs.Format.{Front, front, PayloadFormat, plain, recordOf}
 use Rattle.records.specs.JobFile.{JobFile, mostNodes, openingAllowed, edgesAsks, nodesAsks, measurementsAsks, opening, JobValue, job, jobFile, jobValue, readJob}
-use Rattle.records.specs.FlowFile.{FlowFile, entriesOf, listed, allEntries, entryBelow, entriesRise, entryBytes, eachAsks, sets, FlowValue, flow, flowFile, flowValue, readFlow}
+use Rattle.records.specs.FlowFile.{FlowFile, entriesOf, listed, allEntries, entryBelow, entriesRise, entryBytes, sets, FlowValue, flow, flowFile, flowValue, readFlow}
 use Rattle.records.specs.Encoding.{Bytes, jobBytes, ValidJob, flowFileBytes, ValidFlow}
-use Rattle.records.proofs.Records.{all-left, all-right}
+use Rattle.records.proofs.Records.{all-left, all-right, length-out, length-in}
 use Rattle.records.proofs.JobFile.{allowed-out, allowed-in, opening-out, opening-in, edges-out, edges-in, nodes-out, nodes-in, measurements-out, measurements-in, rises-length, pairs-length}
-use Rattle.records.proofs.FlowFile.{entries-back, entries-encode, length-out, length-in, sets-out, sets-in, entries-few, entry-bytes-length}
-use Rattle.records.proofs.Format.{Sound, Exact, PayloadExact, Appends, exact-iff, payload-bytes, record-sound, record-exact, record-appends, record-closed, plain-sound, plain-exact, then-sound, then-exact, then-appends}
+use Rattle.records.proofs.FlowFile.{entries-back, entries-encode, sets-out, sets-in, entries-few, entry-bytes-length}
+use Rattle.records.proofs.Format.{PayloadExact, Appends, Lawful, exact-iff, payload-bytes, record-appends, plain-exact, record-then-appends, record-lawful, _then-lawful_}
+use Rattle.records.proofs.ReadingRefusals.{ReadingRefusal, numbered, Numbered, opening-numbered, edges-numbered, nodes-numbered, measurements-numbered, each-numbered, sets-numbered}
 
 -- ---- the payloads
 two-bytes : (l : List ℕ) → length l ≡ 2 → getD l 0 0 ∷ getD l 1 0 ∷ [] ≡ l
@@ -36,26 +37,36 @@ opening-exact = record {
   out = λ l h e. two-bytes l (opening-out l e .0);
 }
 
-sets-sound : (n : ℕ) → Sound (recordOf kindSets (sets n))
-sets-sound n = record-sound kindSets (sets n) (λ l e. let (f, a, b) = sets-out n l e in rw (a, b))
+-- a record is lawful where its payload is exact and its questions are numbered
+lawful : {A : Type 0} (kind : ℕ) (p : PayloadFormat A) → PayloadExact p → ((l : List ℕ) → Numbered (p .questions l)) → Lawful ReadingRefusal (recordOf kind p)
+lawful kind p x more = record-lawful ReadingRefusal kind p (numbered 1 refl) (numbered 2 refl) x more
 
 -- so many bytes for each node
-each-exact : (kind width n : ℕ) → width * n < 4294967296 → Exact (recordOf kind (plain (eachAsks width n)))
-each-exact kind width n h = plain-exact kind (eachAsks width n) (λ p e. rw (length-out width n p e) h)
+each-lawful : (kind width n : ℕ) → width * n < 4294967296 → Lawful ReadingRefusal (recordOf kind (plain (eachAsks width n)))
+each-lawful kind width n h = lawful kind (plain (eachAsks width n)) (plain-exact (eachAsks width n) (λ p e. rw (length-out width n p e) h)) (each-numbered width n)
 
 -- nodes have numbers of one byte
 module _ (n : ℕ) (small : n ≤ 256) where
-  edges-exact : Exact (recordOf kindEdges (plain (edgesAsks n)))
-  edges-exact = plain-exact kindEdges (edgesAsks n) (λ p e. let (a, b, c) = edges-out n p e in let q : length p + 2 * 0 ≤ 131073 = pairs-length 0 n p small zero-le b c in omega arith)
+  edges-lawful : Lawful ReadingRefusal (recordOf kindEdges (plain (edgesAsks n)))
+  edges-lawful = lawful kindEdges (plain (edgesAsks n)) (plain-exact (edgesAsks n) few) (edges-numbered n)
+    where
+      few : (p : List ℕ) → allYes (edgesAsks n p) ≡ true → length p < 4294967296
+      few p e = let (a, b, c) = edges-out n p e in let q : length p + 2 * 0 ≤ 131073 = pairs-length 0 n p small zero-le b c in omega arith
 
-  nodes-exact : (kind : ℕ) → Exact (recordOf kind (plain (nodesAsks n)))
-  nodes-exact kind = plain-exact kind (nodesAsks n) (λ p e. let (a, b) = nodes-out n p e in let q : length p + 0 ≤ n = rises-length 0 n p zero-le a b in omega arith)
+  nodes-lawful : (kind : ℕ) → Lawful ReadingRefusal (recordOf kind (plain (nodesAsks n)))
+  nodes-lawful kind = lawful kind (plain (nodesAsks n)) (plain-exact (nodesAsks n) few) (nodes-numbered n)
+    where
+      few : (p : List ℕ) → allYes (nodesAsks n p) ≡ true → length p < 4294967296
+      few p e = let (a, b) = nodes-out n p e in let q : length p + 0 ≤ n = rises-length 0 n p zero-le a b in omega arith
 
-  measurements-exact : (mode : ℕ) (output : ℕ → Bool) → Exact (recordOf kindMeasurements (plain (measurementsAsks n mode output)))
-  measurements-exact mode output = plain-exact kindMeasurements (measurementsAsks n mode output) (λ p e. let q = measurements-out n mode output p e .0 in omega arith)
+  measurements-lawful : (mode : ℕ) (output : ℕ → Bool) → Lawful ReadingRefusal (recordOf kindMeasurements (plain (measurementsAsks n mode output)))
+  measurements-lawful mode output =
+      lawful kindMeasurements (plain (measurementsAsks n mode output))
+      (plain-exact (measurementsAsks n mode output) (λ p e. let q = measurements-out n mode output p e .0 in omega arith))
+      (measurements-numbered n mode output)
 
-  sets-exact : Exact (recordOf kindSets (sets n))
-  sets-exact = record-exact kindSets (sets n) (record {
+  sets-exact : PayloadExact (sets n)
+  sets-exact = record {
     valid = λ l e. let (f, a, b) = sets-out n l e in rw (a, b);
     into = λ es v.
         let (a, b) = and-out (allEntries (entryBelow n) es) (entriesRise 0 es) v in
@@ -64,23 +75,29 @@ module _ (n : ℕ) (small : n ≤ 256) where
         let most : length es * (n + 2) ≤ 256 * 258 = mul-le-mul {n₁ = length es} {m₁ = n + 2} {n₂ = 256} {m₂ = 258} (omega arith) (omega arith) in
         (sets-in n es a b, ap listed (entries-back es), omega arith);
     out = λ l h e. sym (entries-encode l (listed (entriesOf l)) (sets-out n l e .0));
-  })
+  }
+
+-- what a file is made of does not refuse
+made-refuses : {A B : Type 0} (m : Answer A) (f : A → B) (r : Refusal) → (m >>= λ p. gives (f p)) ≡ refuses r → m ≡ refuses r
+made-refuses (gives p) f r e = absurd (never (sym e))
+made-refuses (refuses q) f r e = let h : q ≡ r = cc in ap refuses h
 
 -- ---- a job
-job-format : Exact job
-job-format =
-    then-exact _ _ (record-exact kindOpening opening opening-exact) (λ o v. let small : o .n ≤ 256 = omega (arith, allowed-out (o .n) (o .mode) v .0) in
-    then-exact _ _ (edges-exact (o .n) small) (λ e w.
-    then-exact _ _ (nodes-exact (o .n) small kindInputs) (λ i w.
-    then-exact _ _ (nodes-exact (o .n) small kindOutputs) (λ u w.
-    measurements-exact (o .n) small (o .mode) (has u)))))
+job-lawful : Lawful ReadingRefusal job
+job-lawful =
+    lawful kindOpening opening opening-exact opening-numbered then-lawful λ o v.
+    let small : o .n ≤ 256 = omega (arith, allowed-out (o .n) (o .mode) v .0) in
+    edges-lawful (o .n) small then-lawful λ e w.
+    nodes-lawful (o .n) small kindInputs then-lawful λ i w.
+    nodes-lawful (o .n) small kindOutputs then-lawful λ u w.
+    measurements-lawful (o .n) small (o .mode) (has u)
 
 job-appends : Appends job
 job-appends =
-    then-appends _ _ (record-appends kindOpening opening) (record-closed kindOpening opening) (λ o.
-    then-appends _ _ (record-appends kindEdges (plain (edgesAsks (o .n)))) (record-closed kindEdges (plain (edgesAsks (o .n)))) (λ e.
-    then-appends _ _ (record-appends kindInputs (plain (nodesAsks (o .n)))) (record-closed kindInputs (plain (nodesAsks (o .n)))) (λ i.
-    then-appends _ _ (record-appends kindOutputs (plain (nodesAsks (o .n)))) (record-closed kindOutputs (plain (nodesAsks (o .n)))) (λ u.
+    record-then-appends kindOpening opening _ (λ o.
+    record-then-appends kindEdges (plain (edgesAsks (o .n))) _ (λ e.
+    record-then-appends kindInputs (plain (nodesAsks (o .n))) _ (λ i.
+    record-then-appends kindOutputs (plain (nodesAsks (o .n))) _ (λ u.
     record-appends kindMeasurements (plain (measurementsAsks (o .n) (o .mode) (has u)))))))
 
 job-decoded : (s : List ℕ) (f : JobFile) → readJob s ≡ gives f → job .decode s ≡ gives (front (jobValue f) (f .after))
@@ -119,7 +136,7 @@ valid-in f v =
 -- bytes are read as a job just where they are its bytes, and it is valid
 pub job-exact : (s : List ℕ) (f : JobFile) → Bytes s → (readJob s ≡ gives f ↔ (s ≡ jobBytes f ++ f .after) × ValidJob f)
 job-exact s f h =
-    let (there, back) = exact-iff job job-format s (jobValue f) (f .after) h in
+    let (there, back) = exact-iff job (job-lawful .exact) s (jobValue f) (f .after) h in
     (λ e. let (q, v, w) = there (job-decoded s f e) in (q, valid-out f v), λ x. job-reads s f (back (x .0, valid-in f (x .1), refl)))
 
 -- what is behind a job of bytes is bytes
@@ -128,7 +145,11 @@ job-after s f h e = all-right (λ b. ltb b 256) (jobBytes f) (f .after) (sym (ap
 
 -- what reading has asked
 pub job-asked : (s : List ℕ) (f : JobFile) → readJob s ≡ gives f → ValidJob f
-job-asked s f e = valid-out f (job-format .sound .valid s (jobValue f) (f .after) (job-decoded s f e))
+job-asked s f e = valid-out f (job-lawful .exact .sound .valid s (jobValue f) (f .after) (job-decoded s f e))
+
+pub job-refuses : (s : List ℕ) (r : Refusal) → readJob s ≡ refuses r → ReadingRefusal r
+unfolding readJob
+job-refuses s r e = job-lawful .refusing .refused s r (made-refuses (job .decode s) jobFile r e)
 
 -- with bytes behind it
 abbrev pub behind : JobFile → List ℕ → JobFile
@@ -138,11 +159,10 @@ pub job-append : (s g : List ℕ) (f : JobFile) → readJob s ≡ gives f → re
 job-append s g f e = job-reads (s ++ g) (behind f g) (job-appends .appends s (jobValue f) (f .after) g (job-decoded s f e) refl)
 
 -- ---- a flow
-flow-format : (n : ℕ) → n ≤ 256 → Exact (flow n)
-flow-format n small = then-exact _ _ (each-exact kindLayers 1 n (omega arith)) (λ l v. sets-exact n small)
-
-flow-sound : (n : ℕ) → Sound (flow n)
-flow-sound n = then-sound _ _ (plain-sound kindLayers (eachAsks 1 n)) (λ l v. sets-sound n)
+flow-lawful : (n : ℕ) → n ≤ mostNodes → Lawful ReadingRefusal (flow n)
+flow-lawful n h =
+    each-lawful kindLayers 1 n (omega arith) then-lawful λ l v.
+    lawful kindSets (sets n) (sets-exact n (omega arith)) (sets-numbered n)
 
 flow-decoded : (n : ℕ) (s : List ℕ) (g : FlowFile) → readFlow n s ≡ gives g → flow n .decode s ≡ gives (front (flowValue g) (g .after))
 unfolding readFlow
@@ -169,7 +189,7 @@ flow-bytes n g v = ap (λ (k : ℕ). flow k .encode (flowValue g) ++ g .after) (
 
 pub flow-exact : (n : ℕ) (s : List ℕ) (g : FlowFile) → n ≤ mostNodes → Bytes s → (readFlow n s ≡ gives g ↔ (s ≡ flowFileBytes g ++ g .after) × ValidFlow n g)
 flow-exact n s g k h =
-    let (there, back) = exact-iff (flow n) (flow-format n (omega arith)) s (flowValue g) (g .after) h in (
+    let (there, back) = exact-iff (flow n) (flow-lawful n k .exact) s (flowValue g) (g .after) h in (
       (λ e. let (q, v, w) = there (flow-decoded n s g e) in let x = flow-valid-out n g v in (q ∙ sym (flow-bytes n g x), x)),
       λ x. flow-reads n s g (back (x .0 ∙ flow-bytes n g (x .1), flow-valid-in n g (x .1), refl)),
     )
@@ -180,11 +200,15 @@ flow-layers n s g k h e =
     payload-bytes kindLayers (g .layers) (written kindSets (entryBytes (g .sets)))
     (all-left (λ b. ltb b 256) (flowFileBytes g) (g .after) (sym (ap (all (λ b. ltb b 256)) (flow-exact n s g k h .0 e .0)) ∙ h))
 
-pub flow-asked : (n : ℕ) (s : List ℕ) (g : FlowFile) → readFlow n s ≡ gives g → ValidFlow n g
-flow-asked n s g e = flow-valid-out n g (flow-sound n .valid s (flowValue g) (g .after) (flow-decoded n s g e))
+pub flow-asked : (n : ℕ) (s : List ℕ) (g : FlowFile) → n ≤ mostNodes → readFlow n s ≡ gives g → ValidFlow n g
+flow-asked n s g k e = flow-valid-out n g (flow-lawful n k .exact .sound .valid s (flowValue g) (g .after) (flow-decoded n s g e))
+
+pub flow-refuses : (n : ℕ) (s : List ℕ) (r : Refusal) → n ≤ mostNodes → readFlow n s ≡ refuses r → ReadingRefusal r
+unfolding readFlow
+flow-refuses n s r k e = flow-lawful n k .refusing .refused s r (made-refuses (flow n .decode s) flowFile r e)
 
 -- read back, also where its layers are no bytes
 pub flow-decodes : (n : ℕ) (g : FlowFile) → n ≤ mostNodes → ValidFlow n g → readFlow n (flowFileBytes g ++ g .after) ≡ gives g
 flow-decodes n g h v =
     ap (readFlow n) (flow-bytes n g v)
-    ∙ flow-reads n (flow n .encode (flowValue g) ++ g .after) g (flow-format n (omega arith) .decodes (flowValue g) (g .after) (flow-valid-in n g v) refl)
+    ∙ flow-reads n (flow n .encode (flowValue g) ++ g .after) g (flow-lawful n h .exact .decodes (flowValue g) (g .after) (flow-valid-in n g v) refl)

@@ -17,7 +17,7 @@ use Rattle.answers.specs.Answer.{gives, asks, _>>_}
 use Rattle.records.specs.Records.{allYes}
 use Rattle.nodes.specs.Lists.{has}
 use Rattle.records.specs.JobFile.{modeCausal, nodesBelow, rises}
-use Rattle.records.specs.FlowFile.{SetEntry, addEntry, entriesIn, entriesOf, listed, allEntries, entryBelow, entriesRise, eachAsks, setsAsks, entryBytes, setIn, entryIn, nothingLeft, oneMember}
+use Rattle.records.specs.FlowFile.{SetEntry, addEntry, entriesIn, entriesOf, listed, allEntries, entryBelow, entriesRise, setsAsks, entryBytes, setIn, entryIn, nothingLeft, oneMember}
 use Rattle.answers.proofs.Answer.{asks-yes}
 use Rattle.records.proofs.Records.{asks-then, asks-last}
 use Rattle.records.proofs.JobFile.{has-below, rises-length}
@@ -58,14 +58,6 @@ pub entries-encode : (s : List ℕ) (es : List SetEntry) → entriesOf s ≡ som
 entries-encode s es e = bytes-of (suc (length s)) s es e
 
 -- ---- the questions of each record, as facts
-pub length-out : (width n : ℕ) (p : List ℕ) → allYes (eachAsks width n p) ≡ true → length p ≡ width * n
-unfolding eachAsks
-length-out width n p e = eqb-true (length p) (width * n) (asks-last 3 (eqb (length p) (width * n)) e)
-
-pub length-in : (width n : ℕ) (p : List ℕ) → length p ≡ width * n → allYes (eachAsks width n p) ≡ true
-unfolding eachAsks
-length-in width n p e = rw (eq-eqb (length p) (width * n) e)
-
 framed-out : (o : Option (List SetEntry)) → isSome o ≡ true → o ≡ some (listed o)
 framed-out none e = absurd (false≢true e)
 framed-out (some es) e = refl

@@ -15,7 +15,7 @@ use Rattle.nodes.specs.Lists.{all}
 use Rattle.answers.specs.Answer.{Refusal, Answer, gives, refuses, refusal, asks, _>>=_, _>>_}
 use Rattle.answers.proofs.Answer.{give-inj, never, bind-out}
 use Rattle.records.specs.Records.{carries, Part, allYes, part, checked, headOf, written, lengthField, kindField, headBytes}
-use Rattle.records.specs.Format.{Front, front, Format, PayloadFormat, plain, recordOf, then, someOf, optional, choice}
+use Rattle.records.specs.Format.{Front, front, Format, PayloadFormat, plain, recordOf, decodeThen, _then_, someOf, optional, choice}
 use Rattle.records.specs.Encoding.{Bytes}
 use Rattle.records.proofs.Records.{all-left, all-right, checked-passed, checked-append, checked-written, record-bytes}
 
@@ -126,69 +126,72 @@ module _ {A : Type 0} (kind : ℕ) (p : PayloadFormat A) where
       by true h = h
       by false h = absurd (never (sym (record-missing s h) ∙ e))
 
--- a payload that stands for itself
-pub plain-sound : (kind : ℕ) (questions : List ℕ → Answer Bool) → Sound (recordOf kind (plain questions))
-plain-sound kind questions = record-sound kind (plain questions) (λ l z. z)
-
--- where its questions bound its length
-pub plain-exact : (kind : ℕ) (questions : List ℕ → Answer Bool) → ((l : List ℕ) → allYes (questions l) ≡ true → length l < 4294967296) → Exact (recordOf kind (plain questions))
-plain-exact kind questions few = record-exact kind (plain questions) (record {
+-- a payload that stands for itself, where its questions bound its length
+pub plain-exact : (questions : List ℕ → Answer Bool) → ((l : List ℕ) → allYes (questions l) ≡ true → length l < 4294967296) → PayloadExact (plain questions)
+plain-exact questions few = record {
   valid = λ l z. z;
   into = λ a z. (z, refl, few a z);
   out = λ l h z. refl;
-})
+}
 
 -- ---- one after the other
 module _ {A B : Type 0} (f : Format A) (g : A → Format B) where
-  then-out : (s : List ℕ) (c : A × B) (t : List ℕ) → then f g .decode s ≡ gives (front c t)
+  then-out : (s : List ℕ) (c : A × B) (t : List ℕ) → (f then g) .decode s ≡ gives (front c t)
       → (p : Front A) × (f .decode s ≡ gives p) × (q : Front B) × (g (p .value) .decode (p .rest) ≡ gives q) × (gives (front {A = A × B} (p .value, q .value) (q .rest)) ≡ gives (front c t))
+  unfolding decodeThen
   then-out s c t e =
       let (p, p1, e1) = bind-out (f .decode s) (λ p. g (p .value) .decode (p .rest) >>= λ q. gives (front {A = A × B} (p .value, q .value) (q .rest))) (front {A = A × B} c t) e in
       let (q, q1, e2) = bind-out (g (p .value) .decode (p .rest)) (λ q. gives (front {A = A × B} (p .value, q .value) (q .rest))) (front {A = A × B} c t) e1 in
       (p, p1, q, q1, e2)
 
-  pub then-sound : Sound f → ((a : A) → f .valid a ≡ true → Sound (g a)) → Sound (then f g)
+  pub then-sound : Sound f → ((a : A) → f .valid a ≡ true → Sound (g a)) → Sound (f then g)
   then-sound x y = record {
     valid = λ s c t e.
         let (p, p1, q, q1, e2) = then-out s c t e in
         let v = x .valid s (p .value) (p .rest) p1 in
-        front-inj (λ c t. then f g .valid c ≡ true) (p .value, q .value) c (q .rest) t e2 (rw (v, y (p .value) v .valid (p .rest) (q .value) (q .rest) q1));
+        front-inj (λ c t. (f then g) .valid c ≡ true) (p .value, q .value) c (q .rest) t e2 (rw (v, y (p .value) v .valid (p .rest) (q .value) (q .rest) q1));
   }
 
-  pub then-exact : Exact f → ((a : A) → f .valid a ≡ true → Exact (g a)) → Exact (then f g)
+  pub then-exact : Exact f → ((a : A) → f .valid a ≡ true → Exact (g a)) → Exact (f then g)
+  unfolding decodeThen
   then-exact x y = record { sound = then-sound (x .sound) (λ a v. y a v .sound); decodes = there; encodes = back }
     where
-      there : (c : A × B) (t : List ℕ) → then f g .valid c ≡ true → then f g .mayFollow c t ≡ true → then f g .decode (then f g .encode c ++ t) ≡ gives (front c t)
+      there : (c : A × B) (t : List ℕ) → (f then g) .valid c ≡ true → (f then g) .mayFollow c t ≡ true → (f then g) .decode ((f then g) .encode c ++ t) ≡ gives (front c t)
       there (a, b) t v w =
           let (v1, v2) = and-out (f .valid a) (g a .valid b) v in
           let (w1, w2) = and-out (f .mayFollow a (g a .encode b ++ t)) (g a .mayFollow b t) w in
           rw (append-assoc (f .encode a) (g a .encode b) t, x .decodes a (g a .encode b ++ t) v1 w1, y a v1 .decodes b t v2 w2)
 
-      both : (s : List ℕ) (a : A) (b : B) (m u : List ℕ) → Decoded f s a m → Decoded (g a) m b u → Decoded (then f g) s (a, b) u
+      both : (s : List ℕ) (a : A) (b : B) (m u : List ℕ) → Decoded f s a m → Decoded (g a) m b u → Decoded (f then g) s (a, b) u
       both s a b m u r1 r2 = record {
         same = r1 .same ∙ ap (λ (z : List ℕ). f .encode a ++ z) (r2 .same) ∙ sym (append-assoc (f .encode a) (g a .encode b) u);
         follows = rw (← r2 .same, r1 .follows, r2 .follows);
         bytes = r2 .bytes;
       }
 
-      back : (s : List ℕ) (c : A × B) (t : List ℕ) → Bytes s → then f g .decode s ≡ gives (front c t) → Decoded (then f g) s c t
+      back : (s : List ℕ) (c : A × B) (t : List ℕ) → Bytes s → (f then g) .decode s ≡ gives (front c t) → Decoded (f then g) s c t
       back s c t h e =
           let (p, p1, q, q1, e2) = then-out s c t e in
           let r1 : Decoded f s (p .value) (p .rest) = x .encodes s (p .value) (p .rest) h p1 in
           let r2 : Decoded (g (p .value)) (p .rest) (q .value) (q .rest) = y (p .value) (x .sound .valid s (p .value) (p .rest) p1) .encodes (p .rest) (q .value) (q .rest) (r1 .bytes) q1 in
-          front-inj (Decoded (then f g) s) (p .value, q .value) c (q .rest) t e2 (both s (p .value) (q .value) (p .rest) (q .rest) r1 r2)
+          front-inj (Decoded (f then g) s) (p .value, q .value) c (q .rest) t e2 (both s (p .value) (q .value) (p .rest) (q .rest) r1 r2)
 
-  pub then-closed : Closed f → ((a : A) → Closed (g a)) → Closed (then f g)
+  pub then-closed : Closed f → ((a : A) → Closed (g a)) → Closed (f then g)
   then-closed k l = record { closed = λ c t. rw (k .closed (c .0) (g (c .0) .encode (c .1) ++ t)) (l (c .0) .closed (c .1) t) }
 
-  pub then-appends : Appends f → Closed f → ((a : A) → Appends (g a)) → Appends (then f g)
+  pub then-appends : Appends f → Closed f → ((a : A) → Appends (g a)) → Appends (f then g)
+  unfolding decodeThen
   then-appends x k y = record {
     appends = λ s c t u e w.
         let (p, p1, q, q1, e2) = then-out s c t e in
         let m : front {A = A × B} (p .value, q .value) (q .rest) ≡ front c t = give-inj e2 in
-        let (w1, w2) = and-out (f .mayFollow (p .value) (g (p .value) .encode (q .value) ++ (q .rest ++ u))) (g (p .value) .mayFollow (q .value) (q .rest ++ u)) (ap (λ (z : Front (A × B)). then f g .mayFollow (z .value) (z .rest ++ u)) m ∙ w) in
+        let (w1, w2) = and-out (f .mayFollow (p .value) (g (p .value) .encode (q .value) ++ (q .rest ++ u))) (g (p .value) .mayFollow (q .value) (q .rest ++ u)) (ap (λ (z : Front (A × B)). (f then g) .mayFollow (z .value) (z .rest ++ u)) m ∙ w) in
         rw (x .appends s (p .value) (p .rest) u p1 (k .closed (p .value) (p .rest ++ u)), y (p .value) .appends (p .rest) (q .value) (q .rest) u q1 w2) (ap (λ (z : Front (A × B)). gives (front (z .value) (z .rest ++ u))) m);
   }
+
+-- one record before others
+pub record-then-appends : {A B : Type 0} (kind : ℕ) (p : PayloadFormat A) (g : A → Format B) → ((a : A) → Appends (g a)) → Appends (recordOf kind p then g)
+record-then-appends kind p g y = then-appends (recordOf kind p) g (record-appends kind p) (record-closed kind p) y
 
 -- ---- which kind stands first
 abbrev pub Starts : {A : Type 0} → ℕ → Format A → Type 0
@@ -211,7 +214,7 @@ record-starts kind p a t = rw (kind-written kind (p .encode a) t, six-written ki
 pub record-differs : {A : Type 0} (other kind : ℕ) (p : PayloadFormat A) → (kind ≡ other → ⊥) → Differs other (recordOf kind p)
 record-differs other kind p d a t = rw (kind-written kind (p .encode a) t, six-written kind (p .encode a) t, ne-eqb kind other d)
 
-pub then-starts : {A B : Type 0} (kind : ℕ) (f : Format A) (g : A → Format B) → Starts kind f → Starts kind (then f g)
+pub then-starts : {A B : Type 0} (kind : ℕ) (f : Format A) (g : A → Format B) → Starts kind f → Starts kind (f then g)
 then-starts kind f g x c t = rw (append-assoc (f .encode (c .0)) (g (c .0) .encode (c .1)) t) (x (c .0) (g (c .0) .encode (c .1) ++ t))
 
 -- a kind that stands there stands there with more bytes behind, and no other does
@@ -333,10 +336,6 @@ module _ (P : Refusal → Type 0) where
   asks-refuses q true k r e p h = h e
   asks-refuses q false k r e p h = let same : refusal q ≡ r = cc in subst P same p
 
-  pub ask-refuses : (q : ℕ) (c : Bool) (r : Refusal) → asks q c ≡ refuses r → P (refusal q) → P r
-  ask-refuses q true r e p = absurd (never (sym e))
-  ask-refuses q false r e p = let same : refusal q ≡ r = cc in subst P same p
-
   pub record Refuses {A : Type 0} (f : Format A) : Type 0 where
     pub refused : (s : List ℕ) (r : Refusal) → f .decode s ≡ refuses r → P r
 
@@ -354,11 +353,14 @@ module _ (P : Refusal → Type 0) where
       questioned (gives b) a q e h = absurd (never (sym e))
       questioned (refuses r) a q e h = let same : r ≡ q = cc in subst P same (h r refl)
 
-  pub then-refuses : {A B : Type 0} (f : Format A) (g : A → Format B) → Refuses f → ((a : A) → Refuses (g a)) → Refuses (then f g)
-  then-refuses f g x y = record {
-    refused = λ s r e. bind-refuses (f .decode s) _ r e (x .refused s)
-        (λ p e1. bind-refuses (g (p .value) .decode (p .rest)) _ r e1 (y (p .value) .refused (p .rest)) (λ q e2. absurd (never (sym e2))));
-  }
+  -- what is read first is valid
+  pub then-refuses : {A B : Type 0} (f : Format A) (g : A → Format B) → Sound f → Refuses f → ((a : A) → f .valid a ≡ true → Refuses (g a)) → Refuses (f then g)
+  unfolding decodeThen
+  then-refuses {A = A} {B = B} f g v x y = record { refused = λ s r e. by s r (f .decode s) refl e }
+    where
+      by : (s : List ℕ) (r : Refusal) (m : Answer (Front A)) → f .decode s ≡ m → (m >>= λ p. g (p .value) .decode (p .rest) >>= λ q. gives (front {A = A × B} (p .value, q .value) (q .rest))) ≡ refuses r → P r
+      by s r (gives p) h e = bind-refuses (g (p .value) .decode (p .rest)) _ r e (y (p .value) (v .valid s (p .value) (p .rest) h) .refused (p .rest)) (λ q e2. absurd (never (sym e2)))
+      by s r (refuses q) h e = let same : q ≡ r = cc in subst P same (x .refused s q h)
 
   pub optional-refuses : {A : Type 0} (kind : ℕ) (f : Format A) → Refuses f → Refuses (optional kind f)
   optional-refuses kind f x = record { refused = λ s r e. by s r (carries kind s) e }
@@ -373,3 +375,31 @@ module _ (P : Refusal → Type 0) where
       by : (s : List ℕ) (r : Refusal) (c : Bool) → cond c (g .decode s) (f .decode s) ≡ refuses r → P r
       by s r true e = y .refused s r e
       by s r false e = x .refused s r e
+
+-- ---- all of it: a format is exact, and refuses with what P allows
+pub record Lawful (P : Refusal → Type 0) {A : Type 0} (f : Format A) : Type 0 where
+  pub exact : Exact f
+  pub refusing : Refuses P f
+
+-- of one record: P allows 1, 2 and what its questions refuse with
+pub record-lawful : (P : Refusal → Type 0) {A : Type 0} (kind : ℕ) (p : PayloadFormat A) → P (refusal 1) → P (refusal 2) → PayloadExact p → ((l : List ℕ) (r : Refusal) → p .questions l ≡ refuses r → P r) → Lawful P (recordOf kind p)
+record-lawful P kind p one two x more = record { exact = record-exact kind p x; refusing = record-refuses P kind p one two more }
+
+infixr 10 _then-lawful_
+pub _then-lawful_ : {P : Refusal → Type 0} {A B : Type 0} {f : Format A} {g : A → Format B} → Lawful P f → ((a : A) → f .valid a ≡ true → Lawful P (g a)) → Lawful P (f then g)
+_then-lawful_ {P = P} {f = f} {g = g} x y = record {
+  exact = then-exact f g (x .exact) (λ a v. y a v .exact);
+  refusing = then-refuses P f g (x .exact .sound) (x .refusing) (λ a v. y a v .refusing);
+}
+
+pub optional-lawful : {P : Refusal → Type 0} {A : Type 0} (kind : ℕ) (p : PayloadFormat A) → Lawful P (recordOf kind p) → Lawful P (optional kind (recordOf kind p))
+optional-lawful {P = P} kind p x = record {
+  exact = optional-exact kind (recordOf kind p) (x .exact) (record-starts kind p);
+  refusing = optional-refuses P kind (recordOf kind p) (x .refusing);
+}
+
+pub choice-lawful : {P : Refusal → Type 0} {A : Type 0} {second : A → Bool} {f : Format A} {kind : ℕ} {g : Format A} → Apart second f kind g → Lawful P f → Lawful P g → Lawful P (choice second f kind g)
+choice-lawful {P = P} {second = second} {f = f} {kind = kind} {g = g} k x y = record {
+  exact = choice-exact second f kind g k (x .exact) (y .exact);
+  refusing = choice-refuses P second f kind g (x .refusing) (y .refusing);
+}

@@ -2,7 +2,6 @@ pub mod Encoding
 pub mod FlowFile
 pub mod Format
 pub mod JobFile
-pub mod Places
 pub mod ReadingEntries
 pub mod ReadingFiles
 pub mod ReadingHead

@@ -12,7 +12,7 @@ use lib.Seq.{length-take-le, take-append-le, drop-append-le, take-append-seam, d
 use Rattle.nodes.proofs.Logic.{and-out}
 use Rattle.answers.specs.Answer.{Answer, gives, refuses, _>>_, asks}
 use Rattle.answers.proofs.Answer.{give-inj, never, asks-out, bind-out}
-use Rattle.records.specs.Records.{Part, part, allYes, checked, written, lengthField, kindField}
+use Rattle.records.specs.Records.{Part, part, allYes, checked, eachAsks, written, lengthField, kindField}
 use Rattle.nodes.specs.Lists.{all}
 
 -- ---- every element passes
@@ -187,6 +187,15 @@ asks-then q false m e = absurd (false≢true e)
 pub asks-last : (q : ℕ) (c : Bool) → allYes (asks q c) ≡ true → c ≡ true
 asks-last q true e = refl
 asks-last q false e = absurd (false≢true e)
+
+-- so many bytes for each node
+pub length-out : (width n : ℕ) (p : List ℕ) → allYes (eachAsks width n p) ≡ true → length p ≡ width * n
+unfolding eachAsks
+length-out width n p e = eqb-true (length p) (width * n) (asks-last 3 (eqb (length p) (width * n)) e)
+
+pub length-in : (width n : ℕ) (p : List ℕ) → length p ≡ width * n → allYes (eachAsks width n p) ≡ true
+unfolding eachAsks
+length-in width n p e = rw (eq-eqb (length p) (width * n) e)
 
 module _ (kind : ℕ) (questions : List ℕ → Answer Bool) where
   pub checked-passed : (s : List ℕ) (p : Part) → checked kind questions s ≡ gives p → (part kind s ≡ gives p) × (allYes (questions (p .payload)) ≡ true)

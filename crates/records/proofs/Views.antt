@@ -1,6 +1,6 @@
 -- The views of what was read: one record, from what the code found and asked; and a format, record after record.
-use Prim.Native.Nat.{ℕ, _+_, _-_}
-use mathlib.Core.Path.{_≡_, refl, sym, ap, ap₂, _∙_}
+use Prim.Native.Nat.{ℕ, _+_, _-_, _≤_}
+use mathlib.Core.Path.{_≡_, refl, sym, ap, ap₂, subst, _∙_}
 use mathlib.Core.Bool.{Bool, true, false, cond}
 use mathlib.Core.Option.{some}
 use mathlib.Core.List.{List, [], _++_}
@@ -14,8 +14,8 @@ use Rattle.answers.specs.Refusals.{refusalOf}
 use Rattle.answers.specs.declared.Refusal as Code
 use Rattle.answers.proofs.Answer.{never}
 use Rattle.records.specs.Records.{carries, Part, allYes, part, checked}
-use Rattle.records.specs.Format.{Front, front, Format, PayloadFormat, recordOf, then, choice}
-use Rattle.records.specs.Views.{bytesAt, InFile, PayloadAt, keptAround, checkedOf, partAt, recordOfRead, RecordAt, restOf, recordBehind, placeOf, payloadOf, startAt, optionalOfRead, optionalBehind, marked, choiceOfRead, choiceBehind}
+use Rattle.records.specs.Format.{Front, front, Format, PayloadFormat, plain, recordOf, decodeThen, _then_, optional, choice}
+use Rattle.records.specs.Views.{bytesAt, InFile, payloadFrom, keptAround, checkedOf, partAt, recordOfRead, RecordAt, restOf, placeOf, payloadOf, Next, startAt, someIf, optionalOfRead, optionalBehind, OptionalAt, NextOptional, marked, choiceOfRead, choiceBehind}
 use Rattle.records.specs.declared.common.Place.{Place}
 use Rattle.records.specs.declared.questions.Checked.{Checked}
 use Rattle.records.specs.declared.questions.Checked.the-variants.{Passed, Refused as NotPassed}
@@ -50,51 +50,58 @@ bind-assoc : {A B C : Type 0} (m : Answer A) (f : A → Answer B) (g : B → Ans
 bind-assoc (gives a) f g = refl
 bind-assoc (refuses r) f g = refl
 
-refusal-inj : {A B : Type 0} (r q : Refusal) → _≡_ {A = Answer A} (refuses r) (refuses q) → _≡_ {A = Answer B} (refuses r) (refuses q)
-refusal-inj r q e = let h : r ≡ q = cc in ap refuses h
-
 -- a value v of the format, read from the bytes y, with y′ left
-abbrev pub Took : {A : Type 0} → Format A → (y : Answer (List ℕ)) (v : A) (y′ : Answer (List ℕ)) → Type 0
-Took f y v y′ = (y′ >>= λ t. gives (front v t)) ≡ (y >>= f .decode)
+pub record Took {A : Type 0} (f : Format A) (y : Answer (List ℕ)) (v : A) (y′ : Answer (List ℕ)) : Type 0 where
+  pub took : (y′ >>= λ t. gives (front v t)) ≡ (y >>= f .decode)
 
--- the last part of a format
-pub last-step : {A C : Type 0} (f : Format A) (k : Front A → Answer C) (whole : Answer C) (y : Answer (List ℕ)) (v : A) (y′ : Answer (List ℕ))
-    → whole ≡ (y >>= λ t. f .decode t >>= k) → Took f y v y′ → whole ≡ (y′ >>= λ t. k (front v t))
-last-step f k whole (gives t) v y′ h e = h ∙ ap (λ m. m >>= k) (sym e) ∙ bind-assoc y′ (λ t. gives (front v t)) k
-last-step f k whole (refuses r) v (gives u) h e = absurd (never (sym e))
-last-step {A = A} f k whole (refuses r) v (refuses q) h e = h ∙ sym (refusal-inj {A = Front A} q r e)
-
--- a part before others
-pub step : {A B C : Type 0} (f : Format A) (g : A → Format B) (k : Front (A × B) → Answer C) (whole : Answer C) (y : Answer (List ℕ)) (v : A) (y′ : Answer (List ℕ))
-    → whole ≡ (y >>= λ t. then f g .decode t >>= k) → Took f y v y′ → whole ≡ (y′ >>= λ t. g v .decode t >>= λ q. k (front (v, q .value) (q .rest)))
-step {A = A} {B = B} f g k whole y v y′ h e =
-    last-step f (λ p. g (p .value) .decode (p .rest) >>= λ q. k (front {A = A × B} (p .value, q .value) (q .rest))) whole y v y′ (h ∙ bind-ext y _ _ opened) e
+pub then-took : {A B : Type 0} (f : Format A) (g : A → Format B) {y y′ y″ : Answer (List ℕ)} {v : A} {w : B} → Took f y v y′ → Took (g v) y′ w y″ → Took (f then g) y (v, w) y″
+unfolding decodeThen
+then-took {A = A} {B = B} f g {y = y} {y′ = y′} {y″ = y″} {v = v} {w = w} a b = record {
+  took =
+      sym (bind-assoc y″ (λ t. gives (front w t)) pair)
+      ∙ ap (λ (m : Answer (Front B)). m >>= pair) (b .took)
+      ∙ bind-assoc y′ (g v .decode) pair
+      ∙ sym (bind-assoc y′ (λ t. gives (front v t)) on)
+      ∙ ap (λ (m : Answer (Front A)). m >>= on) (a .took)
+      ∙ bind-assoc y (f .decode) on;
+}
   where
-    opened : (t : List ℕ) → (then f g .decode t >>= k) ≡ (f .decode t >>= λ p. g (p .value) .decode (p .rest) >>= λ q. k (front {A = A × B} (p .value, q .value) (q .rest)))
-    opened t =
-        bind-assoc (f .decode t) (λ p. g (p .value) .decode (p .rest) >>= λ q. gives (front {A = A × B} (p .value, q .value) (q .rest))) k
-        ∙ bind-ext (f .decode t) _ _ (λ p. bind-assoc (g (p .value) .decode (p .rest)) (λ q. gives (front {A = A × B} (p .value, q .value) (q .rest))) k)
+    pair : Front B → Answer (Front (A × B))
+    pair q = gives (front (v, q .value) (q .rest))
+
+    on : Front A → Answer (Front (A × B))
+    on p = g (p .value) .decode (p .rest) >>= λ q. gives (front (p .value, q .value) (q .rest))
 
 -- ---- what the code's steps took
+abbrev pub WasRead : RecordRead → Type 0
+WasRead r = r ≡ Payload (placeOf r)
+
 module _ (s : List ℕ) where
-  pub next-took : {A : Type 0} (kind : ℕ) (p : PayloadFormat A) (read r : RecordRead) → recordOfRead s r ≡ recordBehind s read kind (p .questions)
+  pub next-took : {A : Type 0} (kind : ℕ) (p : PayloadFormat A) (read r : RecordRead) → Next s read kind (p .questions) r
       → Took (recordOf kind p) (restOf s read) (p .value (payloadOf s r)) (restOf s r)
-  next-took kind p read r e =
-      part r ∙ ap (λ (m : Answer Part). m >>= λ q. gives (front (p .value (q .payload)) (q .rest))) e
-      ∙ bind-assoc (restOf s read) (checked kind (p .questions)) (λ q. gives (front (p .value (q .payload)) (q .rest)))
+  next-took kind p read r (e, l) = record {
+    took =
+        part r ∙ ap (λ (m : Answer Part). m >>= λ q. gives (front (p .value (q .payload)) (q .rest))) e
+        ∙ bind-assoc (restOf s read) (checked kind (p .questions)) (λ q. gives (front (p .value (q .payload)) (q .rest)));
+  }
     where
       part : (r : RecordRead) → (restOf s r >>= λ t. gives (front (p .value (payloadOf s r)) t)) ≡ (recordOfRead s r >>= λ q. gives (front (p .value (q .payload)) (q .rest)))
       part (Payload x) = refl
       part (NoRecord q) = refl
 
-  -- an optional record's contract is of this form already
+  pub optional-took : (kind : ℕ) (questions : List ℕ → Answer Bool) (read : RecordRead) (b : Branch) → NextOptional s read kind questions b
+      → Took (optional kind (recordOf kind (plain questions))) (restOf s read) (someIf (b .taken) (payloadOf s (b .read))) (restOf s (b .read))
+  optional-took kind questions read b (e, l) = record { took = e }
+
   pub choice-took : {A : Type 0} (second : A → Bool) (first kind : ℕ) (p q : PayloadFormat A) (read : RecordRead) (b : Branch) → choiceOfRead s b ≡ choiceBehind s read first (p .questions) kind (q .questions)
       → Took (choice second (recordOf first p) kind (recordOf kind q)) (restOf s read) (cond (b .taken) (q .value (payloadOf s (b .read))) (p .value (payloadOf s (b .read)))) (restOf s (b .read))
-  choice-took {A = A} second first kind p q read b e =
-      sym (bind-assoc (restOf s (b .read)) (λ t. gives (front (b .taken, payloadOf s (b .read)) t)) value)
-      ∙ ap (λ (m : Answer (Front (Bool × List ℕ))). m >>= value) e
-      ∙ bind-assoc (restOf s read) (λ t. cond (carries kind t) (checked kind (q .questions) t >>= marked true) (checked first (p .questions) t >>= marked false)) value
-      ∙ bind-ext (restOf s read) _ _ (λ t. by t (carries kind t))
+  choice-took {A = A} second first kind p q read b e = record {
+    took =
+        sym (bind-assoc (restOf s (b .read)) (λ t. gives (front (b .taken, payloadOf s (b .read)) t)) value)
+        ∙ ap (λ (m : Answer (Front (Bool × List ℕ))). m >>= value) e
+        ∙ bind-assoc (restOf s read) (λ t. cond (carries kind t) (checked kind (q .questions) t >>= marked true) (checked first (p .questions) t >>= marked false)) value
+        ∙ bind-ext (restOf s read) _ _ (λ t. by t (carries kind t));
+  }
     where
       value : Front (Bool × List ℕ) → Answer (Front A)
       value x = gives (front (cond (x .value .0) (q .value (x .value .1)) (p .value (x .value .1))) (x .rest))
@@ -104,27 +111,37 @@ module _ (s : List ℕ) where
       by t false = bind-assoc (checked first (p .questions) t) (marked false) value
 
   -- a payload that was read has passed its questions; else it is empty
-  pub payload-passed : (kind : ℕ) (questions : List ℕ → Answer Bool) (read r : RecordRead) → recordOfRead s r ≡ recordBehind s read kind questions
+  pub payload-passed : (kind : ℕ) (questions : List ℕ → Answer Bool) (read r : RecordRead) → Next s read kind questions r
       → (C : List ℕ → Type 0) → C [] → ((p : List ℕ) → allYes (questions p) ≡ true → C p) → C (payloadOf s r)
   payload-passed kind questions read (NoRecord q) e C empty full = empty
-  payload-passed kind questions (Payload x) (Payload p) e C empty full = full (bytesAt p s) (checked-passed kind questions (drop (x .end) s) _ (sym e) .1)
-  payload-passed kind questions (NoRecord q) (Payload p) e C empty full = absurd (never (sym e))
+  payload-passed kind questions (Payload x) (Payload p) (e, l) C empty full = full (bytesAt p s) (checked-passed kind questions (drop (x .end) s) _ (sym e) .1)
+  payload-passed kind questions (NoRecord q) (Payload p) (e, l) C empty full = absurd (never (sym e))
 
   -- where a record was read, so was the one before it
-  pub was-read : (kind : ℕ) (questions : List ℕ → Answer Bool) (read r : RecordRead) → recordOfRead s r ≡ recordBehind s read kind questions → r ≡ Payload (placeOf r) → read ≡ Payload (placeOf read)
-  was-read kind questions (Payload x) r e h = refl
-  was-read kind questions (NoRecord q) r e h = absurd (never (sym e ∙ ap (recordOfRead s) h))
+  pub took-read : {A : Type 0} {f : Format A} {v : A} (read r : RecordRead) → Took f (restOf s read) v (restOf s r) → WasRead r → WasRead read
+  took-read (Payload x) r h w = refl
+  took-read {v = v} (NoRecord q) r h w = absurd (never (sym (h .took) ∙ ap (λ (r : RecordRead). restOf s r >>= λ t. gives (front v t)) w))
 
-  -- of an optional record and of one of two kinds alike
-  pub branch-was-read : {A : Type 0} (f : Format A) (v : A) (read : RecordRead) (b : Branch) → Took f (restOf s read) v (restOf s (b .read)) → b .read ≡ Payload (placeOf (b .read)) → read ≡ Payload (placeOf read)
-  branch-was-read f v (Payload x) b e h = refl
-  branch-was-read f v (NoRecord q) b e h = absurd (never (sym e ∙ ap (λ (r : RecordRead). restOf s r >>= λ t. gives (front v t)) h))
+  -- and it lies where that one ends
+  pub next-placed : (kind : ℕ) (questions : List ℕ → Answer Bool) (read r : RecordRead) → Next s read kind questions r → WasRead r
+      → WasRead read × (placeOf r ≡ payloadFrom s (placeOf read .end)) × (placeOf r .end ≤ length s)
+  next-placed kind questions read (Payload p) h w = (took-read read (Payload p) (next-took kind (plain questions) read (Payload p) h) w, h .1 .0, h .1 .1)
+  next-placed kind questions read (NoRecord q) h w = absurd (never (ap (recordOfRead s) w))
 
-  pub read-at : (at : ℕ) (r : RecordRead) → RecordAt s at r → r ≡ Payload (placeOf r) → PayloadAt s at (placeOf r)
-  read-at at (Payload p) h e = h
-  read-at at (NoRecord q) h e = absurd (never (ap (recordOfRead s) e))
+  -- an optional record lies there, or an empty place does
+  pub optional-placed : (kind : ℕ) (questions : List ℕ → Answer Bool) (read : RecordRead) (b : Branch) → NextOptional s read kind questions b → WasRead (b .read)
+      → WasRead read × OptionalAt s kind (placeOf read .end) (b .taken) (Payload (placeOf (b .read)))
+  optional-placed kind questions read b h w =
+      (took-read read (b .read) (optional-took kind questions read b h) w, subst (OptionalAt s kind (placeOf read .end) (b .taken)) w (h .1))
 
   -- ---- an optional record and one of two kinds, from what the code tests
+  pub there-placed : (kind at : ℕ) (r : RecordRead) → carries kind (drop at s) ≡ true → RecordAt s at r → OptionalAt s kind at true r
+  there-placed kind at (Payload p) c (e, l) = (sym c, rw c e, λ h. l)
+  there-placed kind at (NoRecord q) c h = tt
+
+  pub absent-placed : (kind at : ℕ) → carries kind (drop at s) ≡ false → OptionalAt s kind at false (startAt at)
+  absent-placed kind at c = (sym c, rw c refl, λ h. h)
+
   module _ (read : RecordRead) (kind : ℕ) (questions : List ℕ → Answer Bool) where
     pub optional-there : (p : Place) (r : RecordRead) → read ≡ Payload p → carries kind (drop (p .end) s) ≡ true → recordOfRead s r ≡ checked kind questions (drop (p .end) s)
         → optionalOfRead s (record { taken = true; read = r }) ≡ optionalBehind s read kind questions

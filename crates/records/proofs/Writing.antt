@@ -20,6 +20,7 @@ use Rattle.flows.specs.Search.{Progress}
 use Rattle.answers.specs.Answer.{gives}
 use Rattle.records.specs.Records.{headBytes, part, checked, written, kindLayers, kindSets, kindNoFlow}
 use Rattle.nodes.specs.Lists.{has, listOf, all}
+use Rattle.records.specs.Format.{decodeThen}
 use Rattle.records.specs.JobFile.{mostNodes, rises}
 use Rattle.records.specs.FlowFile.{SetEntry, allEntries, entryBelow, entriesRise, entryBytes, FlowFile, readFlow, setIn, entryIn, flowOf}
 use Rattle.records.specs.Encoding.{Bytes, flowFileBytes, flowWith, ValidFlow, entriesFor, foundFlow}
@@ -211,5 +212,5 @@ module _ (j : Job) (s : Progress) where
 
 -- ---- 0013
 pub no-flow-unread : (n : ℕ) (g : FlowFile) → readFlow n (written kindNoFlow []) ≢ gives g
-unfolding readFlow checked part written
+unfolding readFlow decodeThen checked part written
 no-flow-unread n g e = never e

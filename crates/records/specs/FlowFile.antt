@@ -7,8 +7,8 @@ use lib.Dec.{eqb, ltb, leb}
 use lib.ListN.{length, getD, take, drop}
 use Rattle.nodes.specs.Options.{isSome}
 use Rattle.answers.specs.Answer.{Answer, gives, asks, _>>=_, _>>_}
-use Rattle.records.specs.Format.{Front, Format, PayloadFormat, plain, recordOf, then}
-use Rattle.records.specs.Records.{kindLayers, kindSets}
+use Rattle.records.specs.Format.{Front, Format, PayloadFormat, plain, recordOf, _then_}
+use Rattle.records.specs.Records.{kindLayers, kindSets, eachAsks}
 use Rattle.nodes.specs.Lists.{has}
 use Rattle.records.specs.JobFile.{nodesBelow, rises, modeCausal}
 
@@ -52,10 +52,6 @@ entriesRise low [] = true
 entriesRise low (e ∷ es) = leb low (e .node) && rises 0 (e .set) && entriesRise (e .node + 1) es
 
 -- ---- the questions of each record
--- so many bytes for each of n nodes, and nothing more is asked
-unfoldable pub eachAsks : (width n : ℕ) → List ℕ → Answer Bool
-eachAsks width n p = asks 3 (eqb (length p) (width * n))
-
 unfoldable pub setsAsks : ℕ → List ℕ → Answer Bool
 setsAsks n p = do
   asks 3 (isSome (entriesOf p))
@@ -85,7 +81,9 @@ abbrev pub FlowValue : Type 0
 FlowValue = List ℕ × List SetEntry
 
 abbrev pub flow : ℕ → Format FlowValue
-flow n = then (recordOf kindLayers (plain (eachAsks 1 n))) (λ l. recordOf kindSets (sets n))
+flow n =
+    recordOf kindLayers (plain (eachAsks 1 n)) then λ layers.
+    recordOf kindSets (sets n)
 
 abbrev pub flowFile : Front FlowValue → FlowFile
 flowFile p = record { layers = p .value .0; sets = p .value .1; after = p .rest }

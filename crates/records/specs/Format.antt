@@ -44,12 +44,16 @@ recordOf kind p = record {
 }
 
 -- ---- one after the other; what was read first decides how to go on
-abbrev pub then : {A B : Type 0} → Format A → (A → Format B) → Format (A × B)
-then f g = record {
+unfoldable pub decodeThen : {A B : Type 0} → (List ℕ → Answer (Front A)) → (A → List ℕ → Answer (Front B)) → List ℕ → Answer (Front (A × B))
+decodeThen f g s = f s >>= λ p. g (p .value) (p .rest) >>= λ q. gives (front (p .value, q .value) (q .rest))
+
+infixr 10 _then_
+abbrev pub _then_ : {A B : Type 0} → Format A → (A → Format B) → Format (A × B)
+f then g = record {
   valid = λ x. f .valid (x .0) && g (x .0) .valid (x .1);
   encode = λ x. f .encode (x .0) ++ g (x .0) .encode (x .1);
   mayFollow = λ x t. f .mayFollow (x .0) (g (x .0) .encode (x .1) ++ t) && g (x .0) .mayFollow (x .1) t;
-  decode = λ s. f .decode s >>= λ p. g (p .value) .decode (p .rest) >>= λ q. gives (front (p .value, q .value) (q .rest));
+  decode = decodeThen (f .decode) (λ a. g a .decode);
 }
 
 -- ---- an optional format is there where the next six bytes carry its first kind

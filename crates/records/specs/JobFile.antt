@@ -8,7 +8,7 @@ use Rattle.nodes.specs.NodeSet.{capacity}
 use Rattle.nodes.specs.Lists.{has, all}
 use Rattle.flows.specs.Job.{Job, planeXY, planeXZ, pauliZ}
 use Rattle.answers.specs.Answer.{Answer, gives, asks, _>>=_, _>>_}
-use Rattle.records.specs.Format.{Front, Format, PayloadFormat, plain, recordOf, then}
+use Rattle.records.specs.Format.{Front, Format, PayloadFormat, plain, recordOf, _then_}
 use Rattle.records.specs.Records.{kindOpening, kindEdges, kindInputs, kindOutputs, kindMeasurements}
 
 -- the most nodes a job may have: as many as a set can have
@@ -106,24 +106,16 @@ opening = record {
   value = λ p. record { n = getD p 0 0; mode = getD p 1 0 };
 }
 
--- each record and what stands behind it, the last one first
-abbrev pub lastRecord : Opening → (outputs : List ℕ) → Format (List ℕ)
-lastRecord o outputs = recordOf kindMeasurements (plain (measurementsAsks (o .n) (o .mode) (has outputs)))
-
-abbrev pub fromOutputs : Opening → Format (List ℕ × List ℕ)
-fromOutputs o = then (recordOf kindOutputs (plain (nodesAsks (o .n)))) (lastRecord o)
-
-abbrev pub fromInputs : Opening → Format (List ℕ × (List ℕ × List ℕ))
-fromInputs o = then (recordOf kindInputs (plain (nodesAsks (o .n)))) (λ inputs. fromOutputs o)
-
-abbrev pub fromEdges : Opening → Format (List ℕ × (List ℕ × (List ℕ × List ℕ)))
-fromEdges o = then (recordOf kindEdges (plain (edgesAsks (o .n)))) (λ edges. fromInputs o)
-
 abbrev pub JobValue : Type 0
 JobValue = Opening × (List ℕ × (List ℕ × (List ℕ × List ℕ)))
 
 abbrev pub job : Format JobValue
-job = then (recordOf kindOpening opening) fromEdges
+job =
+    recordOf kindOpening opening then λ o.
+    recordOf kindEdges (plain (edgesAsks (o .n))) then λ edges.
+    recordOf kindInputs (plain (nodesAsks (o .n))) then λ inputs.
+    recordOf kindOutputs (plain (nodesAsks (o .n))) then λ outputs.
+    recordOf kindMeasurements (plain (measurementsAsks (o .n) (o .mode) (has outputs)))
 
 abbrev pub jobFile : Front JobValue → JobFile
 jobFile p = record {

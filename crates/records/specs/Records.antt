@@ -75,6 +75,10 @@ checked kind questions s = do
   questions (p .payload)
   gives p
 
+-- so many bytes for each of n nodes, and nothing more is asked
+unfoldable pub eachAsks : (width n : ℕ) → List ℕ → Answer Bool
+eachAsks width n p = asks 3 (eqb (length p) (width * n))
+
 -- the six bytes before a payload of that length
 abbrev pub headOf : (len kind : ℕ) → List ℕ
 headOf len kind = len % 256 ∷ len / 256 % 256 ∷ len / 256 / 256 % 256 ∷ len / 256 / 256 / 256 % 256 ∷ kind % 256 ∷ kind / 256 ∷ []

@@ -4,14 +4,14 @@ use mathlib.Core.Path.{_≡_}
 use mathlib.Core.Bool.{Bool, true, false, cond}
 use mathlib.Core.Option.{Option, none, some}
 use mathlib.Core.List.{List, _++_}
-use lib.ListN.{length, take, drop}
+use lib.ListN.{length, getD, take, drop}
 use Rattle.nodes.specs.Lists.{has}
 use Rattle.answers.specs.Answer.{Answer, gives, refuses, _>>=_}
 use Rattle.answers.specs.Refusals.{refusalOf}
-use Rattle.records.specs.Records.{carries, Part, allYes, checked, headBytes}
+use Rattle.records.specs.Records.{carries, lengthField, Part, allYes, checked, headBytes, eachAsks}
 use Rattle.records.specs.Format.{Front, front, plain, recordOf, optional}
 use Rattle.records.specs.JobFile.{JobFile, mostNodes, openingAsks, edgesAsks, nodesAsks, measurementsAsks}
-use Rattle.records.specs.FlowFile.{FlowFile, entriesOf, listed, eachAsks, setsAsks}
+use Rattle.records.specs.FlowFile.{FlowFile, entriesOf, listed, setsAsks}
 use Rattle.records.specs.declared.common.Place.{Place}
 use Rattle.records.specs.declared.common.JobPlaces.{JobPlaces}
 use Rattle.records.specs.declared.common.JobRead.{JobRead}
@@ -38,9 +38,9 @@ bytesAt p s = between (p .start) (p .end) s
 abbrev pub InFile : List ℕ → Place → Type 0
 InFile s p = (p .start ≤ p .end) × (p .end ≤ length s)
 
--- the payload of the record that starts at `at`: behind the record's head, also where it is empty
-abbrev pub PayloadAt : List ℕ → (at : ℕ) → Place → Type 0
-PayloadAt s at p = (p .start ≡ at + headBytes) × InFile s p
+-- the payload of the record that starts at `at`: behind the record's head, as many bytes as that says
+abbrev pub payloadFrom : List ℕ → (at : ℕ) → Place
+payloadFrom s at = record { start = at + headBytes; end = at + headBytes + lengthField (drop at s) }
 
 -- bytes between two parts of a file that are kept
 abbrev pub keptAround : List ℕ → Place → List ℕ → Place → List ℕ
@@ -76,8 +76,9 @@ abbrev pub recordOfRead : List ℕ → RecordRead → Answer Part
 recordOfRead s (Payload p) = gives (partAt s p)
 recordOfRead s (NoRecord q) = refuses (refusalOf q)
 
+-- the record that starts at `at`, which lies in the file
 abbrev pub RecordAt : List ℕ → (at : ℕ) → RecordRead → Type 0
-RecordAt s at (Payload p) = PayloadAt s at p
+RecordAt s at (Payload p) = (p ≡ payloadFrom s at) × (p .end ≤ length s)
 RecordAt s at (NoRecord q) = Unit
 
 -- where reading starts: no payload yet
@@ -101,6 +102,10 @@ placeOf (NoRecord q) = record { start = 0; end = 0 }
 abbrev pub payloadOf : List ℕ → RecordRead → List ℕ
 payloadOf s r = bytesAt (placeOf r) s
 
+-- what reading the next record promises
+abbrev pub Next : List ℕ → RecordRead → ℕ → (List ℕ → Answer Bool) → RecordRead → Type 0
+Next s read kind questions r = (recordOfRead s r ≡ recordBehind s read kind questions) × RecordAt s (placeOf read .end) r
+
 -- ---- a record that may be there
 abbrev pub someIf : Bool → List ℕ → Option (List ℕ)
 someIf true p = some p
@@ -113,12 +118,15 @@ abbrev pub optionalBehind : List ℕ → RecordRead → ℕ → (List ℕ → An
 optionalBehind s read kind questions = restOf s read >>= optional kind (recordOf kind (plain questions)) .decode
 
 -- its place: that of a record, or an empty one where it would start
-abbrev pub EmptyAt : (at : ℕ) → RecordRead → Type 0
-EmptyAt at (Payload p) = p ≡ record { start = at; end = at }
-EmptyAt at (NoRecord q) = Unit
+abbrev pub optionalFrom : List ℕ → (kind at : ℕ) → Place
+optionalFrom s kind at = cond (carries kind (drop at s)) (payloadFrom s at) (record { start = at; end = at })
 
-abbrev pub OptionalAt : List ℕ → (at : ℕ) → Branch → Type 0
-OptionalAt s at b = cond (b .taken) (RecordAt s at (b .read)) (EmptyAt at (b .read))
+abbrev pub OptionalAt : List ℕ → (kind at : ℕ) → Bool → RecordRead → Type 0
+OptionalAt s kind at taken (Payload p) = (taken ≡ carries kind (drop at s)) × (p ≡ optionalFrom s kind at) × (at ≤ length s → p .end ≤ length s)
+OptionalAt s kind at taken (NoRecord q) = Unit
+
+abbrev pub NextOptional : List ℕ → RecordRead → ℕ → (List ℕ → Answer Bool) → Branch → Type 0
+NextOptional s read kind questions b = (optionalOfRead s b ≡ optionalBehind s read kind questions) × OptionalAt s kind (placeOf read .end) (b .taken) (b .read)
 
 -- ---- a record of one of two kinds: whether it is the second, and its payload
 abbrev pub choiceOfRead : List ℕ → Branch → Answer (Front (Bool × List ℕ))
@@ -140,55 +148,72 @@ jobAt s p = record {
   inputs = bytesAt (p .inputs) s;
   outputs = bytesAt (p .outputs) s;
   measurements = bytesAt (p .measurements) s;
-  after = drop (p .measurements .end) s;
+  after = drop (p .end) s;
 }
 
 abbrev pub jobOfRead : List ℕ → JobRead → Answer JobFile
 jobOfRead s (Job p) = gives (jobAt s p)
 jobOfRead s (NoJob q) = refuses (refusalOf q)
 
--- from the records that were read
-abbrev pub jobFrom : (n mode : ℕ) (edges inputs outputs last : RecordRead) → JobRead
-jobFrom n mode edges inputs outputs (Payload p) =
-    Job (record { n = n; mode = mode; edges = placeOf edges; inputs = placeOf inputs; outputs = placeOf outputs; measurements = p })
-jobFrom n mode edges inputs outputs (NoRecord q) = NoJob q
-
--- the bytes of the first record: its head, the number of nodes and the mode
-abbrev pub openingBytes : ℕ
-openingBytes = headBytes + 2
-
 -- each record starts where the one before it ends
-pub record JobInFile (s : List ℕ) (p : JobPlaces) : Type 0 where
-  pub edges : PayloadAt s openingBytes (p .edges)
-  pub inputs : PayloadAt s (p .edges .end) (p .inputs)
-  pub outputs : PayloadAt s (p .inputs .end) (p .outputs)
-  pub measurements : PayloadAt s (p .outputs .end) (p .measurements)
+abbrev pub jobPlaces : List ℕ → JobPlaces
+jobPlaces s =
+    let opening = payloadFrom s 0 in
+    let edges = payloadFrom s (opening .end) in
+    let inputs = payloadFrom s (edges .end) in
+    let outputs = payloadFrom s (inputs .end) in
+    let measurements = payloadFrom s (outputs .end) in
+    record {
+      n = getD (bytesAt opening s) 0 0;
+      mode = getD (bytesAt opening s) 1 0;
+      edges = edges;
+      inputs = inputs;
+      outputs = outputs;
+      measurements = measurements;
+      end = measurements .end;
+    }
 
-abbrev pub JobReadInFile : List ℕ → JobRead → Type 0
-JobReadInFile s (Job p) = JobInFile s p
-JobReadInFile s (NoJob q) = Unit
+-- a job that was read lies at these places, in the file
+abbrev pub JobPlaced : List ℕ → JobRead → Type 0
+JobPlaced s (Job p) = (p ≡ jobPlaces s) × (p .end ≤ length s)
+JobPlaced s (NoJob q) = Unit
+
+-- from the records that were read; the last one tells whether all of them were
+abbrev pub jobFrom : (n mode : ℕ) (edges inputs outputs measurements last : RecordRead) → JobRead
+jobFrom n mode edges inputs outputs measurements (Payload p) = Job (record {
+  n = n;
+  mode = mode;
+  edges = placeOf edges;
+  inputs = placeOf inputs;
+  outputs = placeOf outputs;
+  measurements = placeOf measurements;
+  end = p .end;
+})
+jobFrom n mode edges inputs outputs measurements (NoRecord q) = NoJob q
 
 -- ---- a flow
 abbrev pub flowAt : List ℕ → FlowPlaces → FlowFile
 flowAt s p = record {
   layers = bytesAt (p .layers) s;
   sets = listed (entriesOf (bytesAt (p .sets) s));
-  after = drop (p .sets .end) s;
+  after = drop (p .end) s;
 }
 
 abbrev pub flowOfRead : List ℕ → FlowRead → Answer FlowFile
 flowOfRead s (Flow p) = gives (flowAt s p)
 flowOfRead s (NoFlow q) = refuses (refusalOf q)
 
-abbrev pub flowFrom : (layers last : RecordRead) → FlowRead
-flowFrom layers (Payload p) = Flow (record { layers = placeOf layers; sets = p })
-flowFrom layers (NoRecord q) = NoFlow q
-
 -- its first record starts at `at`
-pub record FlowInFile (s : List ℕ) (at : ℕ) (p : FlowPlaces) : Type 0 where
-  pub layers : PayloadAt s at (p .layers)
-  pub sets : PayloadAt s (p .layers .end) (p .sets)
+abbrev pub flowPlaces : List ℕ → (at : ℕ) → FlowPlaces
+flowPlaces s at =
+    let layers = payloadFrom s at in
+    let sets = payloadFrom s (layers .end) in
+    record { layers = layers; sets = sets; end = sets .end }
 
-abbrev pub FlowReadInFile : List ℕ → (at : ℕ) → FlowRead → Type 0
-FlowReadInFile s at (Flow p) = FlowInFile s at p
-FlowReadInFile s at (NoFlow q) = Unit
+abbrev pub FlowPlaced : List ℕ → (at : ℕ) → FlowRead → Type 0
+FlowPlaced s at (Flow p) = (p ≡ flowPlaces s at) × (p .end ≤ length s)
+FlowPlaced s at (NoFlow q) = Unit
+
+abbrev pub flowFrom : (layers sets last : RecordRead) → FlowRead
+flowFrom layers sets (Payload p) = Flow (record { layers = placeOf layers; sets = placeOf sets; end = p .end })
+flowFrom layers sets (NoRecord q) = NoFlow q

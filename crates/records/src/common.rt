@@ -47,7 +47,7 @@ pub struct Place {
     pub end: usize,
 }
 
-// Where the payloads of a job lie; the bytes behind it start where the measurements end.
+// Where the payloads of a job lie, and where it ends.
 pub struct JobPlaces {
     pub n: usize,
     pub mode: u8,
@@ -55,6 +55,7 @@ pub struct JobPlaces {
     pub inputs: Place,
     pub outputs: Place,
     pub measurements: Place,
+    pub end: usize,
 }
 
 pub enum JobRead {
@@ -62,10 +63,11 @@ pub enum JobRead {
     Refused(Refusal),
 }
 
-// Where the payloads of a flow lie; the bytes behind it start where the sets end.
+// Where the payloads of a flow lie, and where it ends.
 pub struct FlowPlaces {
     pub layers: Place,
     pub sets: Place,
+    pub end: usize,
 }
 
 pub enum FlowRead {

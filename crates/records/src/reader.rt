@@ -9,7 +9,7 @@ ghost use Rattle.nodes.specs.Lists.{has};
 ghost use Rattle.records.specs.Records.{carries, lengthField, kindField, headBytes, part, checked};
 ghost use Rattle.records.specs.JobFile.{readJob};
 ghost use Rattle.records.specs.FlowFile.{readFlow};
-ghost use Rattle.records.specs.Views.{asksOf, Granted, recordOfRead, recordBehind, startAt, placeOf, RecordAt, optionalOfRead, optionalBehind, OptionalAt, choiceOfRead, choiceBehind, jobFrom, jobOfRead, JobReadInFile, flowFrom, flowOfRead, FlowReadInFile};
+ghost use Rattle.records.specs.Views.{asksOf, Granted, recordOfRead, recordBehind, startAt, placeOf, RecordAt, optionalOfRead, optionalBehind, OptionalAt, choiceOfRead, choiceBehind, jobFrom, jobOfRead, JobPlaced, flowFrom, flowOfRead, FlowPlaced};
 use crate::common::FlowPlaces;
 use crate::common::FlowRead;
 use crate::common::HEAD_BYTES;
@@ -142,7 +142,7 @@ fn next(file: &[u8], read: RecordRead, kind: u16, questions: Questions) -> Recor
 fn optional(file: &[u8], read: RecordRead, kind: u16, questions: Questions) -> Branch
     requires { ⌜ Granted (now file) questions ⌝ }
     ensures { λ r. ⌜ optionalOfRead (now (file .entry)) r ≡ optionalBehind (now (file .entry)) read kind (asksOf (now (file .entry)) questions) ⌝ }
-    ensures { λ r. ⌜ OptionalAt (now (file .entry)) (placeOf read .end) r ⌝ }
+    ensures { λ r. ⌜ OptionalAt (now (file .entry)) kind (placeOf read .end) (r .taken) (r .read) ⌝ }
 {
     match read {
         RecordRead::Payload(place) => {
@@ -218,18 +218,20 @@ fn job_from(
     edges: RecordRead,
     inputs: RecordRead,
     outputs: RecordRead,
+    measurements: RecordRead,
     last: RecordRead,
 ) -> JobRead
-    ensures { λ r. ⌜ r ≡ jobFrom n mode edges inputs outputs last ⌝ }
+    ensures { λ r. ⌜ r ≡ jobFrom n mode edges inputs outputs measurements last ⌝ }
 {
     match last {
-        RecordRead::Payload(measurements) => JobRead::Job(JobPlaces {
+        RecordRead::Payload(place) => JobRead::Job(JobPlaces {
             n,
             mode,
             edges: place_of(edges),
             inputs: place_of(inputs),
             outputs: place_of(outputs),
-            measurements,
+            measurements: place_of(measurements),
+            end: place.end,
         }),
         RecordRead::Refused(q) => JobRead::Refused(q),
     }
@@ -237,7 +239,7 @@ fn job_from(
 
 pub fn read_job(file: &[u8]) -> JobRead
     ensures { λ r. ⌜ jobOfRead (now (file .entry)) r ≡ readJob (now (file .entry)) ⌝ }
-    ensures { λ r. ⌜ JobReadInFile (now (file .entry)) r ⌝ }
+    ensures { λ r. ⌜ JobPlaced (now (file .entry)) r ⌝ }
 {
     let opening = next(file, start(0), KIND_OPENING, Questions::Opening);
     let first = payload(file, place_of(opening));
@@ -248,18 +250,19 @@ pub fn read_job(file: &[u8]) -> JobRead
     let outputs = next(file, inputs, KIND_OUTPUTS, Questions::Nodes(n));
     let allowed = Questions::Measurements(n, mode, place_of(outputs));
     let measurements = next(file, outputs, KIND_MEASUREMENTS, allowed);
-    job_from(n, mode, edges, inputs, outputs, measurements)
+    job_from(n, mode, edges, inputs, outputs, measurements, measurements)
 }
 
 // ---- A flow: the records of layers and of sets.
 
-fn flow_from(layers: RecordRead, last: RecordRead) -> FlowRead
-    ensures { λ r. ⌜ r ≡ flowFrom layers last ⌝ }
+fn flow_from(layers: RecordRead, sets: RecordRead, last: RecordRead) -> FlowRead
+    ensures { λ r. ⌜ r ≡ flowFrom layers sets last ⌝ }
 {
     match last {
-        RecordRead::Payload(sets) => FlowRead::Flow(FlowPlaces {
+        RecordRead::Payload(place) => FlowRead::Flow(FlowPlaces {
             layers: place_of(layers),
-            sets,
+            sets: place_of(sets),
+            end: place.end,
         }),
         RecordRead::Refused(q) => FlowRead::Refused(q),
     }
@@ -268,11 +271,11 @@ fn flow_from(layers: RecordRead, last: RecordRead) -> FlowRead
 // The flow for n nodes that starts at this place.
 pub fn read_flow(file: &[u8], at: usize, n: usize) -> FlowRead
     ensures { λ r. ⌜ flowOfRead (now (file .entry)) r ≡ readFlow n (drop at (now (file .entry))) ⌝ }
-    ensures { λ r. ⌜ FlowReadInFile (now (file .entry)) at r ⌝ }
+    ensures { λ r. ⌜ FlowPlaced (now (file .entry)) at r ⌝ }
 {
     let layers = next(file, start(at), KIND_LAYERS, Questions::Each(1, n));
     let sets = next(file, layers, KIND_SETS, Questions::Sets(n));
-    flow_from(layers, sets)
+    flow_from(layers, sets, sets)
 }
 
 // ---- What a payload holds.

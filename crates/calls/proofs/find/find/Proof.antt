@@ -1,8 +1,9 @@
 use Prim.Native.Nat.{_-_}
-use mathlib.Core.Path.{sym, ap, _∙_, subst}
+use mathlib.Core.Path.{sym, ap, _∙_}
 use borrow.Author.Needs.{needs}
-use Rattle.records.specs.Views.{jobOfRead, JobReadInFile}
+use Rattle.records.specs.Views.{jobOfRead}
 use Rattle.answers.specs.Refusals.{refusalOf}
+use Rattle.calls.proofs.LoadingFiles.{job-inside}
 use Rattle.calls.proofs.Finding.{find-unread}
 use Rattle.calls.proofs.find.find.Statement.{statement}
 use Rattle.calls.proofs.find.find.Tie as tie
@@ -17,7 +18,7 @@ find-read-requires : tie.Need-find-read-requires
 find-read-requires c κs = let s = c .before .before .before .before .before .before .before .before .before .args .file .now in
     let r = c .before .before .before .before .before .read-job in
     let e = c .before .before .before .job .given .1 in
-    (sym (r .ensures .0) ∙ ap (jobOfRead s) e, subst (JobReadInFile s) e (r .ensures .1))
+    (sym (r .ensures .0) ∙ ap (jobOfRead s) e, job-inside s (r .result) (r .ensures .1) _ e)
 
 enum-known-q : tie.Need-enum-known-q
 enum-known-q c = search needs

@@ -21,7 +21,7 @@ slice-aggregate-load-job-2 c = search needs
 
 load-job-requires : tie.Need-load-job-requires
 load-job-requires c κs = let s = c .before .before .before .before .before in
-    ((job-asked (s .args .file .now) (jobAt (s .args .file .now) (s .args .job)) (s .pre .0 .0), s .pre .0 .1), (length-replicate {A = ℕ} tableWords 0, refl))
+    (job-asked (s .args .file .now) (jobAt (s .args .file .now) (s .args .job)) (s .pre .0), length-replicate {A = ℕ} tableWords 0, refl)
 
 slice-aggregate-find-loaded : tie.Need-slice-aggregate-find-loaded
 slice-aggregate-find-loaded c = search needs
@@ -32,7 +32,7 @@ slice-aggregate-find-loaded-2 c = search needs
 find-loaded-requires : tie.Need-find-loaded-requires
 find-loaded-requires c κs = let s = c .before .before .before .before .before .before .before .before .before .before .before .before in
     let f = jobAt (s .args .file .now) (s .args .job) in
-    let valid = job-asked (s .args .file .now) f (s .pre .0 .0) in
+    let valid = job-asked (s .args .file .now) f (s .pre .0) in
     let r = c .before .before .before .before .before .before .load-job in
     let nodes = ap (λ (j : Job). j .nodes) (r .ensures .0) in
     let words : length (r .last .1 .1 .0) ≡ tableWords = search (needs, c .before .before .before .before .before .graph2 .given) in

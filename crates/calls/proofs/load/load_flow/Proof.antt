@@ -17,7 +17,7 @@ payload-requires c κs = search needs
 
 load-layers-requires : tie.Need-load-layers-requires
 load-layers-requires c κs = let s = c .before .before .before .before .before .before in
-    let zero = s .pre .1 .2 in
+    let zero = s .pre .1 .0 in
     let size : length (s .args .layers .now) ≡ capacity = ap length zero ∙ length-replicate {A = ℕ} capacity 0 in
     (omega (arith, ap length (c .before .payload .ensures), s .pre .0 .0, size), zero ∙ ap zeros (sym size))
 
@@ -26,7 +26,7 @@ payload-requires-2 c κs = search needs
 
 load-sets-requires : tie.Need-load-sets-requires
 load-sets-requires c κs = let s = c .before .before .before .before .before .before .before .before .before .before .before .before in
-    (s .pre .1 .3, ap (λ (l : List ℕ). allEntries (entryBelow capacity) (listed (entriesOf l))) (c .before .payload2 .ensures) ∙ s .pre .0 .1)
+    (s .pre .1 .1, ap (λ (l : List ℕ). allEntries (entryBelow capacity) (listed (entriesOf l))) (c .before .payload2 .ensures) ∙ s .pre .0 .1)
 
 same-length : tie.Need-same-length
 same-length c = search needs

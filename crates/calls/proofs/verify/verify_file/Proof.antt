@@ -1,10 +1,10 @@
 use mathlib.Core.Path.{_≡_, _∙_}
 use mathlib.Core.List.{List}
 use Prim.Native.Nat.{ℕ}
-use Rattle.records.specs.Views.{jobAt, JobInFile, flowAt}
+use Rattle.records.specs.Views.{jobAt, flowAt}
 use Rattle.records.proofs.Encoding.{job-asked}
 use Rattle.records.proofs.Encoding.{flow-asked}
-use Rattle.calls.proofs.LoadingFiles.{job-read, job-not, job-inside, flow-read, flow-not, flow-inside, asks-no-job, asks-no-flow, asks-flow}
+use Rattle.calls.proofs.LoadingFiles.{job-read, job-not, flow-read, flow-not, flow-inside, asks-no-job, asks-no-flow, asks-flow}
 use Rattle.answers.specs.Answer.{gives}
 use Rattle.records.specs.JobFile.{readJob}
 use Rattle.records.specs.FlowFile.{readFlow}
@@ -18,12 +18,9 @@ S c = c .before .before .before .before .before .args .file .now
 read : (c : tie.After-known-told2) → readJob (S c) ≡ gives (jobAt (S c) (c .before .job .given .0 .0))
 read c = let r = c .before .before .before .read-job in job-read (S c) (r .result) (r .ensures .0) _ (c .before .job .given .1)
 
-inside : (c : tie.After-known-told2) → JobInFile (S c) (c .before .job .given .0 .0)
-inside c = let r = c .before .before .before .read-job in job-inside (S c) (r .result) (r .ensures .1) _ (c .before .job .given .1)
-
-flow-given : (c : tie.After-known-told4) → let k = c .before .before .before .before .before in let f = jobAt (S k) (k .before .job .given .0 .0) in readFlow (f .n) (f .after) ≡ gives (flowAt (S k) (c .before .flow .given .0 .0))
+flow-given : (c : tie.After-known-told4) → let k = c .before .before .before .before in let f = jobAt (S k) (k .before .job .given .0 .0) in readFlow (f .n) (f .after) ≡ gives (flowAt (S k) (c .before .flow .given .0 .0))
 flow-given c =
-    let k = c .before .before .before .before .before in
+    let k = c .before .before .before .before in
     let f = jobAt (S k) (k .before .job .given .0 .0) in
     let r = c .before .before .before .read-flow in
     flow-read (S k) (f .after) (f .n) (r .result) (r .ensures .0) _ (c .before .flow .given .1)
@@ -47,11 +44,11 @@ enum-known-flow : tie.Need-enum-known-flow
 enum-known-flow c = search needs
 
 verify-read-requires : tie.Need-verify-read-requires
-verify-read-requires c κs = let k = c .before .before .before .before .before in
+verify-read-requires c κs = let k = c .before .before .before .before in
     let f = jobAt (S k) (k .before .job .given .0 .0) in
     let r = c .before .before .before .read-flow in (
-      (inside k, flow-inside (S k) _ (r .result) (r .ensures .1) _ (c .before .flow .given .1)),
-      (job-asked (S k) f (read k), flow-asked (f .n) (f .after) _ (flow-given c)),
+      flow-inside (S k) _ (r .result) (r .ensures .1) _ (c .before .flow .given .1),
+      (job-asked (S k) f (read k), flow-asked (f .n) (f .after) _ (job-asked (S k) f (read k) .few) (flow-given c)),
     )
 
 returns : tie.Need-returns
@@ -60,14 +57,14 @@ returns c = let r = c .before .before .before .read-job in
     asks-no-job s _ (job-not s (r .result) (r .ensures .0) _ (c .before .q .given .1))
 
 returns-2 : tie.Need-returns-2
-returns-2 c = let k = c .before .before .before .before .before in
+returns-2 c = let k = c .before .before .before .before in
     let f = jobAt (S k) (k .before .job .given .0 .0) in
     let r = c .before .before .before .read-flow in
     asks-no-flow (S k) f (read k) _ (flow-not (S k) (f .after) (f .n) (r .result) (r .ensures .0) _ (c .before .q2 .given .1))
 
 returns-3 : tie.Need-returns-3
 returns-3 c = let g = c .before in
-    let k = g .before .before .before .before .before in
+    let k = g .before .before .before .before in
     c .verify-read .ensures ∙ asks-flow (S k) (jobAt (S k) (k .before .job .given .0 .0)) (read k) _ (flow-given g)
 
 pub verify-file-spec : {M : Type 1} → statement M

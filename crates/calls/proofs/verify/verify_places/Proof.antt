@@ -18,7 +18,7 @@ slice-aggregate-load-job-2 : tie.Need-slice-aggregate-load-job-2
 slice-aggregate-load-job-2 c = search needs
 
 load-job-requires : tie.Need-load-job-requires
-load-job-requires c κs = let s = c .before .before .before in ((s .pre .1 .0, s .pre .0 .0), (length-replicate {A = ℕ} tableWords 0, refl))
+load-job-requires c κs = let s = c .before .before .before in (s .pre .0, length-replicate {A = ℕ} tableWords 0, refl)
 
 slice-aggregate-load-flow : tie.Need-slice-aggregate-load-flow
 slice-aggregate-load-flow c = search needs
@@ -28,9 +28,9 @@ slice-aggregate-load-flow-2 c = search needs
 
 load-flow-requires : tie.Need-load-flow-requires
 load-flow-requires c κs = let s = c .before .before .before .before .before .before .before .before in
-    let v = s .pre .1 .1 in (
-      (omega (arith, v .count, s .pre .1 .0 .few), entries-fit (s .args .job .n) (flowAt (s .args .file .now) (s .args .flow) .sets) (s .pre .1 .0 .few) (v .below)),
-      (s .pre .0 .1 .layers .1, s .pre .0 .1 .sets .1, refl, length-replicate {A = ℕ} tableWords 0),
+    let v = s .pre .1 in (
+      (omega (arith, v .count, s .pre .0 .few), entries-fit (s .args .job .n) (flowAt (s .args .file .now) (s .args .flow) .sets) (s .pre .0 .few) (v .below)),
+      (refl, length-replicate {A = ℕ} tableWords 0),
     )
 
 slice-aggregate-verify-loaded : tie.Need-slice-aggregate-verify-loaded
@@ -46,7 +46,7 @@ slice-aggregate-verify-loaded-4 : tie.Need-slice-aggregate-verify-loaded-4
 slice-aggregate-verify-loaded-4 c = search needs
 
 verify-loaded-requires : tie.Need-verify-loaded-requires
-verify-loaded-requires c κs = let s = c .before .before .before .before .before .before .before .before .before .before .before .before .before .before .before in omega (arith, ap (λ (j : Job). j .nodes) (c .before .before .before .before .before .before .before .before .before .before .before .load-job .ensures .0), s .pre .1 .0 .few)
+verify-loaded-requires c κs = let s = c .before .before .before .before .before .before .before .before .before .before .before .before .before .before .before in omega (arith, ap (λ (j : Job). j .nodes) (c .before .before .before .before .before .before .before .before .before .before .before .load-job .ensures .0), s .pre .0 .few)
 
 returns : tie.Need-returns
 returns c = verify-joined _ _ _ _ _ _ _ (c .verify-loaded .ensures) (c .before .before .before .before .before .before .before .before .before .before .before .before .load-job .ensures .0) (c .before .before .before .before .before .before .before .load-flow .ensures) (c .before .before .before .before .before .before .before .before .before .before .before .before .load-job .ensures .1)

@@ -1,6 +1,6 @@
 use mathlib.Core.Path.{sym, _∙_}
 use borrow.Author.Tests.{not-true, not-false}
-use Rattle.records.specs.FlowFile.{eachAsks}
+use Rattle.records.specs.Records.{eachAsks}
 use borrow.Author.Needs.{needs}
 use Rattle.records.proofs.questions.ask_each.Statement.{statement}
 use Rattle.records.proofs.questions.ask_each.Tie as tie

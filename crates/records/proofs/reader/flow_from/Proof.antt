@@ -9,15 +9,18 @@ enum-known-last c = search needs
 place-of-requires : tie.Need-place-of-requires
 place-of-requires c κs = search needs
 
+place-of-requires-2 : tie.Need-place-of-requires-2
+place-of-requires-2 c κs = search needs
+
 enum-known-last-2 : tie.Need-enum-known-last-2
 enum-known-last-2 c = search needs
 
 returns : tie.Need-returns
-returns c = rw (c .before .before .last .given .1, c .place-of .ensures) refl
+returns c = rw (c .before .before .before .last .given .1, c .before .place-of .ensures, c .place-of2 .ensures) refl
 
 returns-2 : tie.Need-returns-2
 returns-2 c = rw (c .before .last2 .given .1) refl
 
 pub flow-from-spec : {M : Type 1} → statement M
 flow-from-spec =
-    tie.close (tie.spec enum-known-last place-of-requires enum-known-last-2 returns returns-2)
+    tie.close (tie.spec enum-known-last place-of-requires place-of-requires-2 enum-known-last-2 returns returns-2)

@@ -1,5 +1,5 @@
 use Prim.Native.Nat.{_+_, _≤_}
-use mathlib.Core.Path.{_≡_, sym, _∙_}
+use mathlib.Core.Path.{_≡_, refl, sym, _∙_}
 use mathlib.Core.Bool.{true}
 use native.Mathlib.Omega.{arith}
 use borrow.Author.Tests.{not-true, not-false}
@@ -48,7 +48,7 @@ returns-3 c =
     let a = c .before .before .before .before .before .args in
     let f = c .before .length-field in
     let r = room (c .before .before) in
-    (part-whole (a .file .now) (a .at) (a .kind) (there (c .before .before)) (f .result) (f .ensures .0) (omega (arith, r)), omega (arith, r))
+    (part-whole (a .file .now) (a .at) (a .kind) (there (c .before .before)) (f .result) (f .ensures .0) (omega (arith, r)), (rw (f .ensures .0) refl, omega (arith, r)))
 
 pub head-spec : {M : Type 1} → statement M
 head-spec =

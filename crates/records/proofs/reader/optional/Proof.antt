@@ -1,6 +1,6 @@
 use mathlib.Core.Path.{refl, sym, _∙_}
 use Rattle.records.specs.Views.{asksOf}
-use Rattle.records.proofs.Views.{optional-there, optional-absent, optional-refused}
+use Rattle.records.proofs.Views.{optional-there, optional-absent, optional-refused, there-placed, absent-placed}
 use borrow.Author.Needs.{needs}
 use Rattle.records.proofs.reader.optional.Statement.{statement}
 use Rattle.records.proofs.reader.optional.Tie as tie
@@ -18,7 +18,7 @@ returns : tie.Need-returns
 returns c =
     let a = c .before .before .before .before .before .before .before .args in
     let r = c .read-record in
-    (optional-there (a .file .now) (a .read) (a .kind) (asksOf (a .file .now) (a .questions)) _ (r .result) (c .before .before .before .before .read .given .1) (sym (c .before .before .carried .ensures) ∙ c .before .if1 .taken) (r .ensures .0), rw (c .before .before .before .before .read .given .1) (r .ensures .1))
+    (optional-there (a .file .now) (a .read) (a .kind) (asksOf (a .file .now) (a .questions)) _ (r .result) (c .before .before .before .before .read .given .1) (sym (c .before .before .carried .ensures) ∙ c .before .if1 .taken) (r .ensures .0), rw (c .before .before .before .before .read .given .1) (there-placed (a .file .now) (a .kind) _ (r .result) (sym (c .before .before .carried .ensures) ∙ c .before .if1 .taken) (r .ensures .1)))
 
 start-requires : tie.Need-start-requires
 start-requires c κs = search needs
@@ -29,7 +29,7 @@ enum-known-read-2 c = search needs
 returns-2 : tie.Need-returns-2
 returns-2 c =
     let a = c .before .before .before .before .before .before .before .args in
-    (rw (c .start .ensures) (optional-absent (a .file .now) (a .read) (a .kind) (asksOf (a .file .now) (a .questions)) _ (c .before .before .before .before .read .given .1) (sym (c .before .before .carried .ensures) ∙ c .before .if1 .left)), rw (c .start .ensures, c .before .before .before .before .read .given .1) refl)
+    (rw (c .start .ensures) (optional-absent (a .file .now) (a .read) (a .kind) (asksOf (a .file .now) (a .questions)) _ (c .before .before .before .before .read .given .1) (sym (c .before .before .carried .ensures) ∙ c .before .if1 .left)), rw (c .start .ensures, c .before .before .before .before .read .given .1) (absent-placed (a .file .now) (a .kind) _ (sym (c .before .before .carried .ensures) ∙ c .before .if1 .left)))
 
 returns-3 : tie.Need-returns-3
 returns-3 c =

@@ -1,12 +1,13 @@
-use mathlib.Core.Path.{ap, _∙_}
-use Rattle.records.specs.Records.{kindLayers}
-use Rattle.records.specs.FlowFile.{eachAsks}
-use Rattle.records.specs.Views.{recordBehind}
-use Rattle.records.specs.declared.reader.RecordRead.{RecordRead}
-use Rattle.records.proofs.ReadingFiles.{flow-steps, flow-in-file}
+use Rattle.records.specs.Records.{kindLayers, eachAsks}
+use Rattle.records.specs.Views.{startAt, Next}
+use Rattle.records.proofs.ReadingFiles.{flow-steps, flow-placed}
 use borrow.Author.Needs.{needs}
 use Rattle.records.proofs.reader.read_flow.Statement.{statement}
 use Rattle.records.proofs.reader.read_flow.Tie as tie
+
+-- the first record is read from there
+layers-read : (c : tie.After-next) → let a = c .before .before .before .args in Next (a .file .now) (startAt (a .at)) kindLayers (eachAsks 1 (a .n)) (c .next .result)
+layers-read c = rw (c .before .start .ensures) at (c .next .ensures)
 
 start-requires : tie.Need-start-requires
 start-requires c κs = search needs
@@ -23,11 +24,10 @@ flow-from-requires c κs = search needs
 returns : tie.Need-returns
 returns c =
     let a = c .before .before .before .before .before .args in
-    let l = c .before .before .next in
+    let l = c .before .before .next .result in
     let e = c .before .next2 in
-    let z = c .before .before .before .start .ensures in
-    let hl = l .ensures .0 ∙ ap (λ (f : RecordRead). recordBehind (a .file .now) f kindLayers (eachAsks 1 (a .n))) z in
-    (rw (c .flow-from .ensures) (flow-steps (a .file .now) (a .at) (a .n) (l .result) (e .result) hl (e .ensures .0)), rw (c .flow-from .ensures) (flow-in-file (a .file .now) (a .at) (a .n) (l .result) (e .result) hl (e .ensures .0) (rw z at (l .ensures .1)) (e .ensures .1)))
+    let first = layers-read (c .before .before) in
+    (rw (c .flow-from .ensures) (flow-steps (a .file .now) (a .at) (a .n) l (e .result) first (e .ensures)), rw (c .flow-from .ensures) (flow-placed (a .file .now) (a .at) (a .n) l (e .result) first (e .ensures)))
 
 pub read-flow-spec : {M : Type 1} → statement M
 read-flow-spec =

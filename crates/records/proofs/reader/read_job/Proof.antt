@@ -1,21 +1,25 @@
-use mathlib.Core.Path.{_≡_, refl, ap, _∙_}
-use Rattle.records.specs.Records.{kindOpening}
-use Rattle.records.specs.JobFile.{Opening, opening, openingAsks}
-use Rattle.records.specs.Views.{recordBehind, payloadOf, startAt, recordOfRead}
-use Rattle.records.specs.declared.reader.RecordRead.{RecordRead}
-use Rattle.records.proofs.ReadingFiles.{opening-few, outputs-passed, job-steps, job-in-file}
+use mathlib.Core.Path.{_≡_, refl}
+use Rattle.nodes.specs.Lists.{has}
+use Rattle.records.specs.Records.{kindOpening, kindMeasurements}
+use Rattle.records.specs.JobFile.{Opening, opening, openingAsks, measurementsAsks}
+use Rattle.records.specs.Views.{startAt, payloadOf, Next}
+use Rattle.records.proofs.ReadingFiles.{opening-few, outputs-passed, job-steps, job-placed}
 use borrow.Author.Needs.{needs}
 use Rattle.records.proofs.reader.read_job.Statement.{statement}
 use Rattle.records.proofs.reader.read_job.Tie as tie
 
 -- the first record is read from the start of the file, and n and mode are its bytes
-first : (c : tie.After-next) → let s = c .before .before .before .args .file .now in
-    recordOfRead s (c .next .result) ≡ recordBehind s (startAt 0) kindOpening openingAsks
-first c = c .next .ensures .0 ∙ ap (λ (f : RecordRead). recordBehind (c .before .before .before .args .file .now) f kindOpening openingAsks) (c .before .start .ensures)
+first : (c : tie.After-next) → Next (c .before .before .before .args .file .now) (startAt 0) kindOpening openingAsks (c .next .result)
+first c = rw (c .before .start .ensures) at (c .next .ensures)
 
 opened : (c : tie.After-byte-at2) → let s = c .before .before .before .before .before .before .before .before .args .file .now in
     opening .value (payloadOf s (c .before .before .before .before .before .next .result)) ≡ record { n = c .before .number .result; mode = c .byte-at2 .result }
 opened c = rw (c .before .number .ensures .0, c .before .before .byte-at .ensures, c .byte-at2 .ensures, c .before .before .before .payload .ensures, c .before .before .before .before .place-of .ensures) refl
+
+-- the measurements are asked with the outputs that were read
+measurements-read : (c : tie.After-next5) → let s = c .before .before .before .before .before .before .before .before .before .before .before .before .before .args .file .now in
+    Next s (c .before .before .next4 .result) kindMeasurements (measurementsAsks (c .before .before .before .before .before .before .number .result) (c .before .before .before .before .before .byte-at2 .result) (has (payloadOf s (c .before .before .next4 .result)))) (c .next5 .result)
+measurements-read c = rw (c .before .place-of2 .ensures) at (c .next5 .ensures)
 
 start-requires : tie.Need-start-requires
 start-requires c κs = search needs
@@ -54,7 +58,7 @@ next-requires-5 : tie.Need-next-requires-5
 next-requires-5 c κs =
     let s = c .before .before .before .before .before .before .before .before .before .before .before .before .args .file .now in
     let n = c .before .before .before .before .before .number in
-    (rw (n .ensures .0, c .before .before .before .before .before .before .byte-at .ensures, c .before .before .before .before .before .before .before .payload .ensures, c .before .before .before .before .before .before .before .before .place-of .ensures) (opening-few s (c .before .before .before .before .before .before .before .before .before .next .result) (first (c .before .before .before .before .before .before .before .before .before))), rw (c .place-of2 .ensures) (outputs-passed s (n .result) (c .before .before .next3 .result) (c .before .next4 .result) (c .before .next4 .ensures .0)))
+    (rw (n .ensures .0, c .before .before .before .before .before .before .byte-at .ensures, c .before .before .before .before .before .before .before .payload .ensures, c .before .before .before .before .before .before .before .before .place-of .ensures) (opening-few s (c .before .before .before .before .before .before .before .before .before .next .result) (first (c .before .before .before .before .before .before .before .before .before))), rw (c .place-of2 .ensures) (outputs-passed s (n .result) (c .before .before .next3 .result) (c .before .next4 .result) (c .before .next4 .ensures)))
 
 job-from-requires : tie.Need-job-from-requires
 job-from-requires c κs = search needs
@@ -62,18 +66,14 @@ job-from-requires c κs = search needs
 returns : tie.Need-returns
 returns c =
     let s = c .before .before .before .before .before .before .before .before .before .before .before .before .before .before .args .file .now in
-    let o = c .before .before .before .before .before .before .before .before .before .before .before .next in
+    let v : Opening = record { n = c .before .before .before .before .before .before .before .number .result; mode = c .before .before .before .before .before .before .byte-at2 .result } in
+    let hv = opened (c .before .before .before .before .before .before) in
+    let o = c .before .before .before .before .before .before .before .before .before .before .before in
     let e = c .before .before .before .before .before .next2 in
     let i = c .before .before .before .before .next3 in
     let u = c .before .before .before .next4 in
-    let m = c .before .next5 in
-    let v : Opening = record { n = c .before .before .before .before .before .before .before .number .result; mode = c .before .before .before .before .before .before .byte-at2 .result } in
-    let hv = opened (c .before .before .before .before .before .before) in
-    let ho = first (c .before .before .before .before .before .before .before .before .before .before .before) in
-    let z = c .before .before .before .before .before .before .before .before .before .before .before .before .start .ensures in
-    let p = c .before .before .place-of2 .ensures in
-    let hm = rw p at (m .ensures .0) in
-    (rw (c .job-from .ensures) (job-steps s (o .result) ho v (e .result) (i .result) (u .result) (m .result) hv (e .ensures .0) (i .ensures .0) (u .ensures .0) hm), rw (c .job-from .ensures) (job-in-file s (o .result) ho v (e .result) (i .result) (u .result) (m .result) hv (e .ensures .0) (i .ensures .0) (u .ensures .0) hm (rw z at (o .ensures .1)) (e .ensures .1) (i .ensures .1) (u .ensures .1) (m .ensures .1)))
+    let m = c .before in
+    (rw (c .job-from .ensures) (job-steps s (o .next .result) (first o) v (e .result) (i .result) (u .result) (m .next5 .result) hv (e .ensures) (i .ensures) (u .ensures) (measurements-read m)), rw (c .job-from .ensures) (job-placed s (o .next .result) (first o) v (e .result) (i .result) (u .result) (m .next5 .result) hv (e .ensures) (i .ensures) (u .ensures) (measurements-read m)))
 
 pub read-job-spec : {M : Type 1} → statement M
 read-job-spec =
