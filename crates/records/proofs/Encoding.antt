@@ -77,7 +77,12 @@ module _ (n : ℕ) (small : n ≤ 256) where
     out = λ l h e. sym (entries-encode l (listed (entriesOf l)) (sets-out n l e .0));
   }
 
--- what a file is made of does not refuse
+-- ---- what is made of a value that was read
+made-gives : {A F : Type 0} (m : Answer (Front A)) (make : Front A → F) (back : F → Front A) (x : F) → ((p : Front A) → back (make p) ≡ p) → (m >>= λ p. gives (make p)) ≡ gives x → m ≡ gives (back x)
+made-gives m make back x h e =
+    let (p, d, q) = bind-out m (λ p. gives (make p)) x e in
+    d ∙ ap gives (sym (h p) ∙ ap back (give-inj q))
+
 made-refuses : {A B : Type 0} (m : Answer A) (f : A → B) (r : Refusal) → (m >>= λ p. gives (f p)) ≡ refuses r → m ≡ refuses r
 made-refuses (gives p) f r e = absurd (never (sym e))
 made-refuses (refuses q) f r e = let h : q ≡ r = cc in ap refuses h
@@ -102,9 +107,7 @@ job-appends =
 
 job-decoded : (s : List ℕ) (f : JobFile) → readJob s ≡ gives f → job .decode s ≡ gives (front (jobValue f) (f .after))
 unfolding readJob
-job-decoded s f e =
-    let (p, d, q) = bind-out (job .decode s) (λ p. gives (jobFile p)) f e in
-    d ∙ ap (λ (f : JobFile). gives (front (jobValue f) (f .after))) (give-inj q)
+job-decoded s f e = made-gives (job .decode s) jobFile (λ f. front (jobValue f) (f .after)) f (λ p. refl) e
 
 job-reads : (s : List ℕ) (f : JobFile) → job .decode s ≡ gives (front (jobValue f) (f .after)) → readJob s ≡ gives f
 unfolding readJob
@@ -166,9 +169,7 @@ flow-lawful n h =
 
 flow-decoded : (n : ℕ) (s : List ℕ) (g : FlowFile) → readFlow n s ≡ gives g → flow n .decode s ≡ gives (front (flowValue g) (g .after))
 unfolding readFlow
-flow-decoded n s g e =
-    let (p, d, q) = bind-out (flow n .decode s) (λ p. gives (flowFile p)) g e in
-    d ∙ ap (λ (g : FlowFile). gives (front (flowValue g) (g .after))) (give-inj q)
+flow-decoded n s g e = made-gives (flow n .decode s) flowFile (λ g. front (flowValue g) (g .after)) g (λ p. refl) e
 
 flow-reads : (n : ℕ) (s : List ℕ) (g : FlowFile) → flow n .decode s ≡ gives (front (flowValue g) (g .after)) → readFlow n s ≡ gives g
 unfolding readFlow

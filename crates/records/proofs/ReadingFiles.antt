@@ -12,6 +12,8 @@ use Rattle.records.specs.JobFile.{mostNodes, rises, openingAsks, edgesAs
 use Rattle.records.specs.FlowFile.{setsAsks, sets, FlowValue, flow, flowFile, readFlow}
 use Rattle.records.specs.Views.{startAt, restOf, placeOf, payloadOf, Next, jobFrom, jobOfRead, JobPlaced, flowFrom, flowOfRead, FlowPlaced}
 use Rattle.records.specs.declared.common.Place.{Place}
+use Rattle.records.specs.declared.common.JobRead.{JobRead}
+use Rattle.records.specs.declared.common.FlowRead.{FlowRead}
 use Rattle.records.specs.declared.reader.RecordRead.{RecordRead}
 use Rattle.records.specs.declared.reader.RecordRead.the-variants.{Payload, Refused as NoRecord}
 use Rattle.records.proofs.JobFile.{allowed-out, opening-out, nodes-in}
@@ -39,7 +41,13 @@ module _ (s : List ℕ) where
         (hu : Next s i kindOutputs (nodesAsks (v .n)) u)
         (hm : Next s u kindMeasurements (measurementsAsks (v .n) (v .mode) (has (payloadOf s u))) m)
       where
-        job-took : Took job (gives s) (v, (payloadOf s e, (payloadOf s i, (payloadOf s u, payloadOf s m)))) (restOf s m)
+        abbrev job-value : JobValue
+        job-value = (v, (payloadOf s e, (payloadOf s i, (payloadOf s u, payloadOf s m))))
+
+        abbrev job-made : RecordRead → JobRead
+        job-made = jobFrom (v .n) (v .mode) e i u m
+
+        job-took : Took job (gives s) job-value (restOf s m)
         job-took =
             then-took _ _ (subst (λ (w : Opening). Took (recordOf kindOpening opening) (gives s) w (restOf s o)) hv (next-took s kindOpening opening (startAt 0) o ho)) (
             then-took _ _ (next-took s kindEdges (plain (edgesAsks (v .n))) o e he) (
@@ -47,18 +55,18 @@ module _ (s : List ℕ) where
             then-took _ _ (next-took s kindOutputs (plain (nodesAsks (v .n))) i u hu) (
             next-took s kindMeasurements (plain (measurementsAsks (v .n) (v .mode) (has (payloadOf s u)))) u m hm))))
 
-        pub job-steps : jobOfRead s (jobFrom (v .n) (v .mode) e i u m m) ≡ readJob s
+        pub job-steps : jobOfRead s (job-made m) ≡ readJob s
         unfolding readJob
         job-steps = by m ∙ ap (λ (a : Answer (Front JobValue)). a >>= λ p. gives (jobFile p)) (job-took .took)
           where
-            by : (r : RecordRead) → jobOfRead s (jobFrom (v .n) (v .mode) e i u m r) ≡ (restOf s r >>= (λ t. gives (front {A = JobValue} (v, (payloadOf s e, (payloadOf s i, (payloadOf s u, payloadOf s m)))) t)) >>= λ p. gives (jobFile p))
+            by : (r : RecordRead) → jobOfRead s (job-made r) ≡ (restOf s r >>= (λ t. gives (front job-value t)) >>= λ p. gives (jobFile p))
             by (Payload p) = refl
             by (NoRecord q) = refl
 
-        pub job-placed : JobPlaced s (jobFrom (v .n) (v .mode) e i u m m)
+        pub job-placed : JobPlaced s (job-made m)
         job-placed = by m refl
           where
-            by : (r : RecordRead) → m ≡ r → JobPlaced s (jobFrom (v .n) (v .mode) e i u m r)
+            by : (r : RecordRead) → m ≡ r → JobPlaced s (job-made r)
             by (NoRecord q) h = tt
             by (Payload p) h =
                 let (wu, pm, l) = next-placed s _ _ u m hm (last-read m p h) in
@@ -74,23 +82,29 @@ module _ (s : List ℕ) where
       (hl : Next s (startAt at) kindLayers (eachAsks 1 n) l)
       (he : Next s l kindSets (setsAsks n) e)
     where
-      flow-took : Took (flow n) (gives (drop at s)) (payloadOf s l, sets n .value (payloadOf s e)) (restOf s e)
+      abbrev flow-value : FlowValue
+      flow-value = (payloadOf s l, sets n .value (payloadOf s e))
+
+      abbrev flow-made : RecordRead → FlowRead
+      flow-made = flowFrom l e
+
+      flow-took : Took (flow n) (gives (drop at s)) flow-value (restOf s e)
       flow-took =
           then-took _ _ (next-took s kindLayers (plain (eachAsks 1 n)) (startAt at) l hl) (
           next-took s kindSets (sets n) l e he)
 
-      pub flow-steps : flowOfRead s (flowFrom l e e) ≡ readFlow n (drop at s)
+      pub flow-steps : flowOfRead s (flow-made e) ≡ readFlow n (drop at s)
       unfolding readFlow
       flow-steps = by e ∙ ap (λ (a : Answer (Front FlowValue)). a >>= λ p. gives (flowFile p)) (flow-took .took)
         where
-          by : (r : RecordRead) → flowOfRead s (flowFrom l e r) ≡ (restOf s r >>= (λ t. gives (front {A = FlowValue} (payloadOf s l, sets n .value (payloadOf s e)) t)) >>= λ p. gives (flowFile p))
+          by : (r : RecordRead) → flowOfRead s (flow-made r) ≡ (restOf s r >>= (λ t. gives (front flow-value t)) >>= λ p. gives (flowFile p))
           by (Payload p) = refl
           by (NoRecord q) = refl
 
-      pub flow-placed : FlowPlaced s at (flowFrom l e e)
+      pub flow-placed : FlowPlaced s at (flow-made e)
       flow-placed = by e refl
         where
-          by : (r : RecordRead) → e ≡ r → FlowPlaced s at (flowFrom l e r)
+          by : (r : RecordRead) → e ≡ r → FlowPlaced s at (flow-made r)
           by (NoRecord q) h = tt
           by (Payload p) h =
               let (wl, pe, b) = next-placed s _ _ l e he (last-read e p h) in
