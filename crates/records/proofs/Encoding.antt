@@ -17,8 +17,8 @@ use Rattle.records.specs.Format.{Front, front, PayloadFormat, plain, rec
 use Rattle.records.specs.JobFile.{JobFile, mostNodes, openingAllowed, edgesAsks, nodesAsks, measurementsAsks, opening, JobValue, job, jobFile, jobValue, readJob}
 use Rattle.records.specs.FlowFile.{FlowFile, entriesOf, listed, allEntries, entryBelow, entriesRise, entryBytes, sets, FlowValue, flow, flowFile, flowValue, readFlow}
 use Rattle.records.specs.Encoding.{Bytes, jobBytes, ValidJob, flowFileBytes, ValidFlow}
-use Rattle.records.proofs.Records.{all-left, all-right, length-out, length-in}
-use Rattle.records.proofs.JobFile.{allowed-out, allowed-in, opening-out, opening-in, edges-out, edges-in, nodes-out, nodes-in, measurements-out, measurements-in, rises-length, pairs-length}
+use Rattle.records.proofs.Records.{all-left, all-right, length-out}
+use Rattle.records.proofs.JobFile.{allowed-out, opening-out, opening-in, edges-out, nodes-out, measurements-out, rises-length, pairs-length}
 use Rattle.records.proofs.FlowFile.{entries-back, entries-encode, sets-out, sets-in, entries-few, entry-bytes-length}
 use Rattle.records.proofs.Format.{PayloadExact, Appends, Lawful, exact-iff, payload-bytes, record-appends, plain-exact, record-then-appends, record-lawful, _then-lawful_}
 use Rattle.records.proofs.ReadingRefusals.{ReadingRefusal, numbered, Numbered, opening-numbered, edges-numbered, nodes-numbered, measurements-numbered, each-numbered, sets-numbered}
@@ -126,27 +126,18 @@ valid-out f v =
     let (m1, m2) = measurements-out (f .n) (f .mode) (has (f .outputs)) (f .measurements) m in
     record { few = o1; modeFrom = o2; modeTo = o3; pairs = e1; edgesBelow = e2; edgesRise = e3; inputsBelow = i1; inputsRise = i2; outputsBelow = u1; outputsRise = u2; count = m1; allowed = m2 }
 
-valid-in : (f : JobFile) → ValidJob f → job .valid (jobValue f) ≡ true
-valid-in f v =
-    rw (
-      allowed-in (f .n) (f .mode) (v .few) (v .modeFrom) (v .modeTo),
-      edges-in (f .n) (f .edges) (v .pairs) (v .edgesBelow) (v .edgesRise),
-      nodes-in (f .n) (f .inputs) (v .inputsBelow) (v .inputsRise),
-      nodes-in (f .n) (f .outputs) (v .outputsBelow) (v .outputsRise),
-      measurements-in (f .n) (f .mode) (has (f .outputs)) (f .measurements) (v .count) (v .allowed),
-    )
-
--- bytes are read as a job just where they are its bytes, and it is valid
-pub job-exact : (s : List ℕ) (f : JobFile) → Bytes s → (readJob s ≡ gives f ↔ (s ≡ jobBytes f ++ f .after) × ValidJob f)
+-- bytes are read as a job just where they are its bytes, its questions are answered yes, and what is behind it may follow
+pub job-exact : (s : List ℕ) (f : JobFile) → Bytes s
+    → (readJob s ≡ gives f ↔ (s ≡ jobBytes f ++ f .after) × (job .valid (jobValue f) ≡ true) × (job .mayFollow (jobValue f) (f .after) ≡ true))
 job-exact s f h =
     let (there, back) = exact-iff job (job-lawful .exact) s (jobValue f) (f .after) h in
-    (λ e. let (q, v, w) = there (job-decoded s f e) in (q, valid-out f v), λ x. job-reads s f (back (x .0, valid-in f (x .1), refl)))
+    (λ e. there (job-decoded s f e), λ x. job-reads s f (back x))
 
 -- what is behind a job of bytes is bytes
 pub job-after : (s : List ℕ) (f : JobFile) → Bytes s → readJob s ≡ gives f → Bytes (f .after)
 job-after s f h e = all-right (λ b. ltb b 256) (jobBytes f) (f .after) (sym (ap (all (λ b. ltb b 256)) (job-exact s f h .0 e .0)) ∙ h)
 
--- what reading has asked
+-- what reading has asked, as facts
 pub job-asked : (s : List ℕ) (f : JobFile) → readJob s ≡ gives f → ValidJob f
 job-asked s f e = valid-out f (job-lawful .exact .sound .valid s (jobValue f) (f .after) (job-decoded s f e))
 
@@ -181,19 +172,11 @@ flow-valid-out n g v =
     let (a, b) = and-out (allEntries (entryBelow n) (g .sets)) (entriesRise 0 (g .sets)) w in
     record { count = omega (arith, length-out 1 n (g .layers) l); below = a; rise = b }
 
-flow-valid-in : (n : ℕ) (g : FlowFile) → ValidFlow n g → flow n .valid (flowValue g) ≡ true
-flow-valid-in n g v = rw (length-in 1 n (g .layers) (omega (arith, v .count)), v .below, v .rise)
-
--- a valid flow has as many layers as nodes
-flow-bytes : (n : ℕ) (g : FlowFile) → ValidFlow n g → flowFileBytes g ++ g .after ≡ flow n .encode (flowValue g) ++ g .after
-flow-bytes n g v = ap (λ (k : ℕ). flow k .encode (flowValue g) ++ g .after) (v .count)
-
-pub flow-exact : (n : ℕ) (s : List ℕ) (g : FlowFile) → n ≤ mostNodes → Bytes s → (readFlow n s ≡ gives g ↔ (s ≡ flowFileBytes g ++ g .after) × ValidFlow n g)
+pub flow-exact : (n : ℕ) (s : List ℕ) (g : FlowFile) → n ≤ mostNodes → Bytes s
+    → (readFlow n s ≡ gives g ↔ (s ≡ flowFileBytes g ++ g .after) × (flow n .valid (flowValue g) ≡ true) × (flow n .mayFollow (flowValue g) (g .after) ≡ true))
 flow-exact n s g k h =
-    let (there, back) = exact-iff (flow n) (flow-lawful n k .exact) s (flowValue g) (g .after) h in (
-      (λ e. let (q, v, w) = there (flow-decoded n s g e) in let x = flow-valid-out n g v in (q ∙ sym (flow-bytes n g x), x)),
-      λ x. flow-reads n s g (back (x .0 ∙ flow-bytes n g (x .1), flow-valid-in n g (x .1), refl)),
-    )
+    let (there, back) = exact-iff (flow n) (flow-lawful n k .exact) s (flowValue g) (g .after) h in
+    (λ e. there (flow-decoded n s g e), λ x. flow-reads n s g (back x))
 
 -- the layers that were read of bytes are bytes
 pub flow-layers : (n : ℕ) (s : List ℕ) (g : FlowFile) → n ≤ mostNodes → Bytes s → readFlow n s ≡ gives g → Bytes (g .layers)
@@ -209,7 +192,5 @@ unfolding readFlow
 flow-refuses n s r k e = flow-lawful n k .refusing .refused s r (made-refuses (flow n .decode s) flowFile r e)
 
 -- read back, also where its layers are no bytes
-pub flow-decodes : (n : ℕ) (g : FlowFile) → n ≤ mostNodes → ValidFlow n g → readFlow n (flowFileBytes g ++ g .after) ≡ gives g
-flow-decodes n g h v =
-    ap (readFlow n) (flow-bytes n g v)
-    ∙ flow-reads n (flow n .encode (flowValue g) ++ g .after) g (flow-lawful n h .exact .decodes (flowValue g) (g .after) (flow-valid-in n g v) refl)
+pub flow-decodes : (n : ℕ) (g : FlowFile) → n ≤ mostNodes → flow n .valid (flowValue g) ≡ true → flow n .mayFollow (flowValue g) (g .after) ≡ true → readFlow n (flowFileBytes g ++ g .after) ≡ gives g
+flow-decodes n g h v w = flow-reads n (flowFileBytes g ++ g .after) g (flow-lawful n h .exact .decodes (flowValue g) (g .after) v w)

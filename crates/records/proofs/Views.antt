@@ -1,5 +1,5 @@
 -- The views of what was read: one record, from what the code found and asked; and a format, record after record.
-use Prim.Native.Nat.{ℕ, _+_, _-_, _≤_}
+use Prim.Native.Nat.{ℕ, _-_, _≤_}
 use mathlib.Core.Path.{_≡_, refl, sym, ap, ap₂, subst, _∙_}
 use mathlib.Core.Bool.{Bool, true, false, cond}
 use mathlib.Core.Option.{some}
@@ -9,7 +9,7 @@ use lib.Dec.{ltb}
 use lib.ListN.{length, take, drop, length-append, length-drop, take-append-drop}
 use lib.Seq.{take-append-seam}
 use Rattle.nodes.specs.Lists.{all}
-use Rattle.answers.specs.Answer.{Refusal, Answer, gives, refuses, _>>=_, _>>_}
+use Rattle.answers.specs.Answer.{Refusal, Answer, gives, refuses, _>>=_}
 use Rattle.answers.specs.Refusals.{refusalOf}
 use Rattle.answers.specs.declared.Refusal as Code
 use Rattle.answers.proofs.Answer.{never}

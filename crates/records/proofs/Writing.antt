@@ -26,7 +26,7 @@ use Rattle.records.specs.FlowFile.{SetEntry, allEntries, entryBelow, ent
 use Rattle.records.specs.Encoding.{Bytes, flowFileBytes, flowWith, ValidFlow, entriesFor, foundFlow}
 use Rattle.records.specs.Writing.{layerBytes, flowBytes, mostOutput}
 use Rattle.answers.proofs.Answer.{never}
-use Rattle.records.proofs.Records.{all-append, all-more, written-bytes}
+use Rattle.records.proofs.Records.{length-in, all-append, all-more, written-bytes}
 use Rattle.records.proofs.Encoding.{flow-decodes}
 use Rattle.records.proofs.WritingLoops.{two-records, flow-length}
 use Rattle.records.proofs.JobFile.{rises-none, rises-out, rises-in, rises-length}
@@ -181,7 +181,7 @@ module _ (j : Job) (s : Progress) where
 
   -- it is read back
   pub found-reads : j .nodes ≤ mostNodes → readFlow (j .nodes) (flowBytes j (some s)) ≡ gives (foundFlow j s)
-  found-reads h = ap (readFlow (j .nodes)) (sym (append-nil (flowFileBytes (foundFlow j s)))) ∙ flow-decodes (j .nodes) (foundFlow j s) h found-valid
+  found-reads h = ap (readFlow (j .nodes)) (sym (append-nil (flowFileBytes (foundFlow j s)))) ∙ flow-decodes (j .nodes) (foundFlow j s) h (rw (length-in 1 (j .nodes) (foundFlow j s .layers) (omega (arith, found-valid .count)), found-valid .below, found-valid .rise)) refl
 
   -- as the flow that was found
   pub found-layer : (u : ℕ) → u < j .nodes → flowOf (foundFlow j s) .layer u ≡ s .layer u

@@ -21,7 +21,7 @@ Bytes s = all (λ b. ltb b 256) s ≡ true
 abbrev pub jobBytes : JobFile → List ℕ
 jobBytes f = job .encode (jobValue f)
 
--- what reading asks
+-- what reading has asked, as facts
 pub record ValidJob (f : JobFile) : Type 0 where
   pub few : f .n ≤ mostNodes
   pub modeFrom : modeCausal ≤ f .mode
@@ -45,7 +45,7 @@ flowFileBytes g = flow (length (g .layers)) .encode (flowValue g)
 abbrev pub flowWith : List ℕ → List SetEntry → FlowFile
 flowWith layers es = record { layers = layers; sets = es; after = [] }
 
--- what reading asks, for n nodes
+-- what reading has asked, for n nodes
 pub record ValidFlow (n : ℕ) (g : FlowFile) : Type 0 where
   pub count : length (g .layers) ≡ n
   pub below : allEntries (entryBelow n) (g .sets) ≡ true

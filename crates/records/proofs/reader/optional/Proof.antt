@@ -1,4 +1,4 @@
-use mathlib.Core.Path.{refl, sym, _∙_}
+use mathlib.Core.Path.{sym, _∙_}
 use Rattle.records.specs.Views.{asksOf}
 use Rattle.records.proofs.Views.{optional-there, optional-absent, optional-refused, there-placed, absent-placed}
 use borrow.Author.Needs.{needs}
