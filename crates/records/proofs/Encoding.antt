@@ -16,7 +16,7 @@ use Rattle.records.specs.Records.{allYes, written, kindOpening, kindEdge
 use Rattle.records.specs.Format.{Front, front, PayloadFormat, plain, recordOf}
 use Rattle.records.specs.JobFile.{JobFile, mostNodes, openingAllowed, edgesAsks, nodesAsks, measurementsAsks, opening, JobValue, job, jobFile, jobValue, readJob}
 use Rattle.records.specs.FlowFile.{FlowFile, entriesOf, listed, allEntries, entryBelow, entriesRise, entryBytes, sets, FlowValue, flow, flowFile, flowValue, readFlow}
-use Rattle.records.specs.Encoding.{Bytes, jobBytes, ValidJob, flowFileBytes, ValidFlow}
+use Rattle.records.specs.Encoding.{Bytes, jobBytes, ValidJob, ValidFlow}
 use Rattle.records.proofs.Records.{all-left, all-right, length-out}
 use Rattle.records.proofs.JobFile.{allowed-out, opening-out, opening-in, edges-out, nodes-out, measurements-out, rises-length, pairs-length}
 use Rattle.records.proofs.FlowFile.{entries-back, entries-encode, sets-out, sets-in, entries-few, entry-bytes-length}
@@ -173,7 +173,7 @@ flow-valid-out n g v =
     record { count = omega (arith, length-out 1 n (g .layers) l); below = a; rise = b }
 
 pub flow-exact : (n : ℕ) (s : List ℕ) (g : FlowFile) → n ≤ mostNodes → Bytes s
-    → (readFlow n s ≡ gives g ↔ (s ≡ flowFileBytes g ++ g .after) × (flow n .valid (flowValue g) ≡ true) × (flow n .mayFollow (flowValue g) (g .after) ≡ true))
+    → (readFlow n s ≡ gives g ↔ (s ≡ flow n .encode (flowValue g) ++ g .after) × (flow n .valid (flowValue g) ≡ true) × (flow n .mayFollow (flowValue g) (g .after) ≡ true))
 flow-exact n s g k h =
     let (there, back) = exact-iff (flow n) (flow-lawful n k .exact) s (flowValue g) (g .after) h in
     (λ e. there (flow-decoded n s g e), λ x. flow-reads n s g (back x))
@@ -181,8 +181,8 @@ flow-exact n s g k h =
 -- the layers that were read of bytes are bytes
 pub flow-layers : (n : ℕ) (s : List ℕ) (g : FlowFile) → n ≤ mostNodes → Bytes s → readFlow n s ≡ gives g → Bytes (g .layers)
 flow-layers n s g k h e =
-    payload-bytes kindLayers (g .layers) (written kindSets (entryBytes (g .sets)))
-    (all-left (λ b. ltb b 256) (flowFileBytes g) (g .after) (sym (ap (all (λ b. ltb b 256)) (flow-exact n s g k h .0 e .0)) ∙ h))
+    payload-bytes kindLayers (g .layers) _
+    (all-left (λ b. ltb b 256) (flow n .encode (flowValue g)) (g .after) (sym (ap (all (λ b. ltb b 256)) (flow-exact n s g k h .0 e .0)) ∙ h))
 
 pub flow-asked : (n : ℕ) (s : List ℕ) (g : FlowFile) → n ≤ mostNodes → readFlow n s ≡ gives g → ValidFlow n g
 flow-asked n s g k e = flow-valid-out n g (flow-lawful n k .exact .sound .valid s (flowValue g) (g .after) (flow-decoded n s g e))
@@ -192,5 +192,5 @@ unfolding readFlow
 flow-refuses n s r k e = flow-lawful n k .refusing .refused s r (made-refuses (flow n .decode s) flowFile r e)
 
 -- read back, also where its layers are no bytes
-pub flow-decodes : (n : ℕ) (g : FlowFile) → n ≤ mostNodes → flow n .valid (flowValue g) ≡ true → flow n .mayFollow (flowValue g) (g .after) ≡ true → readFlow n (flowFileBytes g ++ g .after) ≡ gives g
-flow-decodes n g h v w = flow-reads n (flowFileBytes g ++ g .after) g (flow-lawful n h .exact .decodes (flowValue g) (g .after) v w)
+pub flow-decodes : (n : ℕ) (g : FlowFile) → n ≤ mostNodes → flow n .valid (flowValue g) ≡ true → flow n .mayFollow (flowValue g) (g .after) ≡ true → readFlow n (flow n .encode (flowValue g) ++ g .after) ≡ gives g
+flow-decodes n g h v w = flow-reads n (flow n .encode (flowValue g) ++ g .after) g (flow-lawful n h .exact .decodes (flowValue g) (g .after) v w)
