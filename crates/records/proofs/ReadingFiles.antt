@@ -41,13 +41,17 @@ module _ (s : List ℕ) where
         (hu : Next s i kindOutputs (nodesAsks (v .n)) u)
         (hm : Next s u kindMeasurements (measurementsAsks (v .n) (v .mode) (has (payloadOf s u))) m)
       where
+        -- what was read, the last record of it, and what is made of it
         abbrev job-value : JobValue
         job-value = (v, (payloadOf s e, (payloadOf s i, (payloadOf s u, payloadOf s m))))
+
+        abbrev job-last : RecordRead
+        job-last = m
 
         abbrev job-made : RecordRead → JobRead
         job-made = jobFrom (v .n) (v .mode) e i u m
 
-        job-took : Took job (gives s) job-value (restOf s m)
+        job-took : Took job (gives s) job-value (restOf s job-last)
         job-took =
             then-took _ _ (subst (λ (w : Opening). Took (recordOf kindOpening opening) (gives s) w (restOf s o)) hv (next-took s kindOpening opening (startAt 0) o ho)) (
             then-took _ _ (next-took s kindEdges (plain (edgesAsks (v .n))) o e he) (
@@ -55,27 +59,30 @@ module _ (s : List ℕ) where
             then-took _ _ (next-took s kindOutputs (plain (nodesAsks (v .n))) i u hu) (
             next-took s kindMeasurements (plain (measurementsAsks (v .n) (v .mode) (has (payloadOf s u)))) u m hm))))
 
-        pub job-steps : jobOfRead s (job-made m) ≡ readJob s
+        job-steps : jobOfRead s (job-made job-last) ≡ readJob s
         unfolding readJob
-        job-steps = by m ∙ ap (λ (a : Answer (Front JobValue)). a >>= λ p. gives (jobFile p)) (job-took .took)
+        job-steps = by job-last ∙ ap (λ (a : Answer (Front JobValue)). a >>= λ p. gives (jobFile p)) (job-took .took)
           where
             by : (r : RecordRead) → jobOfRead s (job-made r) ≡ (restOf s r >>= (λ t. gives (front job-value t)) >>= λ p. gives (jobFile p))
             by (Payload p) = refl
             by (NoRecord q) = refl
 
-        pub job-placed : JobPlaced s (job-made m)
-        job-placed = by m refl
+        job-placed : JobPlaced s (job-made job-last)
+        job-placed = by job-last refl
           where
-            by : (r : RecordRead) → m ≡ r → JobPlaced s (job-made r)
+            by : (r : RecordRead) → job-last ≡ r → JobPlaced s (job-made r)
             by (NoRecord q) h = tt
             by (Payload p) h =
-                let (wu, pm, l) = next-placed s _ _ u m hm (last-read m p h) in
+                let (wu, pm, l) = next-placed s _ _ u m hm (last-read job-last p h) in
                 let (wi, pu, _) = next-placed s _ _ i u hu wu in
                 let (we, pi, _) = next-placed s _ _ e i hi wi in
                 let (wo, pe, _) = next-placed s _ _ o e he we in
                 let (ws, po, _) = next-placed s _ _ (startAt 0) o ho wo in
-                let q : p ≡ placeOf m = sym (ap placeOf h) in
+                let q : p ≡ placeOf job-last = sym (ap placeOf h) in
                 (rw (q, ← hv, pm, pu, pi, pe, po) refl, rw q l)
+
+        pub job-promised : (jobOfRead s (job-made job-last) ≡ readJob s) × JobPlaced s (job-made job-last)
+        job-promised = (job-steps, job-placed)
 
   -- ---- a flow
   module _ (at n : ℕ) (l e : RecordRead)
@@ -85,29 +92,35 @@ module _ (s : List ℕ) where
       abbrev flow-value : FlowValue
       flow-value = (payloadOf s l, sets n .value (payloadOf s e))
 
+      abbrev flow-last : RecordRead
+      flow-last = e
+
       abbrev flow-made : RecordRead → FlowRead
       flow-made = flowFrom l e
 
-      flow-took : Took (flow n) (gives (drop at s)) flow-value (restOf s e)
+      flow-took : Took (flow n) (gives (drop at s)) flow-value (restOf s flow-last)
       flow-took =
           then-took _ _ (next-took s kindLayers (plain (eachAsks 1 n)) (startAt at) l hl) (
           next-took s kindSets (sets n) l e he)
 
-      pub flow-steps : flowOfRead s (flow-made e) ≡ readFlow n (drop at s)
+      flow-steps : flowOfRead s (flow-made flow-last) ≡ readFlow n (drop at s)
       unfolding readFlow
-      flow-steps = by e ∙ ap (λ (a : Answer (Front FlowValue)). a >>= λ p. gives (flowFile p)) (flow-took .took)
+      flow-steps = by flow-last ∙ ap (λ (a : Answer (Front FlowValue)). a >>= λ p. gives (flowFile p)) (flow-took .took)
         where
           by : (r : RecordRead) → flowOfRead s (flow-made r) ≡ (restOf s r >>= (λ t. gives (front flow-value t)) >>= λ p. gives (flowFile p))
           by (Payload p) = refl
           by (NoRecord q) = refl
 
-      pub flow-placed : FlowPlaced s at (flow-made e)
-      flow-placed = by e refl
+      flow-placed : FlowPlaced s at (flow-made flow-last)
+      flow-placed = by flow-last refl
         where
-          by : (r : RecordRead) → e ≡ r → FlowPlaced s at (flow-made r)
+          by : (r : RecordRead) → flow-last ≡ r → FlowPlaced s at (flow-made r)
           by (NoRecord q) h = tt
           by (Payload p) h =
-              let (wl, pe, b) = next-placed s _ _ l e he (last-read e p h) in
+              let (wl, pe, b) = next-placed s _ _ l e he (last-read flow-last p h) in
               let (ws, pl, _) = next-placed s _ _ (startAt at) l hl wl in
-              let q : p ≡ placeOf e = sym (ap placeOf h) in
+              let q : p ≡ placeOf flow-last = sym (ap placeOf h) in
               (rw (q, pe, pl) refl, rw q b)
+
+      pub flow-promised : (flowOfRead s (flow-made flow-last) ≡ readFlow n (drop at s)) × FlowPlaced s at (flow-made flow-last)
+      flow-promised = (flow-steps, flow-placed)

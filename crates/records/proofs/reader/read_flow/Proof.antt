@@ -1,6 +1,6 @@
 use Rattle.records.specs.Records.{kindLayers, eachAsks}
 use Rattle.records.specs.Views.{startAt, Next}
-use Rattle.records.proofs.ReadingFiles.{flow-steps, flow-placed}
+use Rattle.records.proofs.ReadingFiles.{flow-promised}
 use borrow.Author.Needs.{needs}
 use Rattle.records.proofs.reader.read_flow.Statement.{statement}
 use Rattle.records.proofs.reader.read_flow.Tie as tie
@@ -23,11 +23,12 @@ flow-from-requires c κs = search needs
 
 returns : tie.Need-returns
 returns c =
-    let a = c .before .before .before .before .before .args in
-    let l = c .before .before .next .result in
-    let e = c .before .next2 in
-    let first = layers-read (c .before .before) in
-    (rw (c .flow-from .ensures) (flow-steps (a .file .now) (a .at) (a .n) l (e .result) first (e .ensures)), rw (c .flow-from .ensures) (flow-placed (a .file .now) (a .at) (a .n) l (e .result) first (e .ensures)))
+    let sets = c .before in
+    let a = sets .before .before .before .before .args in
+    let l = sets .before .next .result in
+    let e = sets .next2 in
+    let first = layers-read (sets .before) in
+    rw (c .flow-from .ensures) (flow-promised (a .file .now) (a .at) (a .n) l (e .result) first (e .ensures))
 
 pub read-flow-spec : {M : Type 1} → statement M
 read-flow-spec =

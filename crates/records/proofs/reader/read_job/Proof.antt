@@ -3,7 +3,7 @@ use Rattle.nodes.specs.Lists.{has}
 use Rattle.records.specs.Records.{kindOpening, kindMeasurements}
 use Rattle.records.specs.JobFile.{Opening, opening, openingAsks, measurementsAsks}
 use Rattle.records.specs.Views.{startAt, payloadOf, Next}
-use Rattle.records.proofs.ReadingFiles.{opening-few, outputs-passed, job-steps, job-placed}
+use Rattle.records.proofs.ReadingFiles.{opening-few, outputs-passed, job-promised}
 use borrow.Author.Needs.{needs}
 use Rattle.records.proofs.reader.read_job.Statement.{statement}
 use Rattle.records.proofs.reader.read_job.Tie as tie
@@ -65,15 +65,15 @@ job-from-requires c κs = search needs
 
 returns : tie.Need-returns
 returns c =
-    let s = c .before .before .before .before .before .before .before .before .before .before .before .before .before .before .args .file .now in
-    let v : Opening = record { n = c .before .before .before .before .before .before .before .number .result; mode = c .before .before .before .before .before .before .byte-at2 .result } in
-    let hv = opened (c .before .before .before .before .before .before) in
-    let o = c .before .before .before .before .before .before .before .before .before .before .before in
-    let e = c .before .before .before .before .before .next2 in
-    let i = c .before .before .before .before .next3 in
-    let u = c .before .before .before .next4 in
     let m = c .before in
-    (rw (c .job-from .ensures) (job-steps s (o .next .result) (first o) v (e .result) (i .result) (u .result) (m .next5 .result) hv (e .ensures) (i .ensures) (u .ensures) (measurements-read m)), rw (c .job-from .ensures) (job-placed s (o .next .result) (first o) v (e .result) (i .result) (u .result) (m .next5 .result) hv (e .ensures) (i .ensures) (u .ensures) (measurements-read m)))
+    let s = m .before .before .before .before .before .before .before .before .before .before .before .before .before .args .file .now in
+    let o = m .before .before .before .before .before .before .before .before .before .before in
+    let v : Opening = record { n = m .before .before .before .before .before .before .number .result; mode = m .before .before .before .before .before .byte-at2 .result } in
+    let hv = opened (m .before .before .before .before .before) in
+    let e = m .before .before .before .before .next2 in
+    let i = m .before .before .before .next3 in
+    let u = m .before .before .next4 in
+    rw (c .job-from .ensures) (job-promised s (o .next .result) (first o) v (e .result) (i .result) (u .result) (m .next5 .result) hv (e .ensures) (i .ensures) (u .ensures) (measurements-read m))
 
 pub read-job-spec : {M : Type 1} → statement M
 read-job-spec =
