@@ -10,10 +10,10 @@ use Rattle.records.specs.Records.{allYes, eachAsks, kindOpening, kindEdg
 use Rattle.records.specs.Format.{Front, front, plain, recordOf}
 use Rattle.records.specs.JobFile.{mostNodes, rises, openingAsks, edgesAsks, nodesAsks, measurementsAsks, Opening, opening, JobValue, job, jobFile, readJob}
 use Rattle.records.specs.FlowFile.{setsAsks, sets, FlowValue, flow, flowFile, readFlow}
-use Rattle.records.specs.Views.{startAt, restOf, placeOf, payloadOf, Next, jobFrom, jobOfRead, JobPlaced, flowFrom, flowOfRead, FlowPlaced}
+use Rattle.records.specs.Views.{startAt, restOf, placeOf, payloadOf, Next, jobOfRead, jobRead, JobPlaced, flowOfRead, flowRead, FlowPlaced}
 use Rattle.records.specs.declared.common.Place.{Place}
-use Rattle.records.specs.declared.common.JobRead.{JobRead}
-use Rattle.records.specs.declared.common.FlowRead.{FlowRead}
+use Rattle.records.specs.declared.common.JobPlaces.{JobPlaces}
+use Rattle.records.specs.declared.common.FlowPlaces.{FlowPlaces}
 use Rattle.records.specs.declared.reader.RecordRead.{RecordRead}
 use Rattle.records.specs.declared.reader.RecordRead.the-variants.{Payload, Refused as NoRecord}
 use Rattle.records.proofs.JobFile.{allowed-out, opening-out, nodes-in}
@@ -41,15 +41,15 @@ module _ (s : List ℕ) where
         (hu : Next s i kindOutputs (nodesAsks (v .n)) u)
         (hm : Next s u kindMeasurements (measurementsAsks (v .n) (v .mode) (has (payloadOf s u))) m)
       where
-        -- what was read, the last record of it, and what is made of it
+        -- what was read, its last record, and the places
         abbrev job-value : JobValue
         job-value = (v, (payloadOf s e, (payloadOf s i, (payloadOf s u, payloadOf s m))))
 
         abbrev job-last : RecordRead
         job-last = m
 
-        abbrev job-made : RecordRead → JobRead
-        job-made = jobFrom (v .n) (v .mode) e i u m
+        abbrev job-places : JobPlaces
+        job-places = record { n = v .n; mode = v .mode; edges = placeOf e; inputs = placeOf i; outputs = placeOf u; measurements = placeOf m; end = placeOf job-last .end }
 
         job-took : Took job (gives s) job-value (restOf s job-last)
         job-took =
@@ -59,18 +59,18 @@ module _ (s : List ℕ) where
             then-took _ _ (next-took s kindOutputs (plain (nodesAsks (v .n))) i u hu) (
             next-took s kindMeasurements (plain (measurementsAsks (v .n) (v .mode) (has (payloadOf s u)))) u m hm))))
 
-        job-steps : jobOfRead s (job-made job-last) ≡ readJob s
+        job-steps : jobOfRead s (jobRead job-last job-places) ≡ readJob s
         unfolding readJob
-        job-steps = by job-last ∙ ap (λ (a : Answer (Front JobValue)). a >>= λ p. gives (jobFile p)) (job-took .took)
+        job-steps = by job-last refl ∙ ap (λ (a : Answer (Front JobValue)). a >>= λ p. gives (jobFile p)) (job-took .took)
           where
-            by : (r : RecordRead) → jobOfRead s (job-made r) ≡ (restOf s r >>= (λ t. gives (front job-value t)) >>= λ p. gives (jobFile p))
-            by (Payload p) = refl
-            by (NoRecord q) = refl
+            by : (r : RecordRead) → job-last ≡ r → jobOfRead s (jobRead r job-places) ≡ (restOf s r >>= (λ t. gives (front job-value t)) >>= λ p. gives (jobFile p))
+            by (Payload p) h = ap (λ (r : RecordRead). gives (jobFile (front job-value (drop (placeOf r .end) s)))) h
+            by (NoRecord q) h = refl
 
-        job-placed : JobPlaced s (job-made job-last)
+        job-placed : JobPlaced s (jobRead job-last job-places)
         job-placed = by job-last refl
           where
-            by : (r : RecordRead) → job-last ≡ r → JobPlaced s (job-made r)
+            by : (r : RecordRead) → job-last ≡ r → JobPlaced s (jobRead r job-places)
             by (NoRecord q) h = tt
             by (Payload p) h =
                 let (wu, pm, l) = next-placed s _ _ u m hm (last-read job-last p h) in
@@ -78,10 +78,9 @@ module _ (s : List ℕ) where
                 let (we, pi, _) = next-placed s _ _ e i hi wi in
                 let (wo, pe, _) = next-placed s _ _ o e he we in
                 let (ws, po, _) = next-placed s _ _ (startAt 0) o ho wo in
-                let q : p ≡ placeOf job-last = sym (ap placeOf h) in
-                (rw (q, ← hv, pm, pu, pi, pe, po) refl, rw q l)
+                (rw (← hv, pm, pu, pi, pe, po) refl, l)
 
-        pub job-promised : (jobOfRead s (job-made job-last) ≡ readJob s) × JobPlaced s (job-made job-last)
+        pub job-promised : (jobOfRead s (jobRead job-last job-places) ≡ readJob s) × JobPlaced s (jobRead job-last job-places)
         job-promised = (job-steps, job-placed)
 
   -- ---- a flow
@@ -95,32 +94,31 @@ module _ (s : List ℕ) where
       abbrev flow-last : RecordRead
       flow-last = e
 
-      abbrev flow-made : RecordRead → FlowRead
-      flow-made = flowFrom l e
+      abbrev flow-places : FlowPlaces
+      flow-places = record { layers = placeOf l; sets = placeOf e; end = placeOf flow-last .end }
 
       flow-took : Took (flow n) (gives (drop at s)) flow-value (restOf s flow-last)
       flow-took =
           then-took _ _ (next-took s kindLayers (plain (eachAsks 1 n)) (startAt at) l hl) (
           next-took s kindSets (sets n) l e he)
 
-      flow-steps : flowOfRead s (flow-made flow-last) ≡ readFlow n (drop at s)
+      flow-steps : flowOfRead s (flowRead flow-last flow-places) ≡ readFlow n (drop at s)
       unfolding readFlow
-      flow-steps = by flow-last ∙ ap (λ (a : Answer (Front FlowValue)). a >>= λ p. gives (flowFile p)) (flow-took .took)
+      flow-steps = by flow-last refl ∙ ap (λ (a : Answer (Front FlowValue)). a >>= λ p. gives (flowFile p)) (flow-took .took)
         where
-          by : (r : RecordRead) → flowOfRead s (flow-made r) ≡ (restOf s r >>= (λ t. gives (front flow-value t)) >>= λ p. gives (flowFile p))
-          by (Payload p) = refl
-          by (NoRecord q) = refl
+          by : (r : RecordRead) → flow-last ≡ r → flowOfRead s (flowRead r flow-places) ≡ (restOf s r >>= (λ t. gives (front flow-value t)) >>= λ p. gives (flowFile p))
+          by (Payload p) h = ap (λ (r : RecordRead). gives (flowFile (front flow-value (drop (placeOf r .end) s)))) h
+          by (NoRecord q) h = refl
 
-      flow-placed : FlowPlaced s at (flow-made flow-last)
+      flow-placed : FlowPlaced s at (flowRead flow-last flow-places)
       flow-placed = by flow-last refl
         where
-          by : (r : RecordRead) → flow-last ≡ r → FlowPlaced s at (flow-made r)
+          by : (r : RecordRead) → flow-last ≡ r → FlowPlaced s at (flowRead r flow-places)
           by (NoRecord q) h = tt
           by (Payload p) h =
               let (wl, pe, b) = next-placed s _ _ l e he (last-read flow-last p h) in
               let (ws, pl, _) = next-placed s _ _ (startAt at) l hl wl in
-              let q : p ≡ placeOf flow-last = sym (ap placeOf h) in
-              (rw (q, pe, pl) refl, rw q b)
+              (rw (pe, pl) refl, b)
 
-      pub flow-promised : (flowOfRead s (flow-made flow-last) ≡ readFlow n (drop at s)) × FlowPlaced s at (flow-made flow-last)
+      pub flow-promised : (flowOfRead s (flowRead flow-last flow-places) ≡ readFlow n (drop at s)) × FlowPlaced s at (flowRead flow-last flow-places)
       flow-promised = (flow-steps, flow-placed)

@@ -155,6 +155,11 @@ abbrev pub jobOfRead : List ℕ → JobRead → Answer JobFile
 jobOfRead s (Job p) = gives (jobAt s p)
 jobOfRead s (NoJob q) = refuses (refusalOf q)
 
+-- the places are those of a job where the last record was read
+abbrev pub jobRead : RecordRead → JobPlaces → JobRead
+jobRead (Payload p) places = Job places
+jobRead (NoRecord q) places = NoJob q
+
 -- each record starts where the one before it ends
 abbrev pub jobPlaces : List ℕ → JobPlaces
 jobPlaces s =
@@ -178,19 +183,6 @@ abbrev pub JobPlaced : List ℕ → JobRead → Type 0
 JobPlaced s (Job p) = (p ≡ jobPlaces s) × (p .end ≤ length s)
 JobPlaced s (NoJob q) = Unit
 
--- from the records that were read; the last one tells whether all of them were
-abbrev pub jobFrom : (n mode : ℕ) (edges inputs outputs measurements last : RecordRead) → JobRead
-jobFrom n mode edges inputs outputs measurements (Payload p) = Job (record {
-  n = n;
-  mode = mode;
-  edges = placeOf edges;
-  inputs = placeOf inputs;
-  outputs = placeOf outputs;
-  measurements = placeOf measurements;
-  end = p .end;
-})
-jobFrom n mode edges inputs outputs measurements (NoRecord q) = NoJob q
-
 -- ---- a flow
 abbrev pub flowAt : List ℕ → FlowPlaces → FlowFile
 flowAt s p = record {
@@ -203,6 +195,10 @@ abbrev pub flowOfRead : List ℕ → FlowRead → Answer FlowFile
 flowOfRead s (Flow p) = gives (flowAt s p)
 flowOfRead s (NoFlow q) = refuses (refusalOf q)
 
+abbrev pub flowRead : RecordRead → FlowPlaces → FlowRead
+flowRead (Payload p) places = Flow places
+flowRead (NoRecord q) places = NoFlow q
+
 -- its first record starts at `at`
 abbrev pub flowPlaces : List ℕ → (at : ℕ) → FlowPlaces
 flowPlaces s at =
@@ -213,7 +209,3 @@ flowPlaces s at =
 abbrev pub FlowPlaced : List ℕ → (at : ℕ) → FlowRead → Type 0
 FlowPlaced s at (Flow p) = (p ≡ flowPlaces s at) × (p .end ≤ length s)
 FlowPlaced s at (NoFlow q) = Unit
-
-abbrev pub flowFrom : (layers sets last : RecordRead) → FlowRead
-flowFrom layers sets (Payload p) = Flow (record { layers = placeOf layers; sets = placeOf sets; end = p .end })
-flowFrom layers sets (NoRecord q) = NoFlow q

@@ -9,7 +9,7 @@ ghost use Rattle.nodes.specs.Lists.{has};
 ghost use Rattle.records.specs.Records.{carries, lengthField, kindField, headBytes, part, checked};
 ghost use Rattle.records.specs.JobFile.{readJob};
 ghost use Rattle.records.specs.FlowFile.{readFlow};
-ghost use Rattle.records.specs.Views.{asksOf, Granted, recordOfRead, recordBehind, startAt, placeOf, RecordAt, optionalOfRead, optionalBehind, OptionalAt, choiceOfRead, choiceBehind, jobFrom, jobOfRead, JobPlaced, flowFrom, flowOfRead, FlowPlaced};
+ghost use Rattle.records.specs.Views.{asksOf, Granted, recordOfRead, recordBehind, startAt, placeOf, RecordAt, optionalOfRead, optionalBehind, OptionalAt, choiceOfRead, choiceBehind, jobOfRead, jobRead, JobPlaced, flowOfRead, flowRead, FlowPlaced};
 use crate::common::FlowPlaces;
 use crate::common::FlowRead;
 use crate::common::HEAD_BYTES;
@@ -209,30 +209,22 @@ fn place_of(read: RecordRead) -> Place
     }
 }
 
+// Where it ends.
+fn end_of(read: RecordRead) -> usize
+    ensures { λ r. ⌜ r ≡ placeOf read .end ⌝ }
+{
+    let place = place_of(read);
+    place.end
+}
+
 // ---- A job: five records in order, each once.
 
-// The places, where the last record was read.
-fn job_from(
-    n: usize,
-    mode: u8,
-    edges: RecordRead,
-    inputs: RecordRead,
-    outputs: RecordRead,
-    measurements: RecordRead,
-    last: RecordRead,
-) -> JobRead
-    ensures { λ r. ⌜ r ≡ jobFrom n mode edges inputs outputs measurements last ⌝ }
+// The places are those of a job where the last record was read.
+fn job_read(last: RecordRead, places: JobPlaces) -> JobRead
+    ensures { λ r. ⌜ r ≡ jobRead last places ⌝ }
 {
     match last {
-        RecordRead::Payload(place) => JobRead::Job(JobPlaces {
-            n,
-            mode,
-            edges: place_of(edges),
-            inputs: place_of(inputs),
-            outputs: place_of(outputs),
-            measurements: place_of(measurements),
-            end: place.end,
-        }),
+        RecordRead::Payload(_) => JobRead::Job(places),
         RecordRead::Refused(q) => JobRead::Refused(q),
     }
 }
@@ -250,20 +242,25 @@ pub fn read_job(file: &[u8]) -> JobRead
     let outputs = next(file, inputs, KIND_OUTPUTS, Questions::Nodes(n));
     let allowed = Questions::Measurements(n, mode, place_of(outputs));
     let measurements = next(file, outputs, KIND_MEASUREMENTS, allowed);
-    job_from(n, mode, edges, inputs, outputs, measurements, measurements)
+    let places = JobPlaces {
+        n,
+        mode,
+        edges: place_of(edges),
+        inputs: place_of(inputs),
+        outputs: place_of(outputs),
+        measurements: place_of(measurements),
+        end: end_of(measurements),
+    };
+    job_read(measurements, places)
 }
 
 // ---- A flow: the records of layers and of sets.
 
-fn flow_from(layers: RecordRead, sets: RecordRead, last: RecordRead) -> FlowRead
-    ensures { λ r. ⌜ r ≡ flowFrom layers sets last ⌝ }
+fn flow_read(last: RecordRead, places: FlowPlaces) -> FlowRead
+    ensures { λ r. ⌜ r ≡ flowRead last places ⌝ }
 {
     match last {
-        RecordRead::Payload(place) => FlowRead::Flow(FlowPlaces {
-            layers: place_of(layers),
-            sets: place_of(sets),
-            end: place.end,
-        }),
+        RecordRead::Payload(_) => FlowRead::Flow(places),
         RecordRead::Refused(q) => FlowRead::Refused(q),
     }
 }
@@ -275,7 +272,12 @@ pub fn read_flow(file: &[u8], at: usize, n: usize) -> FlowRead
 {
     let layers = next(file, start(at), KIND_LAYERS, Questions::Each(1, n));
     let sets = next(file, layers, KIND_SETS, Questions::Sets(n));
-    flow_from(layers, sets, sets)
+    let places = FlowPlaces {
+        layers: place_of(layers),
+        sets: place_of(sets),
+        end: end_of(sets),
+    };
+    flow_read(sets, places)
 }
 
 // ---- What a payload holds.

@@ -9,27 +9,25 @@ use Rattle.records.proofs.reader.read_flow.Tie as tie
 layers-read : (c : tie.After-next) → let a = c .before .before .before .args in Next (a .file .now) (startAt (a .at)) kindLayers (eachAsks 1 (a .n)) (c .next .result)
 layers-read c = rw (c .before .start .ensures) at (c .next .ensures)
 
-start-requires : tie.Need-start-requires
-start-requires c κs = search needs
-
-next-requires : tie.Need-next-requires
-next-requires c κs = search needs
-
-next-requires-2 : tie.Need-next-requires-2
-next-requires-2 c κs = search needs
-
-flow-from-requires : tie.Need-flow-from-requires
-flow-from-requires c κs = search needs
-
 returns : tie.Need-returns
 returns c =
-    let sets = c .before in
+    let places = c .before .before .before in
+    let sets = places .before in
     let a = sets .before .before .before .before .args in
     let l = sets .before .next .result in
     let e = sets .next2 in
     let first = layers-read (sets .before) in
-    rw (c .flow-from .ensures) (flow-promised (a .file .now) (a .at) (a .n) l (e .result) first (e .ensures))
+    rw (c .flow-read .ensures, places .place-of .ensures, c .before .before .place-of2 .ensures, c .before .end-of .ensures) (flow-promised (a .file .now) (a .at) (a .n) l (e .result) first (e .ensures))
 
 pub read-flow-spec : {M : Type 1} → statement M
 read-flow-spec =
-    tie.close (tie.spec start-requires next-requires next-requires-2 flow-from-requires returns)
+    tie.close
+    (tie.spec
+    (λ c κs. search needs)
+    (λ c κs. search needs)
+    (λ c κs. search needs)
+    (λ c κs. search needs)
+    (λ c κs. search needs)
+    (λ c κs. search needs)
+    (λ c κs. search needs)
+    returns)

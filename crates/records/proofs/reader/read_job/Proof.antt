@@ -21,51 +21,16 @@ measurements-read : (c : tie.After-next5) → let s = c .before .before .before 
     Next s (c .before .before .next4 .result) kindMeasurements (measurementsAsks (c .before .before .before .before .before .before .number .result) (c .before .before .before .before .before .byte-at2 .result) (has (payloadOf s (c .before .before .next4 .result)))) (c .next5 .result)
 measurements-read c = rw (c .before .place-of2 .ensures) at (c .next5 .ensures)
 
-start-requires : tie.Need-start-requires
-start-requires c κs = search needs
-
-next-requires : tie.Need-next-requires
-next-requires c κs = search needs
-
-place-of-requires : tie.Need-place-of-requires
-place-of-requires c κs = search needs
-
-payload-requires : tie.Need-payload-requires
-payload-requires c κs = search needs
-
-byte-at-requires : tie.Need-byte-at-requires
-byte-at-requires c κs = search needs
-
-number-requires : tie.Need-number-requires
-number-requires c κs = search needs
-
-byte-at-requires-2 : tie.Need-byte-at-requires-2
-byte-at-requires-2 c κs = search needs
-
-next-requires-2 : tie.Need-next-requires-2
-next-requires-2 c κs = search needs
-
-next-requires-3 : tie.Need-next-requires-3
-next-requires-3 c κs = search needs
-
-next-requires-4 : tie.Need-next-requires-4
-next-requires-4 c κs = search needs
-
-place-of-requires-2 : tie.Need-place-of-requires-2
-place-of-requires-2 c κs = search needs
-
 next-requires-5 : tie.Need-next-requires-5
 next-requires-5 c κs =
     let s = c .before .before .before .before .before .before .before .before .before .before .before .before .args .file .now in
     let n = c .before .before .before .before .before .number in
     (rw (n .ensures .0, c .before .before .before .before .before .before .byte-at .ensures, c .before .before .before .before .before .before .before .payload .ensures, c .before .before .before .before .before .before .before .before .place-of .ensures) (opening-few s (c .before .before .before .before .before .before .before .before .before .next .result) (first (c .before .before .before .before .before .before .before .before .before))), rw (c .place-of2 .ensures) (outputs-passed s (n .result) (c .before .before .next3 .result) (c .before .next4 .result) (c .before .next4 .ensures)))
 
-job-from-requires : tie.Need-job-from-requires
-job-from-requires c κs = search needs
-
 returns : tie.Need-returns
 returns c =
-    let m = c .before in
+    let places = c .before .before .before .before .before in
+    let m = places .before in
     let s = m .before .before .before .before .before .before .before .before .before .before .before .before .before .args .file .now in
     let o = m .before .before .before .before .before .before .before .before .before .before in
     let v : Opening = record { n = m .before .before .before .before .before .before .number .result; mode = m .before .before .before .before .before .byte-at2 .result } in
@@ -73,23 +38,29 @@ returns c =
     let e = m .before .before .before .before .next2 in
     let i = m .before .before .before .next3 in
     let u = m .before .before .next4 in
-    rw (c .job-from .ensures) (job-promised s (o .next .result) (first o) v (e .result) (i .result) (u .result) (m .next5 .result) hv (e .ensures) (i .ensures) (u .ensures) (measurements-read m))
+    rw (c .job-read .ensures, places .place-of3 .ensures, c .before .before .before .before .place-of4 .ensures, c .before .before .before .place-of5 .ensures, c .before .before .place-of6 .ensures, c .before .end-of .ensures)
+    (job-promised s (o .next .result) (first o) v (e .result) (i .result) (u .result) (m .next5 .result) hv (e .ensures) (i .ensures) (u .ensures) (measurements-read m))
 
 pub read-job-spec : {M : Type 1} → statement M
 read-job-spec =
     tie.close
     (tie.spec
-    start-requires
-    next-requires
-    place-of-requires
-    payload-requires
-    byte-at-requires
-    number-requires
-    byte-at-requires-2
-    next-requires-2
-    next-requires-3
-    next-requires-4
-    place-of-requires-2
+    (λ c κs. search needs)
+    (λ c κs. search needs)
+    (λ c κs. search needs)
+    (λ c κs. search needs)
+    (λ c κs. search needs)
+    (λ c κs. search needs)
+    (λ c κs. search needs)
+    (λ c κs. search needs)
+    (λ c κs. search needs)
+    (λ c κs. search needs)
+    (λ c κs. search needs)
     next-requires-5
-    job-from-requires
+    (λ c κs. search needs)
+    (λ c κs. search needs)
+    (λ c κs. search needs)
+    (λ c κs. search needs)
+    (λ c κs. search needs)
+    (λ c κs. search needs)
     returns)
