@@ -22,18 +22,6 @@ tests s =
     let (a, r) = nodes-out (length l) outs (s .pre .1) in
     allowed-tests l outs a r (s .args .mode)
 
-highest-of-requires : tie.Need-highest-of-requires
-highest-of-requires c κs = search needs
-
-number-requires : tie.Need-number-requires
-number-requires c κs = search needs
-
-add-past : tie.Need-add-past
-add-past c = search needs
-
-below-requires : tie.Need-below-requires
-below-requires c κs = search needs
-
 returns : tie.Need-returns
 returns c =
     let s = c .before .before .before .before .before .before in
@@ -41,9 +29,6 @@ returns c =
     let outs = s .args .outputs .now in
     let low : all (λ v. ltb v (highestOf (s .args .mode) + 1)) l ≡ false = rw (c .before .before .number .ensures .0, c .before .before .before .highest-of .ensures) at (sym (c .before .below .ensures) ∙ not-true _ (c .if1 .taken)) in
     sym (tests s ∙ rw low)
-
-zeros-requires : tie.Need-zeros-requires
-zeros-requires c κs = search needs
 
 returns-2 : tie.Need-returns-2
 returns-2 c =
@@ -68,12 +53,12 @@ pub all-allowed-spec : {M : Type 1} → statement M
 all-allowed-spec =
     tie.close
     (tie.spec
-    highest-of-requires
-    number-requires
-    add-past
-    below-requires
+    (λ c κs. search needs)
+    (λ c κs. search needs)
+    (λ c. search needs)
+    (λ c κs. search needs)
     returns
-    zeros-requires
+    (λ c κs. search needs)
     returns-2
     zero-at-requires
     returns-3)

@@ -5,9 +5,6 @@ use borrow.Author.Needs.{needs}
 use Rattle.records.proofs.questions.ask_each.Statement.{statement}
 use Rattle.records.proofs.questions.ask_each.Tie as tie
 
-length-is-requires : tie.Need-length-is-requires
-length-is-requires c κs = search needs
-
 returns : tie.Need-returns
 unfolding eachAsks
 returns c = simp (sym (c .before .length-is .ensures) ∙ not-true _ (c .if1 .taken))
@@ -17,4 +14,4 @@ unfolding eachAsks
 returns-2 c = simp (sym (c .before .length-is .ensures) ∙ not-false _ (c .if1 .left))
 
 pub ask-each-spec : {M : Type 1} → statement M
-ask-each-spec = tie.close (tie.spec length-is-requires returns returns-2)
+ask-each-spec = tie.close (tie.spec (λ c κs. search needs) returns returns-2)

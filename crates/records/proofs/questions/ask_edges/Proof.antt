@@ -9,15 +9,9 @@ returns : tie.Need-returns
 unfolding edgesAsks
 returns c = simp (ne-eqb _ 0 (c .if1 .taken))
 
-below-requires : tie.Need-below-requires
-below-requires c κs = search needs
-
 returns-2 : tie.Need-returns-2
 unfolding edgesAsks
 returns-2 c = simp (eq-eqb _ 0 (c .before .before .if1 .left), sym (c .before .below .ensures) ∙ not-true _ (c .if2 .taken))
-
-pairs-rising-requires : tie.Need-pairs-rising-requires
-pairs-rising-requires c κs = search needs
 
 returns-3 : tie.Need-returns-3
 unfolding edgesAsks
@@ -29,4 +23,4 @@ returns-4 c = simp (eq-eqb _ 0 (c .before .before .before .before .if1 .left), s
 
 pub ask-edges-spec : {M : Type 1} → statement M
 ask-edges-spec =
-    tie.close (tie.spec returns below-requires returns-2 pairs-rising-requires returns-3 returns-4)
+    tie.close (tie.spec returns (λ c κs. search needs) returns-2 (λ c κs. search needs) returns-3 returns-4)

@@ -5,15 +5,9 @@ use borrow.Author.Needs.{needs}
 use Rattle.records.proofs.questions.ask_nodes.Statement.{statement}
 use Rattle.records.proofs.questions.ask_nodes.Tie as tie
 
-below-requires : tie.Need-below-requires
-below-requires c κs = search needs
-
 returns : tie.Need-returns
 unfolding nodesAsks
 returns c = simp (sym (c .before .below .ensures) ∙ not-true _ (c .if1 .taken))
-
-rising-requires : tie.Need-rising-requires
-rising-requires c κs = search needs
 
 returns-2 : tie.Need-returns-2
 unfolding nodesAsks
@@ -24,4 +18,4 @@ unfolding nodesAsks
 returns-3 c = simp (sym (c .before .before .before .below .ensures) ∙ not-false _ (c .before .before .if1 .left), sym (c .before .rising .ensures) ∙ not-false _ (c .if2 .left))
 
 pub ask-nodes-spec : {M : Type 1} → statement M
-ask-nodes-spec = tie.close (tie.spec below-requires returns rising-requires returns-2 returns-3)
+ask-nodes-spec = tie.close (tie.spec (λ c κs. search needs) returns (λ c κs. search needs) returns-2 returns-3)

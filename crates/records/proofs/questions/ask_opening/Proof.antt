@@ -15,18 +15,6 @@ returns : tie.Need-returns
 unfolding openingAsks
 returns c = simp (ne-eqb _ 2 (c .if1 .taken))
 
-shared-slice-read-number : tie.Need-shared-slice-read-number
-shared-slice-read-number c = search needs
-
-number-requires : tie.Need-number-requires
-number-requires c κs = search needs
-
-shared-slice-read-opening-allowed : tie.Need-shared-slice-read-opening-allowed
-shared-slice-read-opening-allowed c = search needs
-
-opening-allowed-requires : tie.Need-opening-allowed-requires
-opening-allowed-requires c κs = search needs
-
 returns-2 : tie.Need-returns-2
 unfolding openingAsks
 returns-2 c = simp (eq-eqb _ 2 (c .before .before .before .before .before .if1 .left), allowed (c .before) ∙ not-true _ (c .if2 .taken))
@@ -40,9 +28,9 @@ ask-opening-spec =
     tie.close
     (tie.spec
     returns
-    shared-slice-read-number
-    number-requires
-    shared-slice-read-opening-allowed
-    opening-allowed-requires
+    (λ c. search needs)
+    (λ c κs. search needs)
+    (λ c. search needs)
+    (λ c κs. search needs)
     returns-2
     returns-3)

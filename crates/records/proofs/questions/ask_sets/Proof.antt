@@ -5,9 +5,6 @@ use borrow.Author.Needs.{needs}
 use Rattle.records.proofs.questions.ask_sets.Statement.{statement}
 use Rattle.records.proofs.questions.ask_sets.Tie as tie
 
-entries-end-requires : tie.Need-entries-end-requires
-entries-end-requires c κs = search needs
-
 returns : tie.Need-returns
 unfolding setsAsks
 returns c = simp (sym (c .before .entries-end .ensures) ∙ not-true _ (c .if1 .taken))
@@ -34,7 +31,7 @@ pub ask-sets-spec : {M : Type 1} → statement M
 ask-sets-spec =
     tie.close
     (tie.spec
-    entries-end-requires
+    (λ c κs. search needs)
     returns
     entries-below-requires
     returns-2

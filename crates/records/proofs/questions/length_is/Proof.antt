@@ -7,17 +7,11 @@ use Rattle.records.proofs.questions.length_is.Tie as tie
 returns : tie.Need-returns
 returns c = let a = c .before .args in rw (c .if1 .taken) (width-none (a .len) (a .n))
 
-rem-if2 : tie.Need-rem-if2
-rem-if2 c = search needs
-
 returns-2 : tie.Need-returns-2
 returns-2 c = let a = c .before .before .args in width-not (a .len) (a .width) (a .n) (c .if2 .taken)
-
-div-result : tie.Need-div-result
-div-result c = search needs
 
 returns-3 : tie.Need-returns-3
 returns-3 c = let a = c .before .before .args in width-divides (a .len) (a .width) (a .n) (omega arith) (c .if2 .left)
 
 pub length-is-spec : {M : Type 1} → statement M
-length-is-spec = tie.close (tie.spec returns rem-if2 returns-2 div-result returns-3)
+length-is-spec = tie.close (tie.spec returns (λ c. search needs) returns-2 (λ c. search needs) returns-3)

@@ -5,9 +5,6 @@ use borrow.Author.Needs.{needs}
 use Rattle.records.proofs.questions.one_member.Statement.{statement}
 use Rattle.records.proofs.questions.one_member.Tie as tie
 
-entries-end-requires : tie.Need-entries-end-requires
-entries-end-requires c κs = search needs
-
 returns : tie.Need-returns
 returns c = let p = c .before .before .before .args .sets .now in sym (one-none p (sym (c .before .entries-end .ensures) ∙ not-true _ (c .if1 .taken)))
 
@@ -18,4 +15,4 @@ returns-2 : tie.Need-returns-2
 returns-2 c = c .counts-one .ensures
 
 pub one-member-spec : {M : Type 1} → statement M
-one-member-spec = tie.close (tie.spec entries-end-requires returns counts-one-requires returns-2)
+one-member-spec = tie.close (tie.spec (λ c κs. search needs) returns counts-one-requires returns-2)

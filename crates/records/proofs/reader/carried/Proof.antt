@@ -10,11 +10,8 @@ returns c = let a = c .before .before .args in carries-short (a .file .now) (a .
 returns-2 : tie.Need-returns-2
 returns-2 c = let a = c .before .before .before .args in carries-short (a .file .now) (a .at) (a .kind) (omega arith)
 
-kind-field-requires : tie.Need-kind-field-requires
-kind-field-requires c κs = search needs
-
 returns-3 : tie.Need-returns-3
 returns-3 c = let a = c .before .before .before .before .args in rw (c .kind-field .ensures) (carries-at (a .file .now) (a .at) (a .kind) (omega arith))
 
 pub carried-spec : {M : Type 1} → statement M
-carried-spec = tie.close (tie.spec returns returns-2 kind-field-requires returns-3)
+carried-spec = tie.close (tie.spec returns returns-2 (λ c κs. search needs) returns-3)

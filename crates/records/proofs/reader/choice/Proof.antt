@@ -5,26 +5,11 @@ use borrow.Author.Needs.{needs}
 use Rattle.records.proofs.reader.choice.Statement.{statement}
 use Rattle.records.proofs.reader.choice.Tie as tie
 
-enum-known-read : tie.Need-enum-known-read
-enum-known-read c = search needs
-
-carried-requires : tie.Need-carried-requires
-carried-requires c κs = search needs
-
-read-record-requires : tie.Need-read-record-requires
-read-record-requires c κs = search needs
-
 returns : tie.Need-returns
 returns c =
     let a = c .before .before .before .before .before .before .before .args in
     let r = c .read-record in
     (choice-second (a .file .now) (a .read) (a .first) (asksOf (a .file .now) (a .questions)) (a .second) (asksOf (a .file .now) (a .others)) _ (r .result) (c .before .before .before .before .read .given .1) (sym (c .before .before .carried .ensures) ∙ c .before .if1 .taken) (r .ensures .0), rw (c .before .before .before .before .read .given .1) (r .ensures .1))
-
-read-record-requires-2 : tie.Need-read-record-requires-2
-read-record-requires-2 c κs = search needs
-
-enum-known-read-2 : tie.Need-enum-known-read-2
-enum-known-read-2 c = search needs
 
 returns-2 : tie.Need-returns-2
 returns-2 c =
@@ -41,11 +26,11 @@ pub choice-spec : {M : Type 1} → statement M
 choice-spec =
     tie.close
     (tie.spec
-    enum-known-read
-    carried-requires
-    read-record-requires
+    (λ c. search needs)
+    (λ c κs. search needs)
+    (λ c κs. search needs)
     returns
-    read-record-requires-2
-    enum-known-read-2
+    (λ c κs. search needs)
+    (λ c. search needs)
     returns-2
     returns-3)

@@ -17,9 +17,6 @@ there c = sym (c .before .carried .ensures) ∙ not-false _ (c .if1 .left)
 room : (c : tie.Else1) → let a = c .before .before .before .args in a .at + headBytes ≤ length (a .file .now)
 room c = let a = c .before .before .before .args in head-room (a .file .now) (a .at) (a .kind) (there c)
 
-carried-requires : tie.Need-carried-requires
-carried-requires c κs = search needs
-
 returns : tie.Need-returns
 returns c =
     let a = c .before .before .before .args in
@@ -54,7 +51,7 @@ pub head-spec : {M : Type 1} → statement M
 head-spec =
     tie.close
     (tie.spec
-    carried-requires
+    (λ c κs. search needs)
     returns
     length-field-requires
     add-start

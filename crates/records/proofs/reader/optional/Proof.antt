@@ -5,26 +5,11 @@ use borrow.Author.Needs.{needs}
 use Rattle.records.proofs.reader.optional.Statement.{statement}
 use Rattle.records.proofs.reader.optional.Tie as tie
 
-enum-known-read : tie.Need-enum-known-read
-enum-known-read c = search needs
-
-carried-requires : tie.Need-carried-requires
-carried-requires c κs = search needs
-
-read-record-requires : tie.Need-read-record-requires
-read-record-requires c κs = search needs
-
 returns : tie.Need-returns
 returns c =
     let a = c .before .before .before .before .before .before .before .args in
     let r = c .read-record in
     (optional-there (a .file .now) (a .read) (a .kind) (asksOf (a .file .now) (a .questions)) _ (r .result) (c .before .before .before .before .read .given .1) (sym (c .before .before .carried .ensures) ∙ c .before .if1 .taken) (r .ensures .0), rw (c .before .before .before .before .read .given .1) (there-placed (a .file .now) (a .kind) _ (r .result) (sym (c .before .before .carried .ensures) ∙ c .before .if1 .taken) (r .ensures .1)))
-
-start-requires : tie.Need-start-requires
-start-requires c κs = search needs
-
-enum-known-read-2 : tie.Need-enum-known-read-2
-enum-known-read-2 c = search needs
 
 returns-2 : tie.Need-returns-2
 returns-2 c =
@@ -40,11 +25,11 @@ pub optional-spec : {M : Type 1} → statement M
 optional-spec =
     tie.close
     (tie.spec
-    enum-known-read
-    carried-requires
-    read-record-requires
+    (λ c. search needs)
+    (λ c κs. search needs)
+    (λ c κs. search needs)
     returns
-    start-requires
-    enum-known-read-2
+    (λ c κs. search needs)
+    (λ c. search needs)
     returns-2
     returns-3)

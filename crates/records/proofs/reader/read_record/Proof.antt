@@ -6,27 +6,6 @@ use borrow.Author.Needs.{needs}
 use Rattle.records.proofs.reader.read_record.Statement.{statement}
 use Rattle.records.proofs.reader.read_record.Tie as tie
 
-head-requires : tie.Need-head-requires
-head-requires c κs = search needs
-
-enum-known-place : tie.Need-enum-known-place
-enum-known-place c = search needs
-
-payload-requires : tie.Need-payload-requires
-payload-requires c κs = search needs
-
-ask-requires : tie.Need-ask-requires
-ask-requires c κs = search needs
-
-enum-told : tie.Need-enum-told
-enum-told c = search needs
-
-enum-known-q : tie.Need-enum-known-q
-enum-known-q c = search needs
-
-enum-known-q-2 : tie.Need-enum-known-q-2
-enum-known-q-2 c = search needs
-
 returns : tie.Need-returns
 returns c =
     let a = c .before .before .before .before .before .before .before .before .before .args in
@@ -53,13 +32,13 @@ pub read-record-spec : {M : Type 1} → statement M
 read-record-spec =
     tie.close
     (tie.spec
-    head-requires
-    enum-known-place
-    payload-requires
-    ask-requires
-    enum-told
-    enum-known-q
-    enum-known-q-2
+    (λ c κs. search needs)
+    (λ c. search needs)
+    (λ c κs. search needs)
+    (λ c κs. search needs)
+    (λ c. search needs)
+    (λ c. search needs)
+    (λ c. search needs)
     returns
     returns-2
     returns-3)

@@ -12,32 +12,8 @@ use Rattle.records.proofs.Splice.{splice-more, splice-splice}
 use Rattle.records.proofs.writer.put_entry.Statement.{statement}
 use Rattle.records.proofs.writer.put_entry.Tie as tie
 
-cast-put-byte : tie.Need-cast-put-byte
-cast-put-byte c = search needs
-
-put-byte-requires : tie.Need-put-byte-requires
-put-byte-requires c κs = search needs
-
-add-put-byte : tie.Need-add-put-byte
-add-put-byte c = search needs
-
-count-requires : tie.Need-count-requires
-count-requires c κs = search needs
-
 cast-put-byte-2 : tie.Need-cast-put-byte-2
 cast-put-byte-2 c = let a = c .before .before .before .before .before .before .before .args in omega (arith, count-le capacity (member (a .s)))
-
-put-byte-requires-2 : tie.Need-put-byte-requires-2
-put-byte-requires-2 c κs = search needs
-
-add-put-members : tie.Need-add-put-members
-add-put-members c = search needs
-
-put-members-requires : tie.Need-put-members-requires
-put-members-requires c κs = search needs
-
-same-length : tie.Need-same-length
-same-length c = search needs
 
 returns : tie.Need-returns
 returns c = let a = c .before .before .before .before .before .before .before .before .before .before .before .before .before .before .args in
@@ -55,13 +31,13 @@ pub put-entry-spec : {M : Type 1} → statement M
 put-entry-spec =
     tie.close
     (tie.spec
-    cast-put-byte
-    put-byte-requires
-    add-put-byte
-    count-requires
+    (λ c. search needs)
+    (λ c κs. search needs)
+    (λ c. search needs)
+    (λ c κs. search needs)
     cast-put-byte-2
-    put-byte-requires-2
-    add-put-members
-    put-members-requires
-    same-length
+    (λ c κs. search needs)
+    (λ c. search needs)
+    (λ c κs. search needs)
+    (λ c. search needs)
     returns)

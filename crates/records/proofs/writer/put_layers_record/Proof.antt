@@ -10,15 +10,6 @@ use borrow.Author.Needs.{needs}
 use Rattle.records.proofs.writer.put_layers_record.Statement.{statement}
 use Rattle.records.proofs.writer.put_layers_record.Tie as tie
 
-put-head-requires : tie.Need-put-head-requires
-put-head-requires c κs = search needs
-
-put-layers-requires : tie.Need-put-layers-requires
-put-layers-requires c κs = search needs
-
-same-length : tie.Need-same-length
-same-length c = search needs
-
 returns : tie.Need-returns
 returns c =
     let a = c .before .before .before .before .before .before .before .before .before .before .args in
@@ -30,4 +21,4 @@ returns c =
 
 pub put-layers-record-spec : {M : Type 1} → statement M
 put-layers-record-spec =
-    tie.close (tie.spec put-head-requires put-layers-requires same-length returns)
+    tie.close (tie.spec (λ c κs. search needs) (λ c κs. search needs) (λ c. search needs) returns)

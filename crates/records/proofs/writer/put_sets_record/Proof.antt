@@ -12,18 +12,6 @@ use borrow.Author.Needs.{needs}
 use Rattle.records.proofs.writer.put_sets_record.Statement.{statement}
 use Rattle.records.proofs.writer.put_sets_record.Tie as tie
 
-put-head-requires : tie.Need-put-head-requires
-put-head-requires c κs = search needs
-
-add-put-entries : tie.Need-add-put-entries
-add-put-entries c = search needs
-
-put-entries-requires : tie.Need-put-entries-requires
-put-entries-requires c κs = search needs
-
-same-length : tie.Need-same-length
-same-length c = search needs
-
 returns : tie.Need-returns
 returns c =
     let s = c .before .before .before .before .before .before .before .before .before .before in
@@ -35,4 +23,4 @@ returns c =
 
 pub put-sets-record-spec : {M : Type 1} → statement M
 put-sets-record-spec =
-    tie.close (tie.spec put-head-requires add-put-entries put-entries-requires same-length returns)
+    tie.close (tie.spec (λ c κs. search needs) (λ c. search needs) (λ c κs. search needs) (λ c. search needs) returns)

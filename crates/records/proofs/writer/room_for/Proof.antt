@@ -13,11 +13,8 @@ returns c = let a = c .before .args in sym (lt-leb (a .a + a .b + a .c) (a .room
 returns-2 : tie.Need-returns-2
 returns-2 c = let a = c .before .before .args in sym (lt-leb (a .a + a .b + a .c) (a .room) (omega arith))
 
-sub-result : tie.Need-sub-result
-sub-result c = search needs
-
 returns-3 : tie.Need-returns-3
 returns-3 c = let a = c .before .before .args in room-left (a .room) (a .a) (a .b) (a .c) (omega arith)
 
 pub room-for-spec : {M : Type 1} → statement M
-room-for-spec = tie.close (tie.spec returns returns-2 sub-result returns-3)
+room-for-spec = tie.close (tie.spec returns returns-2 (λ c. search needs) returns-3)

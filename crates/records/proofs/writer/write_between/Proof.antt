@@ -17,15 +17,6 @@ size c = length (c .before .before .payload .result .now) + length (c .before .b
 roomy : (c : tie.Else1) → size (c .before) ≤ length (c .before .before .before .before .before .before .before .args .out .now)
 roomy c = leb-true (size (c .before)) (length (c .before .before .before .before .before .before .before .args .out .now)) (sym (c .before .room-for .ensures) ∙ not-false _ (c .if1 .left))
 
-payload-requires : tie.Need-payload-requires
-payload-requires c κs = search needs
-
-payload-requires-2 : tie.Need-payload-requires-2
-payload-requires-2 c κs = search needs
-
-room-for-requires : tie.Need-room-for-requires
-room-for-requires c κs = search needs
-
 returns : tie.Need-returns
 returns c =
     let a = c .before .before .before .before .before .before .before .args in
@@ -47,9 +38,6 @@ put-bytes-requires-3 c κs = let room = roomy (c .before .before .before .before
 add-t13 : tie.Need-add-t13
 add-t13 c = let room = roomy (c .before .before .before .before .before .before .before .before .before .before .before .before) in omega (arith, room)
 
-same-length : tie.Need-same-length
-same-length c = search needs
-
 returns-2 : tie.Need-returns-2
 returns-2 c =
     let a = c .before .before .before .before .before .before .before .before .before .before .before .before .before .before .before .before .before .before .before .args in
@@ -68,14 +56,14 @@ pub write-between-spec : {M : Type 1} → statement M
 write-between-spec =
     tie.close
     (tie.spec
-    payload-requires
-    payload-requires-2
-    room-for-requires
+    (λ c κs. search needs)
+    (λ c κs. search needs)
+    (λ c κs. search needs)
     returns
     add-end
     put-bytes-requires
     put-bytes-requires-2
     put-bytes-requires-3
     add-t13
-    same-length
+    (λ c. search needs)
     returns-2)

@@ -32,15 +32,6 @@ size c = 2 * headBytes + length (c .before .before .before .before .before .args
 roomy : (c : tie.Else1) → size (c .before) ≤ length (c .before .before .before .before .before .before .args .out .now)
 roomy c = leb-true (size (c .before)) (length (c .before .before .before .before .before .before .args .out .now)) (sym (c .before .room-for .ensures) ∙ not-false _ (c .if1 .left))
 
-entries-len-requires : tie.Need-entries-len-requires
-entries-len-requires c κs = search needs
-
-mul-room-for : tie.Need-mul-room-for
-mul-room-for c = search needs
-
-room-for-requires : tie.Need-room-for-requires
-room-for-requires c κs = search needs
-
 returns : tie.Need-returns
 returns c =
     let s = c .before .before .before .before .before .before in
@@ -51,23 +42,11 @@ returns c =
 put-layers-record-requires : tie.Need-put-layers-record-requires
 put-layers-record-requires c κs = omega (arith, roomy (c .before))
 
-add-put-sets-record : tie.Need-add-put-sets-record
-add-put-sets-record c = search needs
-
 put-sets-record-requires : tie.Need-put-sets-record-requires
 put-sets-record-requires c κs = (c .before .before .before .before .before .before .before .entries-len .ensures, omega (arith, roomy (c .before .before .before .before .before)))
 
-mul-t9 : tie.Need-mul-t9
-mul-t9 c = search needs
-
-add-t8 : tie.Need-add-t8
-add-t8 c = search needs
-
 add-t16 : tie.Need-add-t16
 add-t16 c = omega (arith, roomy (c .before .before .before .before .before .before .before .before))
-
-same-length : tie.Need-same-length
-same-length c = search needs
 
 returns-2 : tie.Need-returns-2
 returns-2 c =
@@ -85,15 +64,15 @@ pub write-flow-spec : {M : Type 1} → statement M
 write-flow-spec =
     tie.close
     (tie.spec
-    entries-len-requires
-    mul-room-for
-    room-for-requires
+    (λ c κs. search needs)
+    (λ c. search needs)
+    (λ c κs. search needs)
     returns
     put-layers-record-requires
-    add-put-sets-record
+    (λ c. search needs)
     put-sets-record-requires
-    mul-t9
-    add-t8
+    (λ c. search needs)
+    (λ c. search needs)
     add-t16
-    same-length
+    (λ c. search needs)
     returns-2)

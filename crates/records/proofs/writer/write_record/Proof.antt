@@ -14,9 +14,6 @@ use Rattle.records.proofs.writer.write_record.Tie as tie
 roomy : (c : tie.Else1) → headBytes + length (c .before .before .before .before .args .payload .now) + 0 ≤ length (c .before .before .before .before .args .out .now)
 roomy c = leb-true (headBytes + length (c .before .before .before .before .args .payload .now) + 0) (length (c .before .before .before .before .args .out .now)) (sym (c .before .room-for .ensures) ∙ not-false _ (c .if1 .left))
 
-room-for-requires : tie.Need-room-for-requires
-room-for-requires c κs = search needs
-
 returns : tie.Need-returns
 returns c =
     let a = c .before .before .before .before .args in
@@ -29,9 +26,6 @@ put-record-requires c κs = omega (arith, roomy (c .before))
 add-t6 : tie.Need-add-t6
 add-t6 c = omega (arith, roomy (c .before .before .before .before))
 
-same-length : tie.Need-same-length
-same-length c = search needs
-
 returns-2 : tie.Need-returns-2
 returns-2 c =
     let a = c .before .before .before .before .before .before .before .before .args in
@@ -40,4 +34,4 @@ returns-2 c =
 
 pub write-record-spec : {M : Type 1} → statement M
 write-record-spec =
-    tie.close (tie.spec room-for-requires returns put-record-requires add-t6 same-length returns-2)
+    tie.close (tie.spec (λ c κs. search needs) returns put-record-requires add-t6 (λ c. search needs) returns-2)
