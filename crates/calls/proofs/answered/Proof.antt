@@ -5,12 +5,6 @@ use Rattle.records.specs.Splice.{putOf}
 use Rattle.calls.proofs.answered.Statement.{statement}
 use Rattle.calls.proofs.answered.Tie as tie
 
-enum-known-put : tie.Need-enum-known-put
-enum-known-put c = search needs
-
-enum-told : tie.Need-enum-told
-enum-told c = search needs
-
 returns : tie.Need-returns
 returns c = sym (ap putOf (c .before .put .given .1))
 
@@ -18,4 +12,4 @@ returns-2 : tie.Need-returns-2
 returns-2 c = sym (ap putOf (c .enum-told .given .1))
 
 pub answered-spec : {M : Type 1} → statement M
-answered-spec = tie.close (tie.spec enum-known-put enum-told returns returns-2)
+answered-spec = tie.close (tie.spec (λ c. search needs) (λ c. search needs) returns returns-2)

@@ -5,18 +5,6 @@ use borrow.Author.Needs.{needs}
 use Rattle.capi.proofs.bolz_find.Statement.{statement}
 use Rattle.capi.proofs.bolz_find.Tie as tie
 
-find-requires : tie.Need-find-requires
-find-requires c κs = search needs
-
-reply-code-requires : tie.Need-reply-code-requires
-reply-code-requires c κs = search needs
-
-same-length : tie.Need-same-length
-same-length c = search needs
-
-same-length-2 : tie.Need-same-length-2
-same-length-2 c = search needs
-
 returns : tie.Need-returns
 returns c = let f = c .before .before .before .before .before .find in
     let o = f .last .1 .1 .0 in
@@ -25,4 +13,4 @@ returns c = let f = c .before .before .before .before .before .find in
 
 pub bolz-find-spec : {M : Type 1} → statement M
 bolz-find-spec =
-    tie.close (tie.spec find-requires reply-code-requires same-length same-length-2 returns)
+    tie.close (tie.spec (λ c κs. search needs) (λ c κs. search needs) (λ c. search needs) (λ c. search needs) returns)

@@ -6,18 +6,9 @@ use borrow.Author.Needs.{needs}
 use Rattle.capi.proofs.bolz_verify.Statement.{statement}
 use Rattle.capi.proofs.bolz_verify.Tie as tie
 
-verify-requires : tie.Need-verify-requires
-verify-requires c κs = search needs
-
-reply-code-requires : tie.Need-reply-code-requires
-reply-code-requires c κs = search needs
-
-same-length : tie.Need-same-length
-same-length c = search needs
-
 returns : tie.Need-returns
 returns c = let f = c .before .before .before .verify in
     ap {B = Coded} (λ (k : ℕ). record { code = k; work = []; out = f .last .1 .0 }) (c .reply-code .ensures) ∙ ap coded (f .ensures)
 
 pub bolz-verify-spec : {M : Type 1} → statement M
-bolz-verify-spec = tie.close (tie.spec verify-requires reply-code-requires same-length returns)
+bolz-verify-spec = tie.close (tie.spec (λ c κs. search needs) (λ c κs. search needs) (λ c. search needs) returns)

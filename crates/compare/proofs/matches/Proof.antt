@@ -4,14 +4,8 @@ use borrow.Author.Needs.{needs}
 use Rattle.compare.proofs.matches.Statement.{statement}
 use Rattle.compare.proofs.matches.Tie as tie
 
-wanted-requires : tie.Need-wanted-requires
-wanted-requires c κs = search needs
-
-wanted-requires-2 : tie.Need-wanted-requires-2
-wanted-requires-2 c κs = search needs
-
 returns : tie.Need-returns
 returns c = ap₂ eqb (c .before .wanted .ensures) (c .wanted2 .ensures)
 
 pub matches-spec : {M : Type 1} → statement M
-matches-spec = tie.close (tie.spec wanted-requires wanted-requires-2 returns)
+matches-spec = tie.close (tie.spec (λ c κs. search needs) (λ c κs. search needs) returns)

@@ -6,9 +6,6 @@ use borrow.Author.Needs.{needs}
 use Rattle.compare.proofs.wanted.Statement.{statement}
 use Rattle.compare.proofs.wanted.Tie as tie
 
-shared-slice-read-result : tie.Need-shared-slice-read-result
-shared-slice-read-result c = search needs
-
 returns : tie.Need-returns
 returns c = let a = c .before .before .args in any-default (a .result .now) (a .at) 0 (a .fill) (c .before .if1 .taken)
 
@@ -16,4 +13,4 @@ returns-2 : tie.Need-returns-2
 returns-2 c = let a = c .before .args in sym (List·getD-eq-default (a .result .now) (a .fill) (omega arith))
 
 pub wanted-spec : {M : Type 1} → statement M
-wanted-spec = tie.close (tie.spec shared-slice-read-result returns returns-2)
+wanted-spec = tie.close (tie.spec (λ c. search needs) returns returns-2)

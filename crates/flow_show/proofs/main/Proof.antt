@@ -9,30 +9,6 @@ use borrow.Author.Needs.{needs}
 use Rattle.flow_show.proofs.main.Statement.{statement}
 use Rattle.flow_show.proofs.main.Tie as tie
 
-slice-aggregate-only-usage : tie.Need-slice-aggregate-only-usage
-slice-aggregate-only-usage c = search needs
-
-only-usage-requires : tie.Need-only-usage-requires
-only-usage-requires c κs = search needs
-
-returns : tie.Need-returns
-returns c = search needs
-
-slice-aggregate-read-input : tie.Need-slice-aggregate-read-input
-slice-aggregate-read-input c = search needs
-
-read-input-requires : tie.Need-read-input-requires
-read-input-requires c κs = search needs
-
-enum-known-read : tie.Need-enum-known-read
-enum-known-read c = search needs
-
-enum-told : tie.Need-enum-told
-enum-told c = search needs
-
-returns-2 : tie.Need-returns-2
-returns-2 c = search needs
-
 array-share-prefix-input : tie.Need-array-share-prefix-input
 array-share-prefix-input c = let n = c .before .read .given in
     let l = c .before .before .before .before .read-input .last .0 in
@@ -55,30 +31,21 @@ show-requires c κs = let n = c .before .before .read .given in
     let part = length-take-le (n .0 .0) l (omega arith) in
     omega (arith, part)
 
-output-failed-requires : tie.Need-output-failed-requires
-output-failed-requires c κs = search needs
-
-returns-3 : tie.Need-returns-3
-returns-3 c = search needs
-
-returns-4 : tie.Need-returns-4
-returns-4 c = search needs
-
 pub main-spec : {M : Type 1} → statement M
 main-spec =
     tie.close
     (tie.spec
-    slice-aggregate-only-usage
-    only-usage-requires
-    returns
-    slice-aggregate-read-input
-    read-input-requires
-    enum-known-read
-    enum-told
-    returns-2
+    (λ c. search needs)
+    (λ c κs. search needs)
+    (λ c. search needs)
+    (λ c. search needs)
+    (λ c κs. search needs)
+    (λ c. search needs)
+    (λ c. search needs)
+    (λ c. search needs)
     array-share-prefix-input
     slice-aggregate-show
     show-requires
-    output-failed-requires
-    returns-3
-    returns-4)
+    (λ c κs. search needs)
+    (λ c. search needs)
+    (λ c. search needs))

@@ -9,12 +9,6 @@ use borrow.Author.Needs.{needs}
 use Rattle.flow_show.proofs.show_refusal.Statement.{statement}
 use Rattle.flow_show.proofs.show_refusal.Tie as tie
 
-slice-aggregate-put-refusal : tie.Need-slice-aggregate-put-refusal
-slice-aggregate-put-refusal c = search needs
-
-put-refusal-requires : tie.Need-put-refusal-requires
-put-refusal-requires c κs = search needs
-
 array-share-prefix-line : tie.Need-array-share-prefix-line
 array-share-prefix-line c = let r = c .before .put-refusal in
     let few : r .result ≤ lineRoom = written-few _ _ _ (r .ensures) in
@@ -27,19 +21,13 @@ slice-aggregate-print c = let r = c .before .before .put-refusal in
     let size : length (r .last .1 .0) ≡ lineRoom = search (needs, c .before .line2 .given) in
     sym (length-take-le (r .result) (r .last .1 .0) (omega arith))
 
-print-requires : tie.Need-print-requires
-print-requires c κs = search needs
-
-returns : tie.Need-returns
-returns c = search needs
-
 pub show-refusal-spec : {M : Type 1} → statement M
 show-refusal-spec =
     tie.close
     (tie.spec
-    slice-aggregate-put-refusal
-    put-refusal-requires
+    (λ c. search needs)
+    (λ c κs. search needs)
     array-share-prefix-line
     slice-aggregate-print
-    print-requires
-    returns)
+    (λ c κs. search needs)
+    (λ c. search needs))

@@ -5,9 +5,6 @@ use borrow.Author.Needs.{needs}
 use Rattle.messages.proofs.lines_left.Statement.{statement}
 use Rattle.messages.proofs.lines_left.Tie as tie
 
-sub-result : tie.Need-sub-result
-sub-result c = search needs
-
 returns : tie.Need-returns
 returns c = sym (simp (eq-eqb (c .before .args .letter) lineFeed (c .if1 .taken)))
 
@@ -15,4 +12,4 @@ returns-2 : tie.Need-returns-2
 returns-2 c = sym (simp (ne-eqb (c .before .args .letter) lineFeed (c .if1 .left)))
 
 pub lines-left-spec : {M : Type 1} → statement M
-lines-left-spec = tie.close (tie.spec sub-result returns returns-2)
+lines-left-spec = tie.close (tie.spec (λ c. search needs) returns returns-2)

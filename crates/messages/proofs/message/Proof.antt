@@ -10,16 +10,10 @@ use borrow.Author.Needs.{needs}
 use Rattle.messages.proofs.message.Statement.{statement}
 use Rattle.messages.proofs.message.Tie as tie
 
-slice-aggregate-tell : tie.Need-slice-aggregate-tell
-slice-aggregate-tell c = search needs
-
 tell-requires : tie.Need-tell-requires
 unfolding codes textOf
 tell-requires c κs = let a = c .before .before .before .args in
     subst (λ (words : List ℕ). length (filled (refusalOf (a .q)) (template words)) ≤ lineRoom) (sym (words-line (a .q .0))) (line-fits (refusalOf (a .q)) (search (needs, c .before .before .before .good), search needs, search needs))
-
-same-length : tie.Need-same-length
-same-length c = search needs
 
 returns : tie.Need-returns
 unfolding codes textOf
@@ -27,4 +21,4 @@ returns c = let a = c .before .before .before .before .before .before .args in
     c .before .before .tell .ensures ∙ ap (λ (words : List ℕ). putWhole (filled (refusalOf (a .q)) (template words)) (a .out .now)) (words-line (a .q .0))
 
 pub message-spec : {M : Type 1} → statement M
-message-spec = tie.close (tie.spec slice-aggregate-tell tell-requires same-length returns)
+message-spec = tie.close (tie.spec (λ c. search needs) tell-requires (λ c. search needs) returns)

@@ -7,14 +7,8 @@ use borrow.Author.Needs.{needs}
 use Rattle.messages.proofs.put_letter.Statement.{statement}
 use Rattle.messages.proofs.put_letter.Tie as tie
 
-cast-put-decimal : tie.Need-cast-put-decimal
-cast-put-decimal c = search needs
-
 put-decimal-requires : tie.Need-put-decimal-requires
 put-decimal-requires c κs = let a = c .before .before .before .before .args in omega (arith, ap length (spelled-number (refusalOf (a .q)) (a .c) (c .before .before .match .keys1)), c .before .before .before .before .pre)
-
-cast-put-decimal-2 : tie.Need-cast-put-decimal-2
-cast-put-decimal-2 c = search needs
 
 put-decimal-requires-2 : tie.Need-put-decimal-requires-2
 put-decimal-requires-2 c κs = let a = c .before .before .before .before .args in omega (arith, ap length (spelled-a (refusalOf (a .q)) (a .c) (c .before .before .match .keys2)), c .before .before .before .before .pre)
@@ -28,26 +22,14 @@ slice-write-out c = let a = c .before .before .args in let n = c .match .rest in
 add-result : tie.Need-add-result
 add-result c = let a = c .before .before .args in let n = c .match .rest in let e = spelled-other (refusalOf (a .q)) (a .c) (n .0 .0 .1) (n .0 .1) (n .1) in record { fits = omega (arith, ap length e, c .before .before .pre) }
 
-same-length : tie.Need-same-length
-same-length c = search needs
-
 returns : tie.Need-returns
 returns c = let a = c .before .before .before .before .before .before .before .args in put-as _ _ (a .at) _ (a .out .now) _ (spelled-number (refusalOf (a .q)) (a .c) (c .before .before .before .before .before .match .keys1)) (c .before .before .put-decimal .ensures)
-
-same-length-2 : tie.Need-same-length-2
-same-length-2 c = search needs
 
 returns-2 : tie.Need-returns-2
 returns-2 c = let a = c .before .before .before .before .before .before .before .args in put-as _ _ (a .at) _ (a .out .now) _ (spelled-a (refusalOf (a .q)) (a .c) (c .before .before .before .before .before .match .keys2)) (c .before .before .put-decimal2 .ensures)
 
-same-length-3 : tie.Need-same-length-3
-same-length-3 c = search needs
-
 returns-3 : tie.Need-returns-3
 returns-3 c = let a = c .before .before .before .before .before .before .args in put-as _ _ (a .at) _ (a .out .now) _ (spelled-b (refusalOf (a .q)) (a .c) (c .before .before .before .before .match .keys3)) (c .before .before .put-decimal3 .ensures)
-
-same-length-4 : tie.Need-same-length-4
-same-length-4 c = search needs
 
 returns-4 : tie.Need-returns-4
 returns-4 c = let a = c .before .before .args in let n = c .match .rest in let e = spelled-other (refusalOf (a .q)) (a .c) (n .0 .0 .1) (n .0 .1) (n .1) in put-as _ _ (a .at) _ (a .out .now) _ e (refl, refl)
@@ -56,18 +38,18 @@ pub put-letter-spec : {M : Type 1} → statement M
 put-letter-spec =
     tie.close
     (tie.spec
-    cast-put-decimal
+    (λ c. search needs)
     put-decimal-requires
-    cast-put-decimal-2
+    (λ c. search needs)
     put-decimal-requires-2
     put-decimal-requires-3
     slice-write-out
     add-result
-    same-length
+    (λ c. search needs)
     returns
-    same-length-2
+    (λ c. search needs)
     returns-2
-    same-length-3
+    (λ c. search needs)
     returns-3
-    same-length-4
+    (λ c. search needs)
     returns-4)

@@ -11,12 +11,6 @@ use borrow.Author.Needs.{needs}
 use Rattle.messages.proofs.put_line.Statement.{statement}
 use Rattle.messages.proofs.put_line.Tie as tie
 
-slice-aggregate-put-filled : tie.Need-slice-aggregate-put-filled
-slice-aggregate-put-filled c = search needs
-
-slice-aggregate-put-filled-2 : tie.Need-slice-aggregate-put-filled-2
-slice-aggregate-put-filled-2 c = search needs
-
 put-filled-requires : tie.Need-put-filled-requires
 unfolding codes
 put-filled-requires c κs = let s = c .before .before .before .before in
@@ -24,21 +18,12 @@ put-filled-requires c κs = let s = c .before .before .before .before in
     let room = whole-length (refusalOf (a .q)) (codes beginning) (a .words .now) in
     omega (arith, room, s .pre)
 
-slice-aggregate-put-filled-3 : tie.Need-slice-aggregate-put-filled-3
-slice-aggregate-put-filled-3 c = search needs
-
 put-filled-requires-2 : tie.Need-put-filled-requires-2
 unfolding codes
 put-filled-requires-2 c κs = let s = c .before .before .before .before .before .before .before in
     let a = s .args in
     let room = whole-length (refusalOf (a .q)) (codes beginning) (a .words .now) in
     omega (arith, room, s .pre, c .before .before .put-filled .ensures .1)
-
-slice-aggregate-put-filled-4 : tie.Need-slice-aggregate-put-filled-4
-slice-aggregate-put-filled-4 c = search needs
-
-slice-aggregate-put-filled-5 : tie.Need-slice-aggregate-put-filled-5
-slice-aggregate-put-filled-5 c = search needs
 
 put-filled-requires-3 : tie.Need-put-filled-requires-3
 unfolding codes
@@ -62,12 +47,6 @@ slice-aggregate-put-first c = let s = c .before .before .before .before .before 
     let size : length (c .before .before .before .put-filled3 .last .0) ≡ lineRoom = search (needs, c .before .before .line6 .given) in
     sym (length-take-le (c .before .before .before .put-filled3 .result) (c .before .before .before .put-filled3 .last .0) (omega (arith, room, s .pre, size, c .before .before .before .before .before .before .before .before .before .before .put-filled .ensures .1, c .before .before .before .before .before .before .before .put-filled2 .ensures .1, c .before .before .before .put-filled3 .ensures .1)))
 
-put-first-requires : tie.Need-put-first-requires
-put-first-requires c κs = search needs
-
-same-length : tie.Need-same-length
-same-length c = search needs
-
 returns : tie.Need-returns
 unfolding codes
 returns c = let s = c .before .before .before .before .before .before .before .before .before .before .before .before .before .before .before .before .before .before in
@@ -85,16 +64,16 @@ pub put-line-spec : {M : Type 1} → statement M
 put-line-spec =
     tie.close
     (tie.spec
-    slice-aggregate-put-filled
-    slice-aggregate-put-filled-2
+    (λ c. search needs)
+    (λ c. search needs)
     put-filled-requires
-    slice-aggregate-put-filled-3
+    (λ c. search needs)
     put-filled-requires-2
-    slice-aggregate-put-filled-4
-    slice-aggregate-put-filled-5
+    (λ c. search needs)
+    (λ c. search needs)
     put-filled-requires-3
     array-share-prefix-line
     slice-aggregate-put-first
-    put-first-requires
-    same-length
+    (λ c κs. search needs)
+    (λ c. search needs)
     returns)

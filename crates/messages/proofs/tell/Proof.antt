@@ -9,28 +9,10 @@ use borrow.Author.Needs.{needs}
 use Rattle.messages.proofs.tell.Statement.{statement}
 use Rattle.messages.proofs.tell.Tie as tie
 
-line-of-requires : tie.Need-line-of-requires
-line-of-requires c κs = search needs
-
-line-end-requires : tie.Need-line-end-requires
-line-end-requires c κs = search needs
-
-sub-put-line : tie.Need-sub-put-line
-sub-put-line c = search needs
-
-part-put-line-start : tie.Need-part-put-line-start
-part-put-line-start c = search needs
-
-part-put-line-end : tie.Need-part-put-line-end
-part-put-line-end c = search needs
-
 put-line-requires : tie.Need-put-line-requires
 put-line-requires c κs = let a = c .before .before .before .before .before .before .args in
     let line = c .before .before .line-end .ensures .2 ∙ ap firstLine (c .before .before .before .line-of .ensures .1) in
     subst (λ (words : List ℕ). length (filled (refusalOf (a .q)) (template words)) ≤ lineRoom) (sym line) (c .before .before .before .before .before .before .pre)
-
-same-length : tie.Need-same-length
-same-length c = search needs
 
 returns : tie.Need-returns
 returns c = let a = c .before .before .before .before .before .before .before .before .before .args in
@@ -41,11 +23,11 @@ pub tell-spec : {M : Type 1} → statement M
 tell-spec =
     tie.close
     (tie.spec
-    line-of-requires
-    line-end-requires
-    sub-put-line
-    part-put-line-start
-    part-put-line-end
+    (λ c κs. search needs)
+    (λ c κs. search needs)
+    (λ c. search needs)
+    (λ c. search needs)
+    (λ c. search needs)
     put-line-requires
-    same-length
+    (λ c. search needs)
     returns)

@@ -8,24 +8,12 @@ use borrow.Author.Needs.{needs}
 use Rattle.programs.proofs.report.Statement.{statement}
 use Rattle.programs.proofs.report.Tie as tie
 
-enum-told : tie.Need-enum-told
-enum-told c = search needs
-
-enum-known-told : tie.Need-enum-known-told
-enum-known-told c = search needs
-
-message-requires : tie.Need-message-requires
-message-requires c κs = search needs
-
 returns : tie.Need-returns
 returns c = let a = c .before .before .before .args in nothing-put (a .error .now) ∙ sym (ap (λ (t : Told). putWhole (errorOf (refusedOf t)) (a .error .now)) (c .enum-told .given .1))
-
-same-length : tie.Need-same-length
-same-length c = search needs
 
 returns-2 : tie.Need-returns-2
 returns-2 c = let a = c .before .before .before .before .before .before .before .before .args in c .before .before .message .ensures ∙ sym (ap (λ (t : Told). putWhole (errorOf (refusedOf t)) (a .error .now)) (c .before .before .before .before .before .told .given .1))
 
 pub report-spec : {M : Type 1} → statement M
 report-spec =
-    tie.close (tie.spec enum-told enum-known-told message-requires returns same-length returns-2)
+    tie.close (tie.spec (λ c. search needs) (λ c. search needs) (λ c κs. search needs) returns (λ c. search needs) returns-2)

@@ -13,21 +13,9 @@ use borrow.Author.Needs.{needs}
 use Rattle.calls.proofs.find.find_job.Statement.{statement}
 use Rattle.calls.proofs.find.find_job.Tie as tie
 
-slice-aggregate-load-job : tie.Need-slice-aggregate-load-job
-slice-aggregate-load-job c = search needs
-
-slice-aggregate-load-job-2 : tie.Need-slice-aggregate-load-job-2
-slice-aggregate-load-job-2 c = search needs
-
 load-job-requires : tie.Need-load-job-requires
 load-job-requires c κs = let s = c .before .before .before .before .before in
     (job-asked (s .args .file .now) (jobAt (s .args .file .now) (s .args .job)) (s .pre .0), length-replicate {A = ℕ} tableWords 0, refl)
-
-slice-aggregate-find-loaded : tie.Need-slice-aggregate-find-loaded
-slice-aggregate-find-loaded c = search needs
-
-slice-aggregate-find-loaded-2 : tie.Need-slice-aggregate-find-loaded-2
-slice-aggregate-find-loaded-2 c = search needs
 
 find-loaded-requires : tie.Need-find-loaded-requires
 find-loaded-requires c κs = let s = c .before .before .before .before .before .before .before .before .before .before .before .before in
@@ -41,12 +29,6 @@ find-loaded-requires c κs = let s = c .before .before .before .before .before .
       planes-loaded f valid _ _ (r .ensures .0) (r .ensures .1),
     )
 
-same-length : tie.Need-same-length
-same-length c = search needs
-
-same-length-2 : tie.Need-same-length-2
-same-length-2 c = search needs
-
 returns : tie.Need-returns
 returns c = find-joined _ _ _ _ _ _ _ (c .before .before .before .before .find-loaded .ensures) (c .before .before .before .before .before .before .before .before .before .before .before .load-job .ensures .0) (c .before .before .before .before .before .before .before .before .before .before .before .load-job .ensures .1)
 
@@ -54,12 +36,12 @@ pub find-job-spec : {M : Type 1} → statement M
 find-job-spec =
     tie.close
     (tie.spec
-    slice-aggregate-load-job
-    slice-aggregate-load-job-2
+    (λ c. search needs)
+    (λ c. search needs)
     load-job-requires
-    slice-aggregate-find-loaded
-    slice-aggregate-find-loaded-2
+    (λ c. search needs)
+    (λ c. search needs)
     find-loaded-requires
-    same-length
-    same-length-2
+    (λ c. search needs)
+    (λ c. search needs)
     returns)

@@ -27,43 +27,10 @@ left c =
     ∙ search-goes (a .job .n) (a .job .mode) (a .graph .now) (a .measured .now) (a .job .inputs) (a .job .outputs) (a .work .now) (zeros capacity) (zeros tableWords) (s .pre .0 .0) (s .pre .0 .2)
     (s .pre .0 .1, s .pre .0 .3, length-replicate {A = ℕ} capacity 0, length-replicate {A = ℕ} tableWords 0) (s .pre .1)
 
-slice-aggregate-search : tie.Need-slice-aggregate-search
-slice-aggregate-search c = search needs
-
-slice-aggregate-search-2 : tie.Need-slice-aggregate-search-2
-slice-aggregate-search-2 c = search needs
-
-search-requires : tie.Need-search-requires
-search-requires c κs = search needs
-
-enum-told : tie.Need-enum-told
-enum-told c = search needs
-
-slice-aggregate-write-found : tie.Need-slice-aggregate-write-found
-slice-aggregate-write-found c = search needs
-
-slice-aggregate-write-found-2 : tie.Need-slice-aggregate-write-found-2
-slice-aggregate-write-found-2 c = search needs
-
 write-found-requires : tie.Need-write-found-requires
 write-found-requires c κs = let s = c .before .before .before .before .before .before .before .before .before .before .before .before .before .before .before .before .before .before in
     let size : length (c .before .before .before .before .before .before .before .before .before .search .last .1 .1 .1 .1 .1 .1 .1 .0) ≡ capacity = search needs in
     omega (arith, s .pre .0 .0, size)
-
-enum-told-2 : tie.Need-enum-told-2
-enum-told-2 c = search needs
-
-write-bare-requires : tie.Need-write-bare-requires
-write-bare-requires c κs = search needs
-
-enum-known-q : tie.Need-enum-known-q
-enum-known-q c = search needs
-
-same-length : tie.Need-same-length
-same-length c = search needs
-
-same-length-2 : tie.Need-same-length-2
-same-length-2 c = search needs
 
 returns : tie.Need-returns
 returns c = let s = c .before .before .before .before .before .before .before .before .before .before .before .before .before .before .before .before .before .before .before .before .before in
@@ -76,12 +43,6 @@ returns c = let s = c .before .before .before .before .before .before .before .b
     ∙ flow-written (a .job .n) (a .job .mode) (a .graph .now) (a .measured .now) (a .job .inputs) (a .job .outputs) (s .pre .0 .0) told in
     put-is _ (a .out .now) _ _ (zeros workBytes) _ (wrote .ensures .0 ∙ ap (λ (b : List ℕ). putAnswer b (a .out .now)) bytes) (wrote .ensures .1 ∙ ap (λ (b : List ℕ). putFront b (a .out .now)) bytes) (ap (λ (o : SearchOutcome). o .work) e)
 
-same-length-3 : tie.Need-same-length-3
-same-length-3 c = search needs
-
-same-length-4 : tie.Need-same-length-4
-same-length-4 c = search needs
-
 returns-2 : tie.Need-returns-2
 returns-2 c = let s = c .before .before .before .before .before .before .before .before .before .before .before .before .before .before .before .before .before .before .before in
     let a = s .args in
@@ -91,9 +52,6 @@ returns-2 c = let s = c .before .before .before .before .before .before .before 
     let bytes = none-written (a .job .n) (a .job .mode) (a .graph .now) (a .measured .now) (a .job .inputs) (a .job .outputs) told in
     put-is _ (a .out .now) _ _ (zeros workBytes) _ (wrote .ensures .0 ∙ ap (λ (b : List ℕ). putAnswer b (a .out .now)) bytes) (wrote .ensures .1 ∙ ap (λ (b : List ℕ). putFront b (a .out .now)) bytes) (ap (λ (o : SearchOutcome). o .work) e)
 
-same-length-5 : tie.Need-same-length-5
-same-length-5 c = search needs
-
 returns-3 : tie.Need-returns-3
 returns-3 c = absurd (told-right _ _ (ap (λ (o : SearchOutcome). o .answer) (left (c .before .before .before))) _ (c .before .q .given .1))
 
@@ -101,21 +59,21 @@ pub find-loaded-spec : {M : Type 1} → statement M
 find-loaded-spec =
     tie.close
     (tie.spec
-    slice-aggregate-search
-    slice-aggregate-search-2
-    search-requires
-    enum-told
-    slice-aggregate-write-found
-    slice-aggregate-write-found-2
+    (λ c. search needs)
+    (λ c. search needs)
+    (λ c κs. search needs)
+    (λ c. search needs)
+    (λ c. search needs)
+    (λ c. search needs)
     write-found-requires
-    enum-told-2
-    write-bare-requires
-    enum-known-q
-    same-length
-    same-length-2
+    (λ c. search needs)
+    (λ c κs. search needs)
+    (λ c. search needs)
+    (λ c. search needs)
+    (λ c. search needs)
     returns
-    same-length-3
-    same-length-4
+    (λ c. search needs)
+    (λ c. search needs)
     returns-2
-    same-length-5
+    (λ c. search needs)
     returns-3)

@@ -27,9 +27,6 @@ returns c = let s = c .before .before .before .before .before in
     let left = length-drop (a .job .end) (a .file .now) in
     find-left (a .file .now) (a .work .now) (a .out .now) f (s .pre .0) (ne-eqb (length (f .after)) 0 (omega (arith, left)))
 
-has-search-requires : tie.Need-has-search-requires
-has-search-requires c κs = search needs
-
 returns-2 : tie.Need-returns-2
 returns-2 c = let s = c .before .before .before .before .before .before .before in
     let a = s .args in
@@ -43,12 +40,6 @@ returns-3 c = let s = c .before .before .before .before .before .before .before 
 find-job-requires : tie.Need-find-job-requires
 find-job-requires c κs = (c .before .before .before .before .before .before .before .before .before .before .pre .0, omega arith)
 
-same-length : tie.Need-same-length
-same-length c = search needs
-
-same-length-2 : tie.Need-same-length-2
-same-length-2 c = search needs
-
 returns-4 : tie.Need-returns-4
 returns-4 c = let s = c .before .before .before .before .before .before .before .before .before .before .before .before .before .before .before in
     let a = s .args in
@@ -61,10 +52,10 @@ find-read-spec =
     tie.close
     (tie.spec
     returns
-    has-search-requires
+    (λ c κs. search needs)
     returns-2
     returns-3
     find-job-requires
-    same-length
-    same-length-2
+    (λ c. search needs)
+    (λ c. search needs)
     returns-4)

@@ -13,30 +13,6 @@ use Rattle.records.specs.Writing.{layerBytes, flowRecords}
 use Rattle.calls.proofs.find.write_found.Statement.{statement}
 use Rattle.calls.proofs.find.write_found.Tie as tie
 
-below-requires : tie.Need-below-requires
-below-requires c κs = search needs
-
-difference-requires : tie.Need-difference-requires
-difference-requires c κs = search needs
-
-sub-write-flow : tie.Need-sub-write-flow
-sub-write-flow c = search needs
-
-part-write-flow-start : tie.Need-part-write-flow-start
-part-write-flow-start c = search needs
-
-part-write-flow-end : tie.Need-part-write-flow-end
-part-write-flow-end c = search needs
-
-write-flow-requires : tie.Need-write-flow-requires
-write-flow-requires c κs = search needs
-
-answered-requires : tie.Need-answered-requires
-answered-requires c κs = search needs
-
-same-length : tie.Need-same-length
-same-length c = search needs
-
 returns : tie.Need-returns
 returns c = let a = c .before .before .before .before .before .before .before .before .before .before .before .args in
     let l = a .layers .now in
@@ -50,12 +26,12 @@ pub write-found-spec : {M : Type 1} → statement M
 write-found-spec =
     tie.close
     (tie.spec
-    below-requires
-    difference-requires
-    sub-write-flow
-    part-write-flow-start
-    part-write-flow-end
-    write-flow-requires
-    answered-requires
-    same-length
+    (λ c κs. search needs)
+    (λ c κs. search needs)
+    (λ c. search needs)
+    (λ c. search needs)
+    (λ c. search needs)
+    (λ c κs. search needs)
+    (λ c κs. search needs)
+    (λ c. search needs)
     returns)

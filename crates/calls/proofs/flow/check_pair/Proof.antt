@@ -44,41 +44,11 @@ around c =
     (λ k. ap (λ (f : ℕ → Bool). f k) (d .intersection .ensures) ∙ rw (e .set-at .ensures, m .not-later .ensures))
     ∙ sym (c .in-order .ensures)
 
-layer-at-requires : tie.Need-layer-at-requires
-layer-at-requires c κs = search needs
-
-layer-at-requires-2 : tie.Need-layer-at-requires-2
-layer-at-requires-2 c κs = search needs
-
-cast-t11 : tie.Need-cast-t11
-cast-t11 c = search needs
-
-cast-t12 : tie.Need-cast-t12
-cast-t12 c = search needs
-
 returns : tie.Need-returns
 returns c = let t = c .before in
     let s = t .before .before .before .before in
     let l : t .layer-at2 .result ≤ t .before .layer-at .result = omega arith in
     pair-late (G s) (F s) (s .args .i) (s .args .k) (rw (← t .before .layer-at .ensures, ← t .layer-at2 .ensures) (le-ltb _ _ l))
-
-set-at-requires : tie.Need-set-at-requires
-set-at-requires c κs = search needs
-
-not-later-requires : tie.Need-not-later-requires
-not-later-requires c κs = search needs
-
-intersection-requires : tie.Need-intersection-requires
-intersection-requires c κs = search needs
-
-in-order-requires : tie.Need-in-order-requires
-in-order-requires c κs = search needs
-
-enum-told : tie.Need-enum-told
-enum-told c = search needs
-
-enum-told-2 : tie.Need-enum-told-2
-enum-told-2 c = search needs
 
 returns-2 : tie.Need-returns-2
 returns-2 c = let m = c .before .before in
@@ -86,15 +56,6 @@ returns-2 c = let m = c .before .before in
     let s = start e in
     let t = ap askedOf (c .enum-told2 .given .1) in
     t ∙ sym (pair-around (G s) (F s) (s .args .i) (s .args .k) (late e) _ (around m ∙ t))
-
-has-requires : tie.Need-has-requires
-has-requires c κs = search needs
-
-cast-t17 : tie.Need-cast-t17
-cast-t17 c = search needs
-
-cast-t18 : tie.Need-cast-t18
-cast-t18 c = search needs
 
 returns-3 : tie.Need-returns-3
 returns-3 c = let h = c .before in
@@ -118,20 +79,20 @@ pub check-pair-spec : {M : Type 1} → statement M
 check-pair-spec =
     tie.close
     (tie.spec
-    layer-at-requires
-    layer-at-requires-2
-    cast-t11
-    cast-t12
+    (λ c κs. search needs)
+    (λ c κs. search needs)
+    (λ c. search needs)
+    (λ c. search needs)
     returns
-    set-at-requires
-    not-later-requires
-    intersection-requires
-    in-order-requires
-    enum-told
-    enum-told-2
+    (λ c κs. search needs)
+    (λ c κs. search needs)
+    (λ c κs. search needs)
+    (λ c κs. search needs)
+    (λ c. search needs)
+    (λ c. search needs)
     returns-2
-    has-requires
-    cast-t17
-    cast-t18
+    (λ c κs. search needs)
+    (λ c. search needs)
+    (λ c. search needs)
     returns-3
     returns-4)

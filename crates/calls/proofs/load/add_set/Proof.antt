@@ -8,18 +8,6 @@ use Rattle.calls.proofs.LoadingEdges.{put-union}
 use Rattle.calls.proofs.load.add_set.Statement.{statement}
 use Rattle.calls.proofs.load.add_set.Tie as tie
 
-set-at-requires : tie.Need-set-at-requires
-set-at-requires c κs = search needs
-
-union-requires : tie.Need-union-requires
-union-requires c κs = search needs
-
-put-set-requires : tie.Need-put-set-requires
-put-set-requires c κs = search needs
-
-same-length : tie.Need-same-length
-same-length c = search needs
-
 returns : tie.Need-returns
 returns c v w = let p = c .before .before in
     let n = p .before in
@@ -30,4 +18,4 @@ returns c v w = let p = c .before .before in
 
 pub add-set-spec : {M : Type 1} → statement M
 add-set-spec =
-    tie.close (tie.spec set-at-requires union-requires put-set-requires same-length returns)
+    tie.close (tie.spec (λ c κs. search needs) (λ c κs. search needs) (λ c κs. search needs) (λ c. search needs) returns)

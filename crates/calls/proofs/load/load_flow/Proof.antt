@@ -12,27 +12,15 @@ use borrow.Author.Needs.{needs}
 use Rattle.calls.proofs.load.load_flow.Statement.{statement}
 use Rattle.calls.proofs.load.load_flow.Tie as tie
 
-payload-requires : tie.Need-payload-requires
-payload-requires c κs = search needs
-
 load-layers-requires : tie.Need-load-layers-requires
 load-layers-requires c κs = let s = c .before .before .before .before .before .before in
     let zero = s .pre .1 .0 in
     let size : length (s .args .layers .now) ≡ capacity = ap length zero ∙ length-replicate {A = ℕ} capacity 0 in
     (omega (arith, ap length (c .before .payload .ensures), s .pre .0 .0, size), zero ∙ ap zeros (sym size))
 
-payload-requires-2 : tie.Need-payload-requires-2
-payload-requires-2 c κs = search needs
-
 load-sets-requires : tie.Need-load-sets-requires
 load-sets-requires c κs = let s = c .before .before .before .before .before .before .before .before .before .before .before .before in
     (s .pre .1 .1, ap (λ (l : List ℕ). allEntries (entryBelow capacity) (listed (entriesOf l))) (c .before .payload2 .ensures) ∙ s .pre .0 .1)
-
-same-length : tie.Need-same-length
-same-length c = search needs
-
-same-length-2 : tie.Need-same-length-2
-same-length-2 c = search needs
 
 returns : tie.Need-returns
 returns c = let s = c .before .before .before .before .before .before .before .before .before .before .before .before .before .before .before in
@@ -45,10 +33,10 @@ pub load-flow-spec : {M : Type 1} → statement M
 load-flow-spec =
     tie.close
     (tie.spec
-    payload-requires
+    (λ c κs. search needs)
     load-layers-requires
-    payload-requires-2
+    (λ c κs. search needs)
     load-sets-requires
-    same-length
-    same-length-2
+    (λ c. search needs)
+    (λ c. search needs)
     returns)

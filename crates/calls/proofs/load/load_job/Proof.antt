@@ -15,17 +15,11 @@ use borrow.Author.Needs.{needs}
 use Rattle.calls.proofs.load.load_job.Statement.{statement}
 use Rattle.calls.proofs.load.load_job.Tie as tie
 
-payload-requires : tie.Need-payload-requires
-payload-requires c κs = search needs
-
 load-graph-requires : tie.Need-load-graph-requires
 load-graph-requires c κs = let s = c .before .before .before .before .before .before in
     let f = jobAt (s .args .file .now) (s .args .job) in
     let v = s .pre .0 in
     (s .pre .1, ap (all (λ v. ltb v capacity)) (c .before .payload .ensures) ∙ edges-fit (f .n) (f .edges) (v .few) (v .edgesBelow))
-
-payload-requires-2 : tie.Need-payload-requires-2
-payload-requires-2 c κs = search needs
 
 load-bytes-requires : tie.Need-load-bytes-requires
 load-bytes-requires c κs = let s = c .before .before .before .before .before .before .before .before .before .before .before .before in
@@ -33,24 +27,6 @@ load-bytes-requires c κs = let s = c .before .before .before .before .before .b
     let zero = s .pre .2 in
     let size : length (s .args .measured .now) ≡ capacity = ap length zero ∙ length-replicate {A = ℕ} capacity 0 in
     (omega (arith, ap length (c .before .payload2 .ensures), v .count, v .few, size), zero ∙ ap zeros (sym size))
-
-payload-requires-3 : tie.Need-payload-requires-3
-payload-requires-3 c κs = search needs
-
-set-of-requires : tie.Need-set-of-requires
-set-of-requires c κs = search needs
-
-payload-requires-4 : tie.Need-payload-requires-4
-payload-requires-4 c κs = search needs
-
-set-of-requires-2 : tie.Need-set-of-requires-2
-set-of-requires-2 c κs = search needs
-
-same-length : tie.Need-same-length
-same-length c = search needs
-
-same-length-2 : tie.Need-same-length-2
-same-length-2 c = search needs
 
 returns : tie.Need-returns
 returns c = let s = c .before .before .before .before .before .before .before .before .before .before .before .before .before .before .before .before .before .before .before .before .before in
@@ -67,14 +43,14 @@ pub load-job-spec : {M : Type 1} → statement M
 load-job-spec =
     tie.close
     (tie.spec
-    payload-requires
+    (λ c κs. search needs)
     load-graph-requires
-    payload-requires-2
+    (λ c κs. search needs)
     load-bytes-requires
-    payload-requires-3
-    set-of-requires
-    payload-requires-4
-    set-of-requires-2
-    same-length
-    same-length-2
+    (λ c κs. search needs)
+    (λ c κs. search needs)
+    (λ c κs. search needs)
+    (λ c κs. search needs)
+    (λ c. search needs)
+    (λ c. search needs)
     returns)

@@ -10,18 +10,6 @@ use borrow.Author.Needs.{needs}
 use Rattle.calls.proofs.load.load_sets.Statement.{statement}
 use Rattle.calls.proofs.load.load_sets.Tie as tie
 
-entries-end-requires : tie.Need-entries-end-requires
-entries-end-requires c κs = search needs
-
-clear-table-requires : tie.Need-clear-table-requires
-clear-table-requires c κs = search needs
-
-empty-requires : tie.Need-empty-requires
-empty-requires c κs = search needs
-
-same-length : tie.Need-same-length
-same-length c = search needs
-
 returns : tie.Need-returns
 returns c = let t = c .before .before .before in
     let e = t .before .before .before in
@@ -37,21 +25,15 @@ load-entries-requires c κs = let i = c .before in
     let s = e .before .before .before in
     (s .pre .0, (sym (e .entries-end .ensures) ∙ not-false _ (i .if1 .left), s .pre .1))
 
-same-length-2 : tie.Need-same-length-2
-same-length-2 c = search needs
-
-returns-2 : tie.Need-returns-2
-returns-2 c = search needs
-
 pub load-sets-spec : {M : Type 1} → statement M
 load-sets-spec =
     tie.close
     (tie.spec
-    entries-end-requires
-    clear-table-requires
-    empty-requires
-    same-length
+    (λ c κs. search needs)
+    (λ c κs. search needs)
+    (λ c κs. search needs)
+    (λ c. search needs)
     returns
     load-entries-requires
-    same-length-2
-    returns-2)
+    (λ c. search needs)
+    (λ c. search needs))

@@ -10,28 +10,10 @@ use borrow.Author.Needs.{needs}
 use Rattle.calls.proofs.pflow.check_measurement.Statement.{statement}
 use Rattle.calls.proofs.pflow.check_measurement.Tie as tie
 
-is-empty-requires : tie.Need-is-empty-requires
-is-empty-requires c κs = search needs
-
-cast-t8 : tie.Need-cast-t8
-cast-t8 c = search needs
-
 returns : tie.Need-returns
 returns c = let e = c .before in
     let a = e .before .args in
     sym (next-stops (firstIn (member (a .wrong)) (λ k. record { number = 19; a = a .i; b = 0 })) _ _ (sym (first-some (member (a .wrong)) (λ k. record { number = 19; a = a .i; b = 0 }) (is-true (anyBelow capacity (member (a .wrong))) (unless-in (e .is-empty .result) (anyBelow capacity (member (a .wrong))) (e .is-empty .ensures) (c .if1 .taken))))))
-
-has-requires : tie.Need-has-requires
-has-requires c κs = search needs
-
-has-requires-2 : tie.Need-has-requires-2
-has-requires-2 c κs = search needs
-
-own-holds-requires : tie.Need-own-holds-requires
-own-holds-requires c κs = search needs
-
-cast-t12 : tie.Need-cast-t12
-cast-t12 c = search needs
 
 returns-2 : tie.Need-returns-2
 returns-2 c = let o = c .before in
@@ -55,12 +37,12 @@ pub check-measurement-spec : {M : Type 1} → statement M
 check-measurement-spec =
     tie.close
     (tie.spec
-    is-empty-requires
-    cast-t8
+    (λ c κs. search needs)
+    (λ c. search needs)
     returns
-    has-requires
-    has-requires-2
-    own-holds-requires
-    cast-t12
+    (λ c κs. search needs)
+    (λ c κs. search needs)
+    (λ c κs. search needs)
+    (λ c. search needs)
     returns-2
     returns-3)

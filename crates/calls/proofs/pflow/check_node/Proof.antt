@@ -83,32 +83,8 @@ third c =
     (odd-past (s .args .n) (setAt (s .args .graph .now)) (F s .set (s .args .i)) (set-past (s .args .graph .now)))
     (λ k. ap (λ (f : ℕ → Bool). f k) (c .intersection4 .ensures) ∙ rw (m .intersection3 .ensures, x .xor .ensures, set-odd o, e .set-at .ensures, e .before .not-later .ensures, s .pre .1 .ys))
 
-has-requires : tie.Need-has-requires
-has-requires c κs = search needs
-
 returns : tie.Need-returns
 returns c = let s = c .before .before .before .before .before .before in node-output (G s) (F s) (s .args .mode) (s .args .i) (sym (c .before .has .ensures) ∙ c .if1 .taken)
-
-not-later-requires : tie.Need-not-later-requires
-not-later-requires c κs = search needs
-
-set-at-requires : tie.Need-set-at-requires
-set-at-requires c κs = search needs
-
-difference-requires : tie.Need-difference-requires
-difference-requires c κs = search needs
-
-intersection-requires : tie.Need-intersection-requires
-intersection-requires c κs = search needs
-
-in-order-requires : tie.Need-in-order-requires
-in-order-requires c κs = search needs
-
-enum-told : tie.Need-enum-told
-enum-told c = search needs
-
-enum-told-2 : tie.Need-enum-told-2
-enum-told-2 c = search needs
 
 returns-2 : tie.Need-returns-2
 returns-2 c = let m = c .before .before in
@@ -117,23 +93,8 @@ returns-2 c = let m = c .before .before in
     let t = ap askedOf (c .enum-told2 .given .1) in
     t ∙ sym (node-members (G s) (F s) (s .args .mode) (s .args .i) (plain e) (s .pre .0 .2) _ (first m ∙ t))
 
-odd-of-requires : tie.Need-odd-of-requires
-odd-of-requires c κs = search needs
-
-difference-requires-2 : tie.Need-difference-requires-2
-difference-requires-2 c κs = search needs
-
-intersection-requires-2 : tie.Need-intersection-requires-2
-intersection-requires-2 c κs = search needs
-
 in-order-requires-2 : tie.Need-in-order-requires-2
 in-order-requires-2 c κs = c .before .before .before .before .before .before .before .before .before .before .before .before .before .before .before .before .before .before .pre .0 .1
-
-enum-told-3 : tie.Need-enum-told-3
-enum-told-3 c = search needs
-
-enum-told-4 : tie.Need-enum-told-4
-enum-told-4 c = search needs
 
 returns-3 : tie.Need-returns-3
 returns-3 c = let l = c .before .before in
@@ -143,18 +104,6 @@ returns-3 c = let l = c .before .before in
     let s = start e in
     let x = ap askedOf (c .enum-told4 .given .1) in
     x ∙ sym (node-odd (G s) (F s) (s .args .mode) (s .args .i) (plain e) (s .pre .0 .2) (first m ∙ ap askedOf (t .enum-told .given .1)) _ (second l ∙ x))
-
-xor-requires : tie.Need-xor-requires
-xor-requires c κs = search needs
-
-intersection-requires-3 : tie.Need-intersection-requires-3
-intersection-requires-3 c κs = search needs
-
-intersection-requires-4 : tie.Need-intersection-requires-4
-intersection-requires-4 c κs = search needs
-
-byte-at-requires : tie.Need-byte-at-requires
-byte-at-requires c κs = search needs
 
 check-measurement-requires : tie.Need-check-measurement-requires
 check-measurement-requires c κs = c .before .before .before .before .before .before .before .before .before .before .before .before .before .before .before .before .before .before .before .before .before .before .before .before .before .before .pre .0 .1
@@ -174,26 +123,26 @@ pub check-node-spec : {M : Type 1} → statement M
 check-node-spec =
     tie.close
     (tie.spec
-    has-requires
+    (λ c κs. search needs)
     returns
-    not-later-requires
-    set-at-requires
-    difference-requires
-    intersection-requires
-    in-order-requires
-    enum-told
-    enum-told-2
+    (λ c κs. search needs)
+    (λ c κs. search needs)
+    (λ c κs. search needs)
+    (λ c κs. search needs)
+    (λ c κs. search needs)
+    (λ c. search needs)
+    (λ c. search needs)
     returns-2
-    odd-of-requires
-    difference-requires-2
-    intersection-requires-2
+    (λ c κs. search needs)
+    (λ c κs. search needs)
+    (λ c κs. search needs)
     in-order-requires-2
-    enum-told-3
-    enum-told-4
+    (λ c. search needs)
+    (λ c. search needs)
     returns-3
-    xor-requires
-    intersection-requires-3
-    intersection-requires-4
-    byte-at-requires
+    (λ c κs. search needs)
+    (λ c κs. search needs)
+    (λ c κs. search needs)
+    (λ c κs. search needs)
     check-measurement-requires
     returns-4)

@@ -11,9 +11,6 @@ use borrow.Author.Needs.{needs}
 use Rattle.calls.proofs.pflow.excused_by.Statement.{statement}
 use Rattle.calls.proofs.pflow.excused_by.Tie as tie
 
-empty-requires : tie.Need-empty-requires
-empty-requires c κs = search needs
-
 returns : tie.Need-returns
 returns c = let a = c .before .before .before .args in
     let other = ne-eqb (a .mode) modePauli (c .before .if1 .taken) in
@@ -22,30 +19,6 @@ returns c = let a = c .before .before .before .args in
       odds = c .empty .ensures ∙ fun-ext (λ v. sym (rw other (and-none (within (a .n) v))));
       ys = c .empty .ensures ∙ fun-ext (λ v. sym (rw other (and-none (within (a .n) v))));
     }
-
-nodes-from-requires : tie.Need-nodes-from-requires
-nodes-from-requires c κs = search needs
-
-nodes-from-requires-2 : tie.Need-nodes-from-requires-2
-nodes-from-requires-2 c κs = search needs
-
-nodes-from-requires-3 : tie.Need-nodes-from-requires-3
-nodes-from-requires-3 c κs = search needs
-
-add-nodes-from : tie.Need-add-nodes-from
-add-nodes-from c = search needs
-
-nodes-from-requires-4 : tie.Need-nodes-from-requires-4
-nodes-from-requires-4 c κs = search needs
-
-difference-requires : tie.Need-difference-requires
-difference-requires c κs = search needs
-
-difference-requires-2 : tie.Need-difference-requires-2
-difference-requires-2 c κs = search needs
-
-difference-requires-3 : tie.Need-difference-requires-3
-difference-requires-3 c κs = search needs
 
 returns-2 : tie.Need-returns-2
 returns-2 c = let b = c .before in
@@ -66,14 +39,14 @@ pub excused-by-spec : {M : Type 1} → statement M
 excused-by-spec =
     tie.close
     (tie.spec
-    empty-requires
+    (λ c κs. search needs)
     returns
-    nodes-from-requires
-    nodes-from-requires-2
-    nodes-from-requires-3
-    add-nodes-from
-    nodes-from-requires-4
-    difference-requires
-    difference-requires-2
-    difference-requires-3
+    (λ c κs. search needs)
+    (λ c κs. search needs)
+    (λ c κs. search needs)
+    (λ c. search needs)
+    (λ c κs. search needs)
+    (λ c κs. search needs)
+    (λ c κs. search needs)
+    (λ c κs. search needs)
     returns-2)

@@ -5,21 +5,9 @@ use borrow.Author.Needs.{needs}
 use Rattle.calls.proofs.validate.check_domain.Statement.{statement}
 use Rattle.calls.proofs.validate.check_domain.Tie as tie
 
-check-codomain-requires : tie.Need-check-codomain-requires
-check-codomain-requires c κs = search needs
-
-enum-told : tie.Need-enum-told
-enum-told c = search needs
-
-enum-told-2 : tie.Need-enum-told-2
-enum-told-2 c = search needs
-
 returns : tie.Need-returns
 returns c = let t = ap askedOf (c .enum-told2 .given .1) in
     t ∙ sym (next-stops _ _ _ (sym (c .before .before .check-codomain .ensures) ∙ t))
-
-check-members-requires : tie.Need-check-members-requires
-check-members-requires c κs = search needs
 
 returns-2 : tie.Need-returns-2
 returns-2 c = c .check-members .ensures ∙ sym (next-goes _ _ (sym (c .before .before .before .check-codomain .ensures) ∙ ap askedOf (c .before .enum-told .given .1)))
@@ -28,9 +16,9 @@ pub check-domain-spec : {M : Type 1} → statement M
 check-domain-spec =
     tie.close
     (tie.spec
-    check-codomain-requires
-    enum-told
-    enum-told-2
+    (λ c κs. search needs)
+    (λ c. search needs)
+    (λ c. search needs)
     returns
-    check-members-requires
+    (λ c κs. search needs)
     returns-2)

@@ -7,9 +7,6 @@ use Rattle.calls.proofs.validate.check_layer.Statement.{statement}
 use Rattle.calls.proofs.validate.check_layer.Tie as tie
 use borrow.Author.Needs.{needs}
 
-cast-t7 : tie.Need-cast-t7
-cast-t7 c = search needs
-
 returns : tie.Need-returns
 unfolding ask
 returns c = let o = c .before in simp (o .if1 .taken, ne-eqb _ 0 (c .if2 .taken))
@@ -22,9 +19,6 @@ returns-3 : tie.Need-returns-3
 unfolding ask
 returns-3 c = let o = c .before in simp (o .if1 .left, eq-eqb _ 3 (c .if3 .taken))
 
-cast-t9 : tie.Need-cast-t9
-cast-t9 c = search needs
-
 returns-4 : tie.Need-returns-4
 unfolding ask
 returns-4 c = let o = c .before .before in let a = o .before .args in let z : a .layer ≡ 0 = c .if4 .taken in simp (o .if1 .left, ne-eqb _ 3 (c .before .if3 .left), z)
@@ -35,4 +29,4 @@ returns-5 c = let o = c .before .before in let a = o .before .args in let z : 0 
 
 pub check-layer-spec : {M : Type 1} → statement M
 check-layer-spec =
-    tie.close (tie.spec cast-t7 returns returns-2 returns-3 cast-t9 returns-4 returns-5)
+    tie.close (tie.spec (λ c. search needs) returns returns-2 returns-3 (λ c. search needs) returns-4 returns-5)

@@ -29,29 +29,11 @@ bare c =
     measured-first (a .n) (member (a .entries)) (member (d .difference .result)) (λ u. getD (a .measured .now) u 0) (λ k l. member-past (wordsOf (a .entries)) k l)
     (d .difference .ensures ∙ fun-ext (λ k. rw (m .intersection .ensures, s .nodes-from .ensures, s .before .below .ensures)))
 
-below-requires : tie.Need-below-requires
-below-requires c κs = search needs
-
-nodes-from-requires : tie.Need-nodes-from-requires
-nodes-from-requires c κs = search needs
-
-intersection-requires : tie.Need-intersection-requires
-intersection-requires c κs = search needs
-
-difference-requires : tie.Need-difference-requires
-difference-requires c κs = search needs
-
-is-empty-requires : tie.Need-is-empty-requires
-is-empty-requires c κs = search needs
-
 returns : tie.Need-returns
 returns c = let e = c .before in
     let a = e .before .before .before .before .before .before .args in
     first-none (member (e .before .difference .result)) (λ u. record { number = 17; a = u; b = 0 }) (not-true _ (sym (e .is-empty .ensures) ∙ c .if1 .taken))
     ∙ sym (bare e)
-
-lowest-requires : tie.Need-lowest-requires
-lowest-requires c κs = search needs
 
 cast-t10 : tie.Need-cast-t10
 cast-t10 c = omega (arith, c .lowest .ensures, lowest-some capacity (member (c .before .before .before .difference .result)) (from-true (anyBelow capacity (member (c .before .before .before .difference .result))) (not-false _ (sym (c .before .before .is-empty .ensures) ∙ c .before .if1 .left))))
@@ -66,12 +48,12 @@ pub check-measured-spec : {M : Type 1} → statement M
 check-measured-spec =
     tie.close
     (tie.spec
-    below-requires
-    nodes-from-requires
-    intersection-requires
-    difference-requires
-    is-empty-requires
+    (λ c κs. search needs)
+    (λ c κs. search needs)
+    (λ c κs. search needs)
+    (λ c κs. search needs)
+    (λ c κs. search needs)
     returns
-    lowest-requires
+    (λ c κs. search needs)
     cast-t10
     returns-2)

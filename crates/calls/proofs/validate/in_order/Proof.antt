@@ -11,18 +11,9 @@ use borrow.Author.Needs.{needs}
 use Rattle.calls.proofs.validate.in_order.Statement.{statement}
 use Rattle.calls.proofs.validate.in_order.Tie as tie
 
-is-empty-requires : tie.Need-is-empty-requires
-is-empty-requires c κs = search needs
-
 returns : tie.Need-returns
 returns c = let a = c .before .before .args in
     first-none (member (a .early)) (λ k. record { number = 18; a = a .i; b = k }) (not-true _ (sym (c .before .is-empty .ensures) ∙ c .if1 .taken))
-
-cast-t4 : tie.Need-cast-t4
-cast-t4 c = search needs
-
-lowest-requires : tie.Need-lowest-requires
-lowest-requires c κs = search needs
 
 cast-t6 : tie.Need-cast-t6
 cast-t6 c = omega (arith, c .lowest .ensures, lowest-le capacity (member (c .before .before .before .args .early)))
@@ -35,4 +26,4 @@ returns-2 c = let b = c .before .before in
 
 pub in-order-spec : {M : Type 1} → statement M
 in-order-spec =
-    tie.close (tie.spec is-empty-requires returns cast-t4 lowest-requires cast-t6 returns-2)
+    tie.close (tie.spec (λ c κs. search needs) returns (λ c. search needs) (λ c κs. search needs) cast-t6 returns-2)

@@ -5,17 +5,8 @@ use borrow.Author.Needs.{needs}
 use Rattle.calls.proofs.validate.layer_at.Statement.{statement}
 use Rattle.calls.proofs.validate.layer_at.Tie as tie
 
-mul-result : tie.Need-mul-result
-mul-result c = search needs
-
-shared-slice-read-result : tie.Need-shared-slice-read-result
-shared-slice-read-result c = search needs
-
-returns : tie.Need-returns
-returns c = search needs
-
 returns-2 : tie.Need-returns-2
 returns-2 c = let a = c .before .args in sym (List·getD-eq-default (a .layers .now) 0 (omega arith))
 
 pub layer-at-spec : {M : Type 1} → statement M
-layer-at-spec = tie.close (tie.spec mul-result shared-slice-read-result returns returns-2)
+layer-at-spec = tie.close (tie.spec (λ c. search needs) (λ c. search needs) (λ c. search needs) returns-2)

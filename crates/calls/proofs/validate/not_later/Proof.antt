@@ -8,15 +8,6 @@ use borrow.Author.Needs.{needs}
 use Rattle.calls.proofs.validate.not_later.Statement.{statement}
 use Rattle.calls.proofs.validate.not_later.Tie as tie
 
-layer-at-requires : tie.Need-layer-at-requires
-layer-at-requires c κs = search needs
-
-layers-from-requires : tie.Need-layers-from-requires
-layers-from-requires c κs = search needs
-
-without-requires : tie.Need-without-requires
-without-requires c κs = search needs
-
 returns : tie.Need-returns
 returns c = let n = c .before .layers-from in
     let b = c .before .before .layer-at in
@@ -25,4 +16,4 @@ returns c = let n = c .before .layers-from in
 
 pub not-later-spec : {M : Type 1} → statement M
 not-later-spec =
-    tie.close (tie.spec layer-at-requires layers-from-requires without-requires returns)
+    tie.close (tie.spec (λ c κs. search needs) (λ c κs. search needs) (λ c κs. search needs) returns)

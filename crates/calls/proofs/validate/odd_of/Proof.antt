@@ -11,15 +11,6 @@ use borrow.Author.Needs.{needs}
 use Rattle.calls.proofs.validate.odd_of.Statement.{statement}
 use Rattle.calls.proofs.validate.odd_of.Tie as tie
 
-below-requires : tie.Need-below-requires
-below-requires c κs = search needs
-
-intersection-requires : tie.Need-intersection-requires
-intersection-requires c κs = search needs
-
-odd-neighbors-requires : tie.Need-odd-neighbors-requires
-odd-neighbors-requires c κs = search needs
-
 returns : tie.Need-returns
 returns c = let m = c .before .intersection in
     let w = c .before .before .below in
@@ -31,4 +22,4 @@ returns c = let m = c .before .intersection in
 
 pub odd-of-spec : {M : Type 1} → statement M
 odd-of-spec =
-    tie.close (tie.spec below-requires intersection-requires odd-neighbors-requires returns)
+    tie.close (tie.spec (λ c κs. search needs) (λ c κs. search needs) (λ c κs. search needs) returns)

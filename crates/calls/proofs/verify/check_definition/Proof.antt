@@ -7,9 +7,6 @@ use borrow.Author.Needs.{needs}
 use Rattle.calls.proofs.verify.check_definition.Statement.{statement}
 use Rattle.calls.proofs.verify.check_definition.Tie as tie
 
-check-definition-requires : tie.Need-check-definition-requires
-check-definition-requires c κs = search needs
-
 returns : tie.Need-returns
 unfolding nodeAsk causalAsk
 returns c = let s = c .before .before .before .before .before .before .before in
@@ -24,4 +21,4 @@ returns-2 c = c .check-definition2 .ensures
 
 pub check-definition-spec : {M : Type 1} → statement M
 check-definition-spec =
-    tie.close (tie.spec check-definition-requires returns check-definition-requires-2 returns-2)
+    tie.close (tie.spec (λ c κs. search needs) returns check-definition-requires-2 returns-2)

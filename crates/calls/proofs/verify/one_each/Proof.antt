@@ -7,11 +7,8 @@ use Rattle.calls.proofs.verify.one_each.Tie as tie
 returns : tie.Need-returns
 returns c = rw (ne-eqb _ 1 (c .if1 .taken)) refl
 
-one-member-requires : tie.Need-one-member-requires
-one-member-requires c κs = search needs
-
 returns-2 : tie.Need-returns-2
 returns-2 c = c .one-member .ensures ∙ rw (eq-eqb _ 1 (c .before .if1 .left)) refl
 
 pub one-each-spec : {M : Type 1} → statement M
-one-each-spec = tie.close (tie.spec returns one-member-requires returns-2)
+one-each-spec = tie.close (tie.spec returns (λ c κs. search needs) returns-2)

@@ -7,21 +7,6 @@ use borrow.Author.Needs.{needs}
 use Rattle.calls.proofs.verify.verify.Statement.{statement}
 use Rattle.calls.proofs.verify.verify.Tie as tie
 
-verify-file-requires : tie.Need-verify-file-requires
-verify-file-requires c κs = search needs
-
-enum-told : tie.Need-enum-told
-enum-told c = search needs
-
-write-bare-requires : tie.Need-write-bare-requires
-write-bare-requires c κs = search needs
-
-enum-known-q : tie.Need-enum-known-q
-enum-known-q c = search needs
-
-same-length : tie.Need-same-length
-same-length c = search needs
-
 returns : tie.Need-returns
 returns c = let t = c .before .before .before .before in
     let f = t .before .before in
@@ -38,10 +23,10 @@ pub verify-spec : {M : Type 1} → statement M
 verify-spec =
     tie.close
     (tie.spec
-    verify-file-requires
-    enum-told
-    write-bare-requires
-    enum-known-q
-    same-length
+    (λ c κs. search needs)
+    (λ c. search needs)
+    (λ c κs. search needs)
+    (λ c. search needs)
+    (λ c. search needs)
     returns
     returns-2)

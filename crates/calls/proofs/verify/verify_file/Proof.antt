@@ -25,24 +25,6 @@ flow-given c =
     let r = c .before .before .before .read-flow in
     flow-read (S k) (f .after) (f .n) (r .result) (r .ensures .0) _ (c .before .flow .given .1)
 
-read-job-requires : tie.Need-read-job-requires
-read-job-requires c κs = search needs
-
-enum-known-q : tie.Need-enum-known-q
-enum-known-q c = search needs
-
-enum-known-job : tie.Need-enum-known-job
-enum-known-job c = search needs
-
-read-flow-requires : tie.Need-read-flow-requires
-read-flow-requires c κs = search needs
-
-enum-known-q-2 : tie.Need-enum-known-q-2
-enum-known-q-2 c = search needs
-
-enum-known-flow : tie.Need-enum-known-flow
-enum-known-flow c = search needs
-
 verify-read-requires : tie.Need-verify-read-requires
 verify-read-requires c κs = let k = c .before .before .before .before in
     let f = jobAt (S k) (k .before .job .given .0 .0) in
@@ -71,12 +53,12 @@ pub verify-file-spec : {M : Type 1} → statement M
 verify-file-spec =
     tie.close
     (tie.spec
-    read-job-requires
-    enum-known-q
-    enum-known-job
-    read-flow-requires
-    enum-known-q-2
-    enum-known-flow
+    (λ c κs. search needs)
+    (λ c. search needs)
+    (λ c. search needs)
+    (λ c κs. search needs)
+    (λ c. search needs)
+    (λ c. search needs)
     verify-read-requires
     returns
     returns-2

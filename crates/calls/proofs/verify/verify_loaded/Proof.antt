@@ -23,29 +23,11 @@ left c =
     let s = a .before .before .before .before .before .before in
     verify-definition (G s) (F s) (s .args .job .mode) (sym (a .check-domain .ensures) ∙ ap askedOf (t .enum-told .given .1)) (sym (b .check-initial .ensures) ∙ ap askedOf (c .enum-told3 .given .1))
 
-check-domain-requires : tie.Need-check-domain-requires
-check-domain-requires c κs = search needs
-
-enum-told : tie.Need-enum-told
-enum-told c = search needs
-
-enum-told-2 : tie.Need-enum-told-2
-enum-told-2 c = search needs
-
 returns : tie.Need-returns
 returns c = let a = c .before .before in
     let s = a .before .before .before .before .before .before in
     let t = ap askedOf (c .enum-told2 .given .1) in
     t ∙ sym (verify-domain (G s) (F s) (s .args .job .mode) _ (sym (a .check-domain .ensures) ∙ t))
-
-check-initial-requires : tie.Need-check-initial-requires
-check-initial-requires c κs = search needs
-
-enum-told-3 : tie.Need-enum-told-3
-enum-told-3 c = search needs
-
-enum-told-4 : tie.Need-enum-told-4
-enum-told-4 c = search needs
 
 returns-2 : tie.Need-returns-2
 returns-2 c = let b = c .before .before in
@@ -54,9 +36,6 @@ returns-2 c = let b = c .before .before in
     let t = ap askedOf (c .enum-told4 .given .1) in
     t ∙ sym (verify-initial (G s) (F s) (s .args .job .mode) (sym (a .check-domain .ensures) ∙ ap askedOf (b .before .enum-told .given .1)) _ (sym (b .check-initial .ensures) ∙ t))
 
-check-definition-requires : tie.Need-check-definition-requires
-check-definition-requires c κs = search needs
-
 returns-3 : tie.Need-returns-3
 returns-3 c = c .check-definition .ensures ∙ sym (left (c .before))
 
@@ -64,13 +43,13 @@ pub verify-loaded-spec : {M : Type 1} → statement M
 verify-loaded-spec =
     tie.close
     (tie.spec
-    check-domain-requires
-    enum-told
-    enum-told-2
+    (λ c κs. search needs)
+    (λ c. search needs)
+    (λ c. search needs)
     returns
-    check-initial-requires
-    enum-told-3
-    enum-told-4
+    (λ c κs. search needs)
+    (λ c. search needs)
+    (λ c. search needs)
     returns-2
-    check-definition-requires
+    (λ c κs. search needs)
     returns-3)

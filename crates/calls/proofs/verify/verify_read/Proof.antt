@@ -33,18 +33,9 @@ returns c = let s = c .before .before .before in
     let inside = s .pre .0 in
     some-left (jobAt (s .args .file .now) (s .args .job)) (flowAt (s .args .file .now) (s .args .flow)) (λ q. c .if1 .taken (omega (arith, left, q, inside)))
 
-payload-requires : tie.Need-payload-requires
-payload-requires c κs = search needs
-
-one-each-requires : tie.Need-one-each-requires
-one-each-requires c κs = search needs
-
 returns-2 : tie.Need-returns-2
 returns-2 c = let s = c .before .before .before .before .before .before .before in
     not-one (jobAt (s .args .file .now) (s .args .job)) (flowAt (s .args .file .now) (s .args .flow)) (ends (c .before .before .before .before)) (sym (one (c .before)) ∙ not-true _ (c .if2 .taken))
-
-verify-places-requires : tie.Need-verify-places-requires
-verify-places-requires c κs = search needs
 
 returns-3 : tie.Need-returns-3
 returns-3 c = let s = c .before .before .before .before .before .before .before .before in
@@ -56,8 +47,8 @@ verify-read-spec =
     tie.close
     (tie.spec
     returns
-    payload-requires
-    one-each-requires
+    (λ c κs. search needs)
+    (λ c κs. search needs)
     returns-2
-    verify-places-requires
+    (λ c κs. search needs)
     returns-3)

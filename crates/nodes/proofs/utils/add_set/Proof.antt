@@ -9,21 +9,6 @@ use borrow.Author.Needs.{needs}
 use Rattle.nodes.proofs.utils.add_set.Statement.{statement}
 use Rattle.nodes.proofs.utils.add_set.Tie as tie
 
-mul-at : tie.Need-mul-at
-mul-at c = search needs
-
-add-word-requires : tie.Need-add-word-requires
-add-word-requires c κs = search needs
-
-add-add-word : tie.Need-add-add-word
-add-add-word c = search needs
-
-add-word-requires-2 : tie.Need-add-word-requires-2
-add-word-requires-2 c κs = search needs
-
-same-length : tie.Need-same-length
-same-length c = search needs
-
 returns : tie.Need-returns
 unfolding addWords
 returns c = let a = c .before .before .before .before .before .before .before .before .before .args in let next : setWords * (a .u) + 1 ≡ suc (setWords * (a .u)) = omega arith in c .before .before .add-word2 .ensures ∙ ap₂ (λ (l : List ℕ) (i : ℕ). set l i (bitXor (getD l i 0) (a .x .high))) (c .before .before .before .before .before .before .add-word .ensures) next
@@ -31,4 +16,4 @@ returns c = let a = c .before .before .before .before .before .before .before .b
 pub add-set-spec : {M : Type 1} → statement M
 add-set-spec =
     tie.close
-    (tie.spec mul-at add-word-requires add-add-word add-word-requires-2 same-length returns)
+    (tie.spec (λ c. search needs) (λ c κs. search needs) (λ c. search needs) (λ c κs. search needs) (λ c. search needs) returns)

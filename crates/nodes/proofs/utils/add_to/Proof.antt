@@ -10,18 +10,9 @@ use borrow.Author.Needs.{needs}
 use Rattle.nodes.proofs.utils.add_to.Statement.{statement}
 use Rattle.nodes.proofs.utils.add_to.Tie as tie
 
-add-in-word-requires : tie.Need-add-in-word-requires
-add-in-word-requires c κs = search needs
-
-add-in-word-requires-2 : tie.Need-add-in-word-requires-2
-add-in-word-requires-2 c κs = search needs
-
-same-length : tie.Need-same-length
-same-length c = search needs
-
 returns : tie.Need-returns
 returns c = let a = c .before .before .before .before .before .before .before .before .before .args in let x = wordsOf (a .x) in let l = raised 0 (members wordBits (bit (a .nodes .low))) in let h = raised wordBits (members wordBits (bit (a .nodes .high))) in
     c .before .before .add-in-word2 .ensures ∙ ap (λ (t : List ℕ). addSets t h x) (c .before .before .before .before .before .before .add-in-word .ensures) ∙ sym (sets-append l h (a .table .now) x) ∙ ap (λ (m : List ℕ). addSets (a .table .now) m x) (sym (members-words (a .nodes)))
 
 pub add-to-spec : {M : Type 1} → statement M
-add-to-spec = tie.close (tie.spec add-in-word-requires add-in-word-requires-2 same-length returns)
+add-to-spec = tie.close (tie.spec (λ c κs. search needs) (λ c κs. search needs) (λ c. search needs) returns)

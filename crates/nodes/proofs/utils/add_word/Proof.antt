@@ -7,24 +7,9 @@ use borrow.Author.Needs.{needs}
 use Rattle.nodes.proofs.utils.add_word.Statement.{statement}
 use Rattle.nodes.proofs.utils.add_word.Tie as tie
 
-mul-table : tie.Need-mul-table
-mul-table c = search needs
-
-slice-read-table : tie.Need-slice-read-table
-slice-read-table c = search needs
-
-slice-write-table : tie.Need-slice-write-table
-slice-write-table c = search needs
-
-same-length : tie.Need-same-length
-same-length c = search needs
-
-returns : tie.Need-returns
-returns c = search needs
-
 returns-2 : tie.Need-returns-2
 returns-2 c = let a = c .before .args in sym (set-out (a .table .now) (a .at) (bitXor (getD (a .table .now) (a .at) 0) (a .word)) (omega arith))
 
 pub add-word-spec : {M : Type 1} → statement M
 add-word-spec =
-    tie.close (tie.spec mul-table slice-read-table slice-write-table same-length returns returns-2)
+    tie.close (tie.spec (λ c. search needs) (λ c. search needs) (λ c. search needs) (λ c. search needs) (λ c. search needs) returns-2)

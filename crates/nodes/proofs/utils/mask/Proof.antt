@@ -6,11 +6,8 @@ use borrow.Author.Needs.{needs}
 use Rattle.nodes.proofs.utils.mask.Statement.{statement}
 use Rattle.nodes.proofs.utils.mask.Tie as tie
 
-shl-result : tie.Need-shl-result
-shl-result c = search needs
-
 returns : tie.Need-returns
 returns c = one-shl wordBits (c .args .v % wordBits) (in-word (c .args .v))
 
 pub mask-spec : {M : Type 1} → statement M
-mask-spec = tie.close (tie.spec shl-result returns)
+mask-spec = tie.close (tie.spec (λ c. search needs) returns)

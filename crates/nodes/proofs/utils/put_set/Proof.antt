@@ -7,26 +7,8 @@ use borrow.Author.Needs.{needs}
 use Rattle.nodes.proofs.utils.put_set.Statement.{statement}
 use Rattle.nodes.proofs.utils.put_set.Tie as tie
 
-mul-at : tie.Need-mul-at
-mul-at c = search needs
-
-mul-table : tie.Need-mul-table
-mul-table c = search needs
-
-slice-write-table : tie.Need-slice-write-table
-slice-write-table c = search needs
-
-add-table : tie.Need-add-table
-add-table c = search needs
-
-mul-table-2 : tie.Need-mul-table-2
-mul-table-2 c = search needs
-
 slice-write-table-2 : tie.Need-slice-write-table-2
 slice-write-table-2 c = simp length-set (omega arith)
-
-same-length : tie.Need-same-length
-same-length c = search needs
 
 returns : tie.Need-returns
 returns c =
@@ -42,12 +24,12 @@ pub put-set-spec : {M : Type 1} → statement M
 put-set-spec =
     tie.close
     (tie.spec
-    mul-at
-    mul-table
-    slice-write-table
-    add-table
-    mul-table-2
+    (λ c. search needs)
+    (λ c. search needs)
+    (λ c. search needs)
+    (λ c. search needs)
+    (λ c. search needs)
     slice-write-table-2
-    same-length
+    (λ c. search needs)
     returns
     returns-2)

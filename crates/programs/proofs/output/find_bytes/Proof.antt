@@ -15,39 +15,6 @@ use borrow.Author.Needs.{needs}
 use Rattle.programs.proofs.output.find_bytes.Statement.{statement}
 use Rattle.programs.proofs.output.find_bytes.Tie as tie
 
-judged-requires : tie.Need-judged-requires
-judged-requires c κs = search needs
-
-sub-find : tie.Need-sub-find
-sub-find c = search needs
-
-part-find-start : tie.Need-part-find-start
-part-find-start c = search needs
-
-part-find-end : tie.Need-part-find-end
-part-find-end c = search needs
-
-slice-aggregate-find : tie.Need-slice-aggregate-find
-slice-aggregate-find c = search needs
-
-find-requires : tie.Need-find-requires
-find-requires c κs = search needs
-
-enum-known-k : tie.Need-enum-known-k
-enum-known-k c = search needs
-
-wrote-requires : tie.Need-wrote-requires
-wrote-requires c κs = search needs
-
-enum-known-q : tie.Need-enum-known-q
-enum-known-q c = search needs
-
-refused-requires : tie.Need-refused-requires
-refused-requires c κs = search needs
-
-same-length : tie.Need-same-length
-same-length c = search needs
-
 returns : tie.Need-returns
 returns c = let a = c .before .before .before .before .before .before .before .before .before .before .before .before .before .before .before .before .args in
     let r = c .before .before .before .before .before .before .before .before .before .find in
@@ -57,12 +24,6 @@ returns c = let a = c .before .before .before .before .before .before .before .b
     let call = here ∙ r .ensures ∙ ap (λ (s : List ℕ). findCall s (zeros workBytes) (a .out .now)) (first-bytes judgedBytes (j .result) (a .input .now) (j .ensures)) in
     ap (λ (x : Output). outputOf x o) (c .refused .ensures) ∙ find-20 (a .input .now) (a .out .now) o (r .last .1 .0) (refusalOf (c .before .before .before .before .q .given .0 .0)) (c .before .if1 .taken) call
 
-write-refusal-requires : tie.Need-write-refusal-requires
-write-refusal-requires c κs = search needs
-
-same-length-2 : tie.Need-same-length-2
-same-length-2 c = search needs
-
 returns-2 : tie.Need-returns-2
 returns-2 c = let a = c .before .before .before .before .before .before .before .before .before .before .before .before .before .before .args in
     let r = c .before .before .before .before .before .before .before .find in
@@ -71,9 +32,6 @@ returns-2 c = let a = c .before .before .before .before .before .before .before 
     let here = ap {B = Outcome} (λ (x : Reply). record { answer = replyOf x; work = r .last .1 .0; out = o }) (sym (c .before .before .k .given .1)) in
     let call = here ∙ r .ensures ∙ ap (λ (s : List ℕ). findCall s (zeros workBytes) (a .out .now)) (first-bytes judgedBytes (j .result) (a .input .now) (j .ensures)) in
     ap (λ (x : Output). outputOf x o) (c .wrote .ensures) ∙ find-gives (a .input .now) (a .out .now) o (r .last .1 .0) (c .before .before .k .given .0 .0) call
-
-same-length-3 : tie.Need-same-length-3
-same-length-3 c = search needs
 
 returns-3 : tie.Need-returns-3
 returns-3 c = let a = c .before .before .before .before .before .before .before .before .before .before .before .before .before .before .before .before .before .before .before .args in
@@ -88,20 +46,20 @@ pub find-bytes-spec : {M : Type 1} → statement M
 find-bytes-spec =
     tie.close
     (tie.spec
-    judged-requires
-    sub-find
-    part-find-start
-    part-find-end
-    slice-aggregate-find
-    find-requires
-    enum-known-k
-    wrote-requires
-    enum-known-q
-    refused-requires
-    same-length
+    (λ c κs. search needs)
+    (λ c. search needs)
+    (λ c. search needs)
+    (λ c. search needs)
+    (λ c. search needs)
+    (λ c κs. search needs)
+    (λ c. search needs)
+    (λ c κs. search needs)
+    (λ c. search needs)
+    (λ c κs. search needs)
+    (λ c. search needs)
     returns
-    write-refusal-requires
-    same-length-2
+    (λ c κs. search needs)
+    (λ c. search needs)
     returns-2
-    same-length-3
+    (λ c. search needs)
     returns-3)

@@ -13,36 +13,6 @@ use borrow.Author.Needs.{needs}
 use Rattle.programs.proofs.output.verify_bytes.Statement.{statement}
 use Rattle.programs.proofs.output.verify_bytes.Tie as tie
 
-judged-requires : tie.Need-judged-requires
-judged-requires c κs = search needs
-
-sub-verify : tie.Need-sub-verify
-sub-verify c = search needs
-
-part-verify-start : tie.Need-part-verify-start
-part-verify-start c = search needs
-
-part-verify-end : tie.Need-part-verify-end
-part-verify-end c = search needs
-
-verify-requires : tie.Need-verify-requires
-verify-requires c κs = search needs
-
-enum-known-k : tie.Need-enum-known-k
-enum-known-k c = search needs
-
-wrote-requires : tie.Need-wrote-requires
-wrote-requires c κs = search needs
-
-enum-known-q : tie.Need-enum-known-q
-enum-known-q c = search needs
-
-write-refusal-requires : tie.Need-write-refusal-requires
-write-refusal-requires c κs = search needs
-
-same-length : tie.Need-same-length
-same-length c = search needs
-
 returns : tie.Need-returns
 returns c = let a = c .before .before .before .before .before .before .before .before .before .before .before .before .args in
     let r = c .before .before .before .before .before .before .verify in
@@ -51,9 +21,6 @@ returns c = let a = c .before .before .before .before .before .before .before .b
     let here = ap {B = Outcome} (λ (x : Reply). record { answer = replyOf x; work = []; out = o }) (sym (c .before .before .k .given .1)) in
     let call = here ∙ r .ensures ∙ ap (λ (s : List ℕ). verifyCall s (a .out .now)) (first-bytes judgedBytes (j .result) (a .input .now) (j .ensures)) in
     ap (λ (x : Output). outputOf x o) (c .wrote .ensures) ∙ verify-gives (a .input .now) (a .out .now) o [] (c .before .before .k .given .0 .0) call
-
-same-length-2 : tie.Need-same-length-2
-same-length-2 c = search needs
 
 returns-2 : tie.Need-returns-2
 returns-2 c = let a = c .before .before .before .before .before .before .before .before .before .before .before .before .before .before .before .args in
@@ -68,16 +35,16 @@ pub verify-bytes-spec : {M : Type 1} → statement M
 verify-bytes-spec =
     tie.close
     (tie.spec
-    judged-requires
-    sub-verify
-    part-verify-start
-    part-verify-end
-    verify-requires
-    enum-known-k
-    wrote-requires
-    enum-known-q
-    write-refusal-requires
-    same-length
+    (λ c κs. search needs)
+    (λ c. search needs)
+    (λ c. search needs)
+    (λ c. search needs)
+    (λ c κs. search needs)
+    (λ c. search needs)
+    (λ c κs. search needs)
+    (λ c. search needs)
+    (λ c κs. search needs)
+    (λ c. search needs)
     returns
-    same-length-2
+    (λ c. search needs)
     returns-2)

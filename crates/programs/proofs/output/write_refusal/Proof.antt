@@ -10,38 +10,11 @@ use borrow.Author.Needs.{needs}
 use Rattle.programs.proofs.output.write_refusal.Statement.{statement}
 use Rattle.programs.proofs.output.write_refusal.Tie as tie
 
-cast-t6 : tie.Need-cast-t6
-cast-t6 c = search needs
-
-slice-aggregate-write-record : tie.Need-slice-aggregate-write-record
-slice-aggregate-write-record c = search needs
-
-write-record-requires : tie.Need-write-record-requires
-write-record-requires c κs = search needs
-
-enum-known-k : tie.Need-enum-known-k
-enum-known-k c = search needs
-
-refused-requires : tie.Need-refused-requires
-refused-requires c κs = search needs
-
-enum-told : tie.Need-enum-told
-enum-told c = search needs
-
-refused-requires-2 : tie.Need-refused-requires-2
-refused-requires-2 c κs = search needs
-
-same-length : tie.Need-same-length
-same-length c = search needs
-
 returns : tie.Need-returns
 returns c = let r = refusalOf (c .before .before .before .before .before .before .before .before .before .before .before .args .q) in
     let w = c .before .before .before .before .before .before .write-record in
     let k = c .before .before .k .given in
     ap (λ (x : Output). outputOf x (w .last .0)) (c .refused .ensures) ∙ refusal-put r (gives (k .0 .0)) (refusalBytes r) _ (w .last .0) (sym (ap putOf (k .1)) ∙ w .ensures .0) (w .ensures .1)
-
-same-length-2 : tie.Need-same-length-2
-same-length-2 c = search needs
 
 returns-2 : tie.Need-returns-2
 returns-2 c = let r = refusalOf (c .before .before .before .before .before .before .before .before .before .before .args .q) in
@@ -52,14 +25,14 @@ pub write-refusal-spec : {M : Type 1} → statement M
 write-refusal-spec =
     tie.close
     (tie.spec
-    cast-t6
-    slice-aggregate-write-record
-    write-record-requires
-    enum-known-k
-    refused-requires
-    enum-told
-    refused-requires-2
-    same-length
+    (λ c. search needs)
+    (λ c. search needs)
+    (λ c κs. search needs)
+    (λ c. search needs)
+    (λ c κs. search needs)
+    (λ c. search needs)
+    (λ c κs. search needs)
+    (λ c. search needs)
     returns
-    same-length-2
+    (λ c. search needs)
     returns-2)

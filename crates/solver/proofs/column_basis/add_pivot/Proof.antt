@@ -12,42 +12,6 @@ use borrow.Author.Needs.{needs}
 use Rattle.solver.proofs.column_basis.add_pivot.Statement.{statement}
 use Rattle.solver.proofs.column_basis.add_pivot.Tie as tie
 
-lowest-requires : tie.Need-lowest-requires
-lowest-requires c κs = search needs
-
-set-at-requires : tie.Need-set-at-requires
-set-at-requires c κs = search needs
-
-add-to-requires : tie.Need-add-to-requires
-add-to-requires c κs = search needs
-
-add-to-requires-2 : tie.Need-add-to-requires-2
-add-to-requires-2 c κs = search needs
-
-put-set-requires : tie.Need-put-set-requires
-put-set-requires c κs = search needs
-
-put-set-requires-2 : tie.Need-put-set-requires-2
-put-set-requires-2 c κs = search needs
-
-first-requires : tie.Need-first-requires
-first-requires c κs = search needs
-
-union-requires : tie.Need-union-requires
-union-requires c κs = search needs
-
-add-to-requires-3 : tie.Need-add-to-requires-3
-add-to-requires-3 c κs = search needs
-
-same-length : tie.Need-same-length
-same-length c = search needs
-
-same-length-2 : tie.Need-same-length-2
-same-length-2 c = search needs
-
-same-length-3 : tie.Need-same-length-3
-same-length-3 c = search needs
-
 returns : tie.Need-returns
 returns c =
     let call-union = c .before .before .before .union in
@@ -73,16 +37,16 @@ pub add-pivot-spec : {M : Type 1} → statement M
 add-pivot-spec =
     tie.close
     (tie.spec
-    lowest-requires
-    set-at-requires
-    add-to-requires
-    add-to-requires-2
-    put-set-requires
-    put-set-requires-2
-    first-requires
-    union-requires
-    add-to-requires-3
-    same-length
-    same-length-2
-    same-length-3
+    (λ c κs. search needs)
+    (λ c κs. search needs)
+    (λ c κs. search needs)
+    (λ c κs. search needs)
+    (λ c κs. search needs)
+    (λ c κs. search needs)
+    (λ c κs. search needs)
+    (λ c κs. search needs)
+    (λ c κs. search needs)
+    (λ c. search needs)
+    (λ c. search needs)
+    (λ c. search needs)
     returns)

@@ -3,24 +3,6 @@ use borrow.Author.Needs.{needs}
 use Rattle.solver.proofs.column_basis.clear_pivots.Statement.{statement}
 use Rattle.solver.proofs.column_basis.clear_pivots.Tie as tie
 
-set-at-requires : tie.Need-set-at-requires
-set-at-requires c κs = search needs
-
-intersection-requires : tie.Need-intersection-requires
-intersection-requires c κs = search needs
-
-odd-neighbors-requires : tie.Need-odd-neighbors-requires
-odd-neighbors-requires c κs = search needs
-
-xor-requires : tie.Need-xor-requires
-xor-requires c κs = search needs
-
-odd-neighbors-requires-2 : tie.Need-odd-neighbors-requires-2
-odd-neighbors-requires-2 c κs = search needs
-
-xor-requires-2 : tie.Need-xor-requires-2
-xor-requires-2 c κs = search needs
-
 returns : tie.Need-returns
 returns c =
     let s = c .before .before .before .before .before .before .before .before .before in
@@ -36,10 +18,10 @@ pub clear-pivots-spec : {M : Type 1} → statement M
 clear-pivots-spec =
     tie.close
     (tie.spec
-    set-at-requires
-    intersection-requires
-    odd-neighbors-requires
-    xor-requires
-    odd-neighbors-requires-2
-    xor-requires-2
+    (λ c κs. search needs)
+    (λ c κs. search needs)
+    (λ c κs. search needs)
+    (λ c κs. search needs)
+    (λ c κs. search needs)
+    (λ c κs. search needs)
     returns)

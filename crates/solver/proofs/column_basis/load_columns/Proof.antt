@@ -26,14 +26,8 @@ counted c = c .before .before
 abbrev blank : tie.After-load → tie.After-clear-table
 blank c = c .before .before .before .before
 
-count-requires : tie.Need-count-requires
-count-requires c κs = search needs
-
 mul-start : tie.Need-mul-start
 mul-start c = omega (arith, entry c .pre .0, c .count .ensures)
-
-clear-table-requires : tie.Need-clear-table-requires
-clear-table-requires c κs = search needs
 
 load-requires : tie.Need-load-requires
 load-requires c κs =
@@ -47,18 +41,12 @@ sub-load c = let d = counted (blank (c .before .before)) in omega (arith, entry 
 part-load-start : tie.Need-part-load-start
 part-load-start c = let d = counted (blank (c .before .before)) in omega (arith, entry d .pre .0, d .count .ensures)
 
-part-load-end : tie.Need-part-load-end
-part-load-end c = search needs
-
 load-requires-2 : tie.Need-load-requires-2
 load-requires-2 c κs =
     let l = c .before .before .before .before in
     let d = counted (blank l) in
     let s = entry d in
     (omega (arith, s .pre .0, d .count .ensures), l .load .ensures .size ∙ ap length (blank l .clear-table .ensures) ∙ length-replicate {A = ℕ} (length (s .args .kernel .now)) 0 ∙ s .pre .1)
-
-same-length : tie.Need-same-length
-same-length c = search needs
 
 returns : tie.Need-returns
 returns c =
@@ -75,13 +63,13 @@ pub load-columns-spec : {M : Type 1} → statement M
 load-columns-spec =
     tie.close
     (tie.spec
-    count-requires
+    (λ c κs. search needs)
     mul-start
-    clear-table-requires
+    (λ c κs. search needs)
     load-requires
     sub-load
     part-load-start
-    part-load-end
+    (λ c. search needs)
     load-requires-2
-    same-length
+    (λ c. search needs)
     returns)

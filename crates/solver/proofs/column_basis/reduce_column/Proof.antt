@@ -19,24 +19,6 @@ cleared c = c .before .before .before
 clear-pivots-requires : tie.Need-clear-pivots-requires
 clear-pivots-requires c κs = c .before .before .before .before .before .before .before .before .before .pre .0 .1
 
-is-empty-requires : tie.Need-is-empty-requires
-is-empty-requires c κs = search needs
-
-put-set-requires : tie.Need-put-set-requires
-put-set-requires c κs = search needs
-
-union-requires : tie.Need-union-requires
-union-requires c κs = search needs
-
-same-length : tie.Need-same-length
-same-length c = search needs
-
-same-length-2 : tie.Need-same-length-2
-same-length-2 c = search needs
-
-same-length-3 : tie.Need-same-length-3
-same-length-3 c = search needs
-
 returns : tie.Need-returns
 returns c =
     let e = c .before .before .before .before .before .before in
@@ -57,24 +39,6 @@ add-pivot-requires c κs =
     let d = cleared e in
     let z = entry d .pre .0 .2 in
     (z .reducedSize, z .preimageSize, z .acrossSize, some-now (e .is-empty .result) (anyBelow capacity (member (d .clear-pivots .result .left))) (e .is-empty .ensures) (c .before .before .before .if1 .left))
-
-first-requires : tie.Need-first-requires
-first-requires c κs = search needs
-
-union-requires-2 : tie.Need-union-requires-2
-union-requires-2 c κs = search needs
-
-same-length-4 : tie.Need-same-length-4
-same-length-4 c = search needs
-
-same-length-5 : tie.Need-same-length-5
-same-length-5 c = search needs
-
-same-length-6 : tie.Need-same-length-6
-same-length-6 c = search needs
-
-same-length-7 : tie.Need-same-length-7
-same-length-7 c = search needs
 
 returns-2 : tie.Need-returns-2
 returns-2 c =
@@ -101,18 +65,18 @@ reduce-column-spec =
     tie.close
     (tie.spec
     clear-pivots-requires
-    is-empty-requires
-    put-set-requires
-    union-requires
-    same-length
-    same-length-2
-    same-length-3
+    (λ c κs. search needs)
+    (λ c κs. search needs)
+    (λ c κs. search needs)
+    (λ c. search needs)
+    (λ c. search needs)
+    (λ c. search needs)
     returns
     add-pivot-requires
-    first-requires
-    union-requires-2
-    same-length-4
-    same-length-5
-    same-length-6
-    same-length-7
+    (λ c κs. search needs)
+    (λ c κs. search needs)
+    (λ c. search needs)
+    (λ c. search needs)
+    (λ c. search needs)
+    (λ c. search needs)
     returns-2)

@@ -4,20 +4,8 @@ use borrow.Author.Needs.{needs}
 use Rattle.solver.proofs.column_basis.row_at.Statement.{statement}
 use Rattle.solver.proofs.column_basis.row_at.Tie as tie
 
-mul-at : tie.Need-mul-at
-mul-at c = search needs
-
-word-at-requires : tie.Need-word-at-requires
-word-at-requires c κs = search needs
-
-add-word-at : tie.Need-add-word-at
-add-word-at c = search needs
-
-word-at-requires-2 : tie.Need-word-at-requires-2
-word-at-requires-2 c κs = search needs
-
 returns : tie.Need-returns
 returns c = let a = c .before .before .before .args in row-words (a .matrix .now) (a .row) _ _ (c .before .word-at .result) (c .word-at2 .result) refl refl (c .before .word-at .ensures) (c .word-at2 .ensures)
 
 pub row-at-spec : {M : Type 1} → statement M
-row-at-spec = tie.close (tie.spec mul-at word-at-requires add-word-at word-at-requires-2 returns)
+row-at-spec = tie.close (tie.spec (λ c. search needs) (λ c κs. search needs) (λ c. search needs) (λ c κs. search needs) returns)

@@ -9,18 +9,12 @@ use borrow.Author.Needs.{needs}
 use Rattle.solver.proofs.gf2_linalg.add_pivot.Statement.{statement}
 use Rattle.solver.proofs.gf2_linalg.add_pivot.Tie as tie
 
-lead-requires : tie.Need-lead-requires
-lead-requires c κs = search needs
-
 returns : tie.Need-returns
 returns c =
     let a = c .before .before .before .args in
     let f = c .before .lead in
     set-past (member (a .pivots)) (a .cols) (f .result) (c .if1 .taken)
     ∙ ap {B = ℕ → Bool} (λ p k. member (a .pivots) k || (ltb k (a .cols) && eqb p k)) (f .ensures)
-
-with-requires : tie.Need-with-requires
-with-requires c κs = search needs
 
 returns-2 : tie.Need-returns-2
 returns-2 c =
@@ -31,4 +25,4 @@ returns-2 c =
 
 pub add-pivot-spec : {M : Type 1} → statement M
 add-pivot-spec =
-    tie.close (tie.spec lead-requires returns with-requires returns-2)
+    tie.close (tie.spec (λ c κs. search needs) returns (λ c κs. search needs) returns-2)

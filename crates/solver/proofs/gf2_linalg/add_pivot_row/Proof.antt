@@ -8,15 +8,9 @@ returns : tie.Need-returns
 unfolding addPivotRow
 returns c = simp (eq-eqb _ _ (c .if1 .taken))
 
-xor-row-requires : tie.Need-xor-row-requires
-xor-row-requires c κs = search needs
-
-same-length : tie.Need-same-length
-same-length c = search needs
-
 returns-2 : tie.Need-returns-2
 unfolding addPivotRow
 returns-2 c = simp (ne-eqb _ _ (c .before .before .before .before .if1 .left)) (c .before .before .xor-row .ensures)
 
 pub add-pivot-row-spec : {M : Type 1} → statement M
-add-pivot-row-spec = tie.close (tie.spec returns xor-row-requires same-length returns-2)
+add-pivot-row-spec = tie.close (tie.spec returns (λ c κs. search needs) (λ c. search needs) returns-2)

@@ -10,19 +10,10 @@ use borrow.Author.Needs.{needs}
 use Rattle.solver.proofs.gf2_linalg.answer.Statement.{statement}
 use Rattle.solver.proofs.gf2_linalg.answer.Tie as tie
 
-no-solution-requires : tie.Need-no-solution-requires
-no-solution-requires c κs = search needs
-
 returns : tie.Need-returns
 returns c =
     let a = c .before .before .before .before .args in
     ap (λ (o : Option (ℕ → Bool)). outcome (gives o) (a .out .now)) (read-none rowBytes (a .matrix .now) (a .cols) (a .asked) (a .rows) (sym (c .if1 .taken) ∙ c .before .no-solution .ensures))
-
-put-leads-requires : tie.Need-put-leads-requires
-put-leads-requires c κs = search needs
-
-same-length : tie.Need-same-length
-same-length c = search needs
 
 returns-2 : tie.Need-returns-2
 returns-2 c =
@@ -33,4 +24,4 @@ returns-2 c =
 
 pub answer-spec : {M : Type 1} → statement M
 answer-spec =
-    tie.close (tie.spec no-solution-requires returns put-leads-requires same-length returns-2)
+    tie.close (tie.spec (λ c κs. search needs) returns (λ c κs. search needs) (λ c. search needs) returns-2)

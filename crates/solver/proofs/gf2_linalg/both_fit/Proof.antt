@@ -6,9 +6,6 @@ use borrow.Author.Needs.{needs}
 use Rattle.solver.proofs.gf2_linalg.both_fit.Statement.{statement}
 use Rattle.solver.proofs.gf2_linalg.both_fit.Tie as tie
 
-matrix-fits-requires : tie.Need-matrix-fits-requires
-matrix-fits-requires c κs = search needs
-
 returns : tie.Need-returns
 unfolding bothFit
 returns c =
@@ -24,4 +21,4 @@ returns-2 c =
     simp yes
 
 pub both-fit-spec : {M : Type 1} → statement M
-both-fit-spec = tie.close (tie.spec matrix-fits-requires returns returns-2)
+both-fit-spec = tie.close (tie.spec (λ c κs. search needs) returns returns-2)

@@ -12,15 +12,6 @@ returns : tie.Need-returns
 unfolding clearOne
 returns c = simp (eq-eqb _ _ (c .if1 .taken))
 
-has-requires : tie.Need-has-requires
-has-requires c κs = search needs
-
-xor-row-requires : tie.Need-xor-row-requires
-xor-row-requires c κs = search needs
-
-same-length : tie.Need-same-length
-same-length c = search needs
-
 returns-2 : tie.Need-returns-2
 unfolding clearOne
 returns-2 c = let x = c .before .before in
@@ -28,9 +19,6 @@ returns-2 c = let x = c .before .before in
     let a = i .before .before .before .before .before .args in
     let has : entryOf rowBytes (a .matrix .now) (a .row) (a .col) ≡ true = sym (i .before .has .ensures) ∙ i .if2 .taken in
     simp (ne-eqb _ _ (i .before .before .before .if1 .left), has) (x .xor-row .ensures)
-
-same-length-2 : tie.Need-same-length-2
-same-length-2 c = search needs
 
 returns-3 : tie.Need-returns-3
 unfolding clearOne
@@ -42,4 +30,4 @@ returns-3 c =
 pub clear-one-spec : {M : Type 1} → statement M
 clear-one-spec =
     tie.close
-    (tie.spec returns has-requires xor-row-requires same-length returns-2 same-length-2 returns-3)
+    (tie.spec returns (λ c κs. search needs) (λ c κs. search needs) (λ c. search needs) returns-2 (λ c. search needs) returns-3)

@@ -14,12 +14,6 @@ use borrow.Author.Needs.{needs}
 use Rattle.solver.proofs.gf2_linalg.eliminate.Statement.{statement}
 use Rattle.solver.proofs.gf2_linalg.eliminate.Tie as tie
 
-matrix-fits-requires : tie.Need-matrix-fits-requires
-matrix-fits-requires c κs = search needs
-
-same-length : tie.Need-same-length
-same-length c = search needs
-
 returns : tie.Need-returns
 unfolding eliminateCall
 returns c =
@@ -40,9 +34,6 @@ pivot-columns-requires c κs =
     let fit : matrixFits (a .matrix .now) (a .rows) (a .cols) (a .sides) ≡ true = sym (c .before .before .before .before .before .before .matrix-fits .ensures) ∙ not-false _ (c .before .before .before .before .before .if1 .left) in
     let sizes = fits-out _ _ _ _ fit in
     (omega arith, omega arith)
-
-same-length-2 : tie.Need-same-length-2
-same-length-2 c = search needs
 
 returns-2 : tie.Need-returns-2
 unfolding eliminateCall
@@ -66,10 +57,10 @@ pub eliminate-spec : {M : Type 1} → statement M
 eliminate-spec =
     tie.close
     (tie.spec
-    matrix-fits-requires
-    same-length
+    (λ c κs. search needs)
+    (λ c. search needs)
     returns
     eliminate-columns-requires
     pivot-columns-requires
-    same-length-2
+    (λ c. search needs)
     returns-2)

@@ -11,12 +11,6 @@ use borrow.Author.Needs.{needs}
 use Rattle.solver.proofs.gf2_linalg.eliminate_column.Statement.{statement}
 use Rattle.solver.proofs.gf2_linalg.eliminate_column.Tie as tie
 
-find-pivot-requires : tie.Need-find-pivot-requires
-find-pivot-requires c κs = search needs
-
-same-length : tie.Need-same-length
-same-length c = search needs
-
 returns : tie.Need-returns
 returns c =
     let a = c .before .before .before .before .args in
@@ -36,12 +30,6 @@ clear-column-requires c κs =
     let ge : a .rank ≤ f .result = omega (arith, f .ensures, from-ge (a .rank) (a .rows - a .rank) (λ i. entryOf rowBytes (a .matrix .now) i (a .col))) in
     omega arith
 
-add-result : tie.Need-add-result
-add-result c = search needs
-
-same-length-2 : tie.Need-same-length-2
-same-length-2 c = search needs
-
 returns-2 : tie.Need-returns-2
 unfolding pivotTo
 returns-2 c =
@@ -59,11 +47,11 @@ pub eliminate-column-spec : {M : Type 1} → statement M
 eliminate-column-spec =
     tie.close
     (tie.spec
-    find-pivot-requires
-    same-length
+    (λ c κs. search needs)
+    (λ c. search needs)
     returns
     add-pivot-row-requires
     clear-column-requires
-    add-result
-    same-length-2
+    (λ c. search needs)
+    (λ c. search needs)
     returns-2)

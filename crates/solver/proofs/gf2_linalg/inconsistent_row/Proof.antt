@@ -9,17 +9,11 @@ use borrow.Author.Needs.{needs}
 use Rattle.solver.proofs.gf2_linalg.inconsistent_row.Statement.{statement}
 use Rattle.solver.proofs.gf2_linalg.inconsistent_row.Tie as tie
 
-has-requires : tie.Need-has-requires
-has-requires c κs = search needs
-
 returns : tie.Need-returns
 returns c =
     let a = c .before .before .before .args in
     let no-bit : entryOf rowBytes (a .matrix .now) (a .row) (a .asked) ≡ false = sym (c .before .has .ensures) ∙ not-true _ (c .if1 .taken) in
     simp no-bit
-
-lead-requires : tie.Need-lead-requires
-lead-requires c κs = search needs
 
 returns-2 : tie.Need-returns-2
 returns-2 c =
@@ -28,4 +22,4 @@ returns-2 c =
     simp bit (ap (λ (k : ℕ). eqb k (a .cols)) (c .lead .ensures))
 
 pub inconsistent-row-spec : {M : Type 1} → statement M
-inconsistent-row-spec = tie.close (tie.spec has-requires returns lead-requires returns-2)
+inconsistent-row-spec = tie.close (tie.spec (λ c κs. search needs) returns (λ c κs. search needs) returns-2)

@@ -24,9 +24,6 @@ returns-3 c =
     let wide : mostColumns < a .cols + a .sides = omega arith in
     simp (le-leb _ _ (c .before .before .if1 .left), lt-leb _ _ wide)
 
-mul-result : tie.Need-mul-result
-mul-result c = search needs
-
 returns-4 : tie.Need-returns-4
 unfolding matrixFits
 returns-4 c =
@@ -35,4 +32,4 @@ returns-4 c =
     simp (le-leb _ _ (c .before .before .if1 .left), le-leb _ _ room)
 
 pub matrix-fits-spec : {M : Type 1} → statement M
-matrix-fits-spec = tie.close (tie.spec returns returns-2 returns-3 mul-result returns-4)
+matrix-fits-spec = tie.close (tie.spec returns returns-2 returns-3 (λ c. search needs) returns-4)

@@ -14,16 +14,10 @@ use borrow.Author.Needs.{needs}
 use Rattle.solver.proofs.gf2_linalg.put_lead.Statement.{statement}
 use Rattle.solver.proofs.gf2_linalg.put_lead.Tie as tie
 
-has-requires : tie.Need-has-requires
-has-requires c κs = search needs
-
 returns : tie.Need-returns
 returns c =
     let a = c .before .before .before .before .args in
     c .before .before .before .before .pre .3 ∙ bytes-skip rowBytes (a .matrix .now) (a .cols) (a .asked) (a .row) (sym (c .before .has .ensures) ∙ not-true _ (c .if1 .taken))
-
-lead-requires : tie.Need-lead-requires
-lead-requires c κs = search needs
 
 returns-2 : tie.Need-returns-2
 returns-2 c =
@@ -35,9 +29,6 @@ set-bit-requires c κs =
     let a = c .before .before .before .before .before .before .before .args in
     let n : length (a .out .now) ≡ rowBytes = ap length (c .before .before .before .before .before .before .before .pre .3) ∙ bytes-length rowBytes (leads (a .row) (a .cols) (entryOf rowBytes (a .matrix .now)) (λ i. entryOf rowBytes (a .matrix .now) i (a .asked))) in
     (n, omega arith)
-
-same-length : tie.Need-same-length
-same-length c = search needs
 
 returns-3 : tie.Need-returns-3
 returns-3 c =
@@ -52,10 +43,10 @@ pub put-lead-spec : {M : Type 1} → statement M
 put-lead-spec =
     tie.close
     (tie.spec
-    has-requires
+    (λ c κs. search needs)
     returns
-    lead-requires
+    (λ c κs. search needs)
     returns-2
     set-bit-requires
-    same-length
+    (λ c. search needs)
     returns-3)

@@ -8,21 +8,12 @@ use borrow.Author.Needs.{needs}
 use Rattle.solver.proofs.gf2_linalg.read_off.Statement.{statement}
 use Rattle.solver.proofs.gf2_linalg.read_off.Tie as tie
 
-both-fit-requires : tie.Need-both-fit-requires
-both-fit-requires c κs = search needs
-
-same-length : tie.Need-same-length
-same-length c = search needs
-
 returns : tie.Need-returns
 unfolding readOffAsks
 returns c =
     let a = c .before .before .before .before .before .args in
     let fit : bothFit (a .matrix .now) (a .out .now) (a .rows) (a .cols) (a .sides) ≡ false = sym (c .before .both-fit .ensures) ∙ not-true _ (c .if1 .taken) in
     simp fit
-
-same-length-2 : tie.Need-same-length-2
-same-length-2 c = search needs
 
 returns-2 : tie.Need-returns-2
 unfolding readOffAsks
@@ -46,9 +37,6 @@ answer-requires c κs =
     let sizes = fits-out _ _ _ _ (both .0) in
     (omega arith, omega arith, omega arith, both .1)
 
-same-length-3 : tie.Need-same-length-3
-same-length-3 c = search needs
-
 returns-3 : tie.Need-returns-3
 unfolding readOffAsks
 returns-3 c =
@@ -60,12 +48,12 @@ pub read-off-spec : {M : Type 1} → statement M
 read-off-spec =
     tie.close
     (tie.spec
-    both-fit-requires
-    same-length
+    (λ c κs. search needs)
+    (λ c. search needs)
     returns
-    same-length-2
+    (λ c. search needs)
     returns-2
     add-answer
     answer-requires
-    same-length-3
+    (λ c. search needs)
     returns-3)

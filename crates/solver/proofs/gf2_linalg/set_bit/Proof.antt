@@ -9,23 +9,11 @@ use borrow.Author.Needs.{needs}
 use Rattle.solver.proofs.gf2_linalg.set_bit.Statement.{statement}
 use Rattle.solver.proofs.gf2_linalg.set_bit.Tie as tie
 
-mask-requires : tie.Need-mask-requires
-mask-requires c κs = search needs
-
 cast-out : tie.Need-cast-out
 cast-out c =
     let a = c .before .before .args in
     let e : a .k % 8 % wordBits ≡ a .k % 8 = omega arith in
     omega (arith, c .mask .ensures, ap (λ (x : ℕ). 2 ^ x) e, pow-lt {i = a .k % 8} {j = 8} (omega arith))
-
-slice-read-out : tie.Need-slice-read-out
-slice-read-out c = search needs
-
-slice-write-out : tie.Need-slice-write-out
-slice-write-out c = search needs
-
-same-length : tie.Need-same-length
-same-length c = search needs
 
 returns : tie.Need-returns
 returns c =
@@ -36,4 +24,4 @@ returns c =
 pub set-bit-spec : {M : Type 1} → statement M
 set-bit-spec =
     tie.close
-    (tie.spec mask-requires cast-out slice-read-out slice-write-out same-length returns)
+    (tie.spec (λ c κs. search needs) cast-out (λ c. search needs) (λ c. search needs) (λ c. search needs) returns)

@@ -21,27 +21,12 @@ entry c = c .before .before .before .before .before
 fit : (c : tie.Else1) → let a = entry (c .before) .args in wellShaped (a .matrix .now) (a .out .now) (a .rows) (a .cols) (a .sides) ≡ true
 fit c = sym (c .before .well-shaped .ensures) ∙ not-false _ (c .if1 .left)
 
-well-shaped-requires : tie.Need-well-shaped-requires
-well-shaped-requires c κs = search needs
-
-same-length : tie.Need-same-length
-same-length c = search needs
-
-same-length-2 : tie.Need-same-length-2
-same-length-2 c = search needs
-
 returns : tie.Need-returns
 unfolding solveAsks
 returns c =
     let a = entry (c .before) .args in
     let no : wellShaped (a .matrix .now) (a .out .now) (a .rows) (a .cols) (a .sides) ≡ false = sym (c .before .well-shaped .ensures) ∙ not-true _ (c .if1 .taken) in
     (simp no, rw no refl)
-
-same-length-3 : tie.Need-same-length-3
-same-length-3 c = search needs
-
-same-length-4 : tie.Need-same-length-4
-same-length-4 c = search needs
 
 returns-2 : tie.Need-returns-2
 unfolding solveAsks
@@ -72,12 +57,6 @@ answer-requires c κs =
     let sizes = fits-out _ _ _ _ (both .0) in
     (omega arith, omega arith, omega arith, both .1)
 
-same-length-5 : tie.Need-same-length-5
-same-length-5 c = search needs
-
-same-length-6 : tie.Need-same-length-6
-same-length-6 c = search needs
-
 returns-3 : tie.Need-returns-3
 unfolding solveAsks
 returns-3 c =
@@ -100,16 +79,16 @@ pub solve-in-place-spec : {M : Type 1} → statement M
 solve-in-place-spec =
     tie.close
     (tie.spec
-    well-shaped-requires
-    same-length
-    same-length-2
+    (λ c κs. search needs)
+    (λ c. search needs)
+    (λ c. search needs)
     returns
-    same-length-3
-    same-length-4
+    (λ c. search needs)
+    (λ c. search needs)
     returns-2
     eliminate-columns-requires
     add-answer
     answer-requires
-    same-length-5
-    same-length-6
+    (λ c. search needs)
+    (λ c. search needs)
     returns-3)

@@ -33,9 +33,6 @@ returns-3 c =
     let none : a .cols ≤ 0 = omega arith in
     simp (lt-ltb _ _ row, lt-ltb _ _ side, le-ltb _ _ none)
 
-both-fit-requires : tie.Need-both-fit-requires
-both-fit-requires c κs = search needs
-
 returns-4 : tie.Need-returns-4
 unfolding wellShaped
 returns-4 c =
@@ -77,7 +74,7 @@ well-shaped-spec =
     returns
     returns-2
     returns-3
-    both-fit-requires
+    (λ c κs. search needs)
     returns-4
     add-within-width
     within-width-requires

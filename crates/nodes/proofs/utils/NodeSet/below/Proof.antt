@@ -10,9 +10,6 @@ use borrow.Author.Needs.{needs}
 use Rattle.nodes.proofs.utils.NodeSet.below.Statement.{statement}
 use Rattle.nodes.proofs.utils.NodeSet.below.Tie as tie
 
-mask-requires : tie.Need-mask-requires
-mask-requires c κs = search needs
-
 sub-t4 : tie.Need-sub-t4
 sub-t4 c = omega (arith, c .mask .ensures, pow-pos (c .before .before .args .n % wordBits))
 
@@ -22,9 +19,6 @@ returns c =
     let e : n % wordBits ≡ n = omega arith in
     let digits : c .mask .result - 1 ≡ 2 ^ n - 1 = ap (λ (x : ℕ). x - 1) (c .mask .ensures ∙ ap (λ (x : ℕ). 2 ^ x) e) in
     fun-ext (λ u. member-below n (c .mask .result - 1) (0 ∷ []) (omega arith) digits (member-empty 1) u ∙ below-within u n highest (omega arith))
-
-mask-requires-2 : tie.Need-mask-requires-2
-mask-requires-2 c κs = search needs
 
 sub-t7 : tie.Need-sub-t7
 sub-t7 c = omega (arith, c .mask2 .ensures, pow-pos (c .before .before .before .args .n % wordBits))
@@ -49,4 +43,4 @@ returns-3 c =
 
 pub below-spec : {M : Type 1} → statement M
 below-spec =
-    tie.close (tie.spec mask-requires sub-t4 returns mask-requires-2 sub-t7 returns-2 returns-3)
+    tie.close (tie.spec (λ c κs. search needs) sub-t4 returns (λ c κs. search needs) sub-t7 returns-2 returns-3)

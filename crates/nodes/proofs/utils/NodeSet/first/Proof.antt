@@ -8,14 +8,8 @@ use borrow.Author.Needs.{needs}
 use Rattle.nodes.proofs.utils.NodeSet.first.Statement.{statement}
 use Rattle.nodes.proofs.utils.NodeSet.first.Tie as tie
 
-without-lowest-requires : tie.Need-without-lowest-requires
-without-lowest-requires c κs = search needs
-
-difference-requires : tie.Need-difference-requires
-difference-requires c κs = search needs
-
 returns : tie.Need-returns
 returns c = let s = member (c .before .before .args .self) in c .difference .ensures ∙ ap {B = ℕ → Bool} (λ (f : ℕ → Bool) (u : ℕ). s u && not (f u)) (c .before .without-lowest .ensures) ∙ fun-ext (λ u. least-alone s (lowest capacity s) u)
 
 pub first-spec : {M : Type 1} → statement M
-first-spec = tie.close (tie.spec without-lowest-requires difference-requires returns)
+first-spec = tie.close (tie.spec (λ c κs. search needs) (λ c κs. search needs) returns)

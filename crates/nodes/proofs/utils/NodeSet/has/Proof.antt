@@ -10,16 +10,10 @@ use borrow.Author.Needs.{needs}
 use Rattle.nodes.proofs.utils.NodeSet.has.Statement.{statement}
 use Rattle.nodes.proofs.utils.NodeSet.has.Tie as tie
 
-mask-requires : tie.Need-mask-requires
-mask-requires c κs = search needs
-
 returns : tie.Need-returns
 returns c =
     let a = c .before .before .before .args in
     ap (λ (m : ℕ). not (eqb (bitAnd (a .self .low) m) 0)) (c .before .mask .ensures) ∙ member-test (wordsOf (a .self)) (a .v) 0 (omega arith)
-
-mask-requires-2 : tie.Need-mask-requires-2
-mask-requires-2 c κs = search needs
 
 returns-2 : tie.Need-returns-2
 returns-2 c =
@@ -30,4 +24,4 @@ returns-3 : tie.Need-returns-3
 returns-3 c = sym (member-past (wordsOf (c .before .before .args .self)) (c .before .before .args .v) (omega arith))
 
 pub has-spec : {M : Type 1} → statement M
-has-spec = tie.close (tie.spec mask-requires returns mask-requires-2 returns-2 returns-3)
+has-spec = tie.close (tie.spec (λ c κs. search needs) returns (λ c κs. search needs) returns-2 returns-3)

@@ -10,12 +10,6 @@ use borrow.Author.Needs.{needs}
 use Rattle.nodes.proofs.utils.NodeSet.with.Statement.{statement}
 use Rattle.nodes.proofs.utils.NodeSet.with.Tie as tie
 
-mask-requires : tie.Need-mask-requires
-mask-requires c κs = search needs
-
-mask-requires-2 : tie.Need-mask-requires-2
-mask-requires-2 c κs = search needs
-
 returns : tie.Need-returns
 returns c =
     let s = c .before .before .before .args .self in
@@ -41,4 +35,4 @@ returns-3 c =
     fun-ext (λ u. put-past (memberOf (wordsOf s) u) (eqb u v) v highest (omega arith))
 
 pub with-spec : {M : Type 1} → statement M
-with-spec = tie.close (tie.spec mask-requires mask-requires-2 returns returns-2 returns-3)
+with-spec = tie.close (tie.spec (λ c κs. search needs) (λ c κs. search needs) returns returns-2 returns-3)

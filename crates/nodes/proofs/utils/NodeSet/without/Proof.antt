@@ -9,12 +9,6 @@ use borrow.Author.Needs.{needs}
 use Rattle.nodes.proofs.utils.NodeSet.without.Statement.{statement}
 use Rattle.nodes.proofs.utils.NodeSet.without.Tie as tie
 
-mask-requires : tie.Need-mask-requires
-mask-requires c κs = search needs
-
-mask-requires-2 : tie.Need-mask-requires-2
-mask-requires-2 c κs = search needs
-
 returns : tie.Need-returns
 returns c =
     let s = c .before .before .before .args .self in
@@ -37,4 +31,4 @@ returns-3 c =
     fun-ext (member-cut-past (wordsOf (a .self)) (a .v) (omega arith))
 
 pub without-spec : {M : Type 1} → statement M
-without-spec = tie.close (tie.spec mask-requires mask-requires-2 returns returns-2 returns-3)
+without-spec = tie.close (tie.spec (λ c κs. search needs) (λ c κs. search needs) returns returns-2 returns-3)

@@ -7,12 +7,6 @@ use borrow.Author.Needs.{needs}
 use Rattle.nodes.proofs.utils.NodeSet.without_lowest.Statement.{statement}
 use Rattle.nodes.proofs.utils.NodeSet.without_lowest.Tie as tie
 
-sub-self : tie.Need-sub-self
-sub-self c = search needs
-
-sub-self-2 : tie.Need-sub-self-2
-sub-self-2 c = search needs
-
 returns : tie.Need-returns
 returns c =
     let s = c .before .before .before .before .args .self in
@@ -30,4 +24,4 @@ returns-3 c =
     fun-ext (drop-in-tail (s .low) (s .high ∷ []) (c .before .before .if1 .left) (s .high ∷ []) (drop-in-tail (s .high) [] (c .if2 .left) [] drop-nil))
 
 pub without-lowest-spec : {M : Type 1} → statement M
-without-lowest-spec = tie.close (tie.spec sub-self sub-self-2 returns returns-2 returns-3)
+without-lowest-spec = tie.close (tie.spec (λ c. search needs) (λ c. search needs) returns returns-2 returns-3)
