@@ -131,12 +131,10 @@ fn verify_file(file: &[u8]) -> Asked
 {
     match read_job(file) {
         JobRead::Refused(q) => Asked::Refused(q),
-        JobRead::Job(job) => {
-            match read_flow(file, job.end, job.n) {
-                FlowRead::Refused(q) => Asked::Refused(q),
-                FlowRead::Flow(flow) => verify_read(file, job, flow),
-            }
-        }
+        JobRead::Job(job) => match read_flow(file, job.end, job.n) {
+            FlowRead::Refused(q) => Asked::Refused(q),
+            FlowRead::Flow(flow) => verify_read(file, job, flow),
+        },
     }
 }
 
