@@ -16,25 +16,25 @@ use Rattle.calls.proofs.find.find_loaded.Statement.{statement}
 use Rattle.calls.proofs.find.find_loaded.Tie as tie
 
 -- what the search left
-left : (c : tie.After-sets2) → let s = c .before .before .before .before .before .before .before .before .before .before .before .before .before in
-    let r = c .before .before .before .before .search in
+left : (c : tie.After-sets2) → let s = c .before .before .before .before .before .before .before .before .before .before .before .before .before .before in
+    let r = c .before .before .before .before .find in
     _≡_ {A = SearchOutcome} (record { answer = searchOf (r .result); work = r .last .1 .1 .1 .1 .1 .1 .0; layers = r .last .1 .1 .1 .1 .1 .1 .1 .0; sets = r .last .1 .1 .1 .1 .1 .1 .1 .1 .0 })
     (searched (s .args .job .n) (progressOf (s .args .job .n) (s .args .job .mode) (s .args .graph .now) (s .args .measured .now) (s .args .job .inputs) (s .args .job .outputs)))
 left c =
-    let s = c .before .before .before .before .before .before .before .before .before .before .before .before .before in
+    let s = c .before .before .before .before .before .before .before .before .before .before .before .before .before .before in
     let a = s .args in
-    c .before .before .before .before .search .ensures
+    c .before .before .before .before .find .ensures
     ∙ search-goes (a .job .n) (a .job .mode) (a .graph .now) (a .measured .now) (a .job .inputs) (a .job .outputs) (a .work .now) (zeros capacity) (zeros tableWords) (s .pre .0 .0) (s .pre .0 .2)
     (s .pre .0 .1, s .pre .0 .3, length-replicate {A = ℕ} capacity 0, length-replicate {A = ℕ} tableWords 0) (s .pre .1)
 
-slice-aggregate-search : tie.Need-slice-aggregate-search
-slice-aggregate-search c = search needs
+slice-aggregate-find : tie.Need-slice-aggregate-find
+slice-aggregate-find c = search needs
 
-slice-aggregate-search-2 : tie.Need-slice-aggregate-search-2
-slice-aggregate-search-2 c = search needs
+slice-aggregate-find-2 : tie.Need-slice-aggregate-find-2
+slice-aggregate-find-2 c = search needs
 
-search-requires : tie.Need-search-requires
-search-requires c κs = search needs
+find-requires : tie.Need-find-requires
+find-requires c κs = search needs
 
 enum-told : tie.Need-enum-told
 enum-told c = search needs
@@ -46,8 +46,8 @@ slice-aggregate-write-found-2 : tie.Need-slice-aggregate-write-found-2
 slice-aggregate-write-found-2 c = search needs
 
 write-found-requires : tie.Need-write-found-requires
-write-found-requires c κs = let s = c .before .before .before .before .before .before .before .before .before .before .before .before .before .before .before .before .before .before in
-    let size : length (c .before .before .before .before .before .before .before .before .before .search .last .1 .1 .1 .1 .1 .1 .1 .0) ≡ capacity = search needs in
+write-found-requires c κs = let s = c .before .before .before .before .before .before .before .before .before .before .before .before .before .before .before .before .before .before .before in
+    let size : length (c .before .before .before .before .before .before .before .before .before .find .last .1 .1 .1 .1 .1 .1 .1 .0) ≡ capacity = search needs in
     omega (arith, s .pre .0 .0, size)
 
 enum-told-2 : tie.Need-enum-told-2
@@ -66,7 +66,7 @@ same-length-2 : tie.Need-same-length-2
 same-length-2 c = search needs
 
 returns : tie.Need-returns
-returns c = let s = c .before .before .before .before .before .before .before .before .before .before .before .before .before .before .before .before .before .before .before .before .before in
+returns c = let s = c .before .before .before .before .before .before .before .before .before .before .before .before .before .before .before .before .before .before .before .before .before .before in
     let a = s .args in
     let e = left (c .before .before .before .before .before .before .before .before) in
     let told = told-flow _ _ (ap (λ (o : SearchOutcome). o .answer) e) (c .before .before .before .before .before .before .enum-told .given .1) in
@@ -83,7 +83,7 @@ same-length-4 : tie.Need-same-length-4
 same-length-4 c = search needs
 
 returns-2 : tie.Need-returns-2
-returns-2 c = let s = c .before .before .before .before .before .before .before .before .before .before .before .before .before .before .before .before .before .before .before in
+returns-2 c = let s = c .before .before .before .before .before .before .before .before .before .before .before .before .before .before .before .before .before .before .before .before in
     let a = s .args in
     let e = left (c .before .before .before .before .before .before) in
     let told = told-none _ _ (ap (λ (o : SearchOutcome). o .answer) e) (c .before .before .before .before .enum-told2 .given .1) in
@@ -101,9 +101,9 @@ pub find-loaded-spec : {M : Type 1} → statement M
 find-loaded-spec =
     tie.close
     (tie.spec
-    slice-aggregate-search
-    slice-aggregate-search-2
-    search-requires
+    slice-aggregate-find
+    slice-aggregate-find-2
+    find-requires
     enum-told
     slice-aggregate-write-found
     slice-aggregate-write-found-2
