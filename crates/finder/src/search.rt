@@ -1,26 +1,21 @@
 // The search for planes and for Paulis, round by round: that for planes is that for Paulis with nobody excused, from round 1 on.
 ghost use mathlib.Core.Path.{_≡_};
-ghost use mathlib.Core.Bool.{false, not, _&&_, _||_};
-ghost use Prim.Native.Nat.{ℕ, _≤_};
+ghost use mathlib.Core.Bool.{false};
+ghost use Prim.Native.Nat.{_≤_};
 ghost use lib.ListN.{length};
-ghost use lib.Dec.{T};
-ghost use Rattle.nodes.specs.Row.{anyBelow};
 ghost use Rattle.nodes.specs.NodeSet.{member, capacity};
 ghost use Rattle.nodes.specs.Lists.{zeros};
 ghost use Rattle.nodes.specs.SetTable.{tableWords};
 ghost use Rattle.flows.specs.Search.{start};
-ghost use Rattle.finder.specs.WorkMatrix.{Transposed, Blank};
+ghost use Rattle.finder.specs.WorkMatrix.{Blank};
 ghost use Rattle.finder.specs.Tries.{TablesFit};
 ghost use Rattle.finder.specs.Visits.{Sized, progressIn, cutTo};
-ghost use Rattle.finder.specs.Searches.{KindsOf, jobIn, progressAt, Advanced, searchOf, answerOf, searchCall};
+ghost use Rattle.finder.specs.Searches.{jobIn, progressAt, searchOf, answerOf, searchCall};
 use crate::arguments::arguments_fit;
-use crate::kinds::Kinds;
-use crate::kinds::context;
 use crate::kinds::kinds_of;
-use crate::matrix::Context;
 use crate::matrix::Support;
 use crate::round::State;
-use crate::round::round;
+use crate::round::advance;
 use answers::Refusal;
 use nodes::utils::NodeSet;
 use nodes::utils::TABLE_WORDS;
@@ -60,68 +55,6 @@ fn begin(n: usize, outputs: NodeSet, layers: &mut [u16], sets: &mut [u64]) -> St
         rows: none,
     };
     State { solved, support }
-}
-
-// The search for planes stops where nothing is unsolved or no column exists: a round would solve nothing.
-fn stops(pauli: bool, s: Context) -> bool
-    ensures { λ r. ⌜ r ≡ (not pauli && (not (anyBelow capacity (member (s .upper))) || not (anyBelow capacity (member (s .columns))))) ⌝ }
-{
-    if pauli {
-        return false;
-    }
-    let upper = s.upper;
-    let columns = s.columns;
-    if upper.is_empty() {
-        return true;
-    }
-    columns.is_empty()
-}
-
-// One round, with the nodes that are later than all of it, solved ones.
-fn advance(
-    pauli: bool,
-    graph: &[u64],
-    n: usize,
-    inputs: NodeSet,
-    measured: &[u8],
-    kinds: Kinds,
-    later: NodeSet,
-    state: State,
-    r: u16,
-    work: &mut [u8],
-    layers: &mut [u16],
-    sets: &mut [u64],
-    transposed: &mut [u64],
-    kernel: &mut [u64],
-    reduced: &mut [u64],
-    preimage: &mut [u64],
-) -> State
-    requires { ⌜ Sized n (now measured) (now work) (now layers) (now sets) × TablesFit (now kernel) (now reduced) (now preimage) × Transposed (now graph) (state .support) (now transposed) ⌝ }
-    requires { ⌜ KindsOf pauli n (now measured) kinds × ((v : ℕ) → T (member later v) → T (member (state .solved) v)) × (progressIn (state .solved) (now layers) (now sets) ≡ cutTo n (progressIn (state .solved) (now layers) (now sets))) ⌝ }
-    ensures { λ q. ⌜ Advanced pauli n (now (graph .entry)) inputs (now (measured .entry)) (member later) r (progressIn (state .solved) (now (layers .entry)) (now (sets .entry))) (progressIn (q .solved) (now (layers .exit)) (now (sets .exit))) ⌝ }
-    ensures { λ q. ⌜ Sized n (now (measured .entry)) (now (work .exit)) (now (layers .exit)) (now (sets .exit)) × TablesFit (now (kernel .exit)) (now (reduced .exit)) (now (preimage .exit)) × Transposed (now (graph .entry)) (q .support) (now (transposed .exit)) ⌝ }
-{
-    let s = context(n, inputs, later, kinds);
-    if stops(pauli, s) {
-        return state;
-    }
-    let plain = kinds.plain;
-    round(
-        graph,
-        n,
-        s,
-        measured,
-        plain,
-        state,
-        r,
-        work,
-        layers,
-        sets,
-        transposed,
-        kernel,
-        reduced,
-        preimage,
-    )
 }
 
 // For Paulis rounds start at 0, where no node is later. From round 1 on the outputs and the solved nodes are. A round behind which

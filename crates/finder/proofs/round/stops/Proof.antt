@@ -3,8 +3,8 @@ use mathlib.Core.Bool.{Bool, not, _||_}
 use Rattle.nodes.specs.NodeSet.{member, capacity}
 use Rattle.nodes.specs.Row.{anyBelow}
 use borrow.Author.Needs.{needs}
-use Rattle.finder.proofs.search.stops.Statement.{statement}
-use Rattle.finder.proofs.search.stops.Tie as tie
+use Rattle.finder.proofs.round.stops.Statement.{statement}
+use Rattle.finder.proofs.round.stops.Tie as tie
 
 returns : tie.Need-returns
 returns c = search needs
