@@ -1,4 +1,4 @@
--- The calls of both searches: what they work with, and what a call answers and leaves in the lent buffers.
+-- The call of the search, for planes or for Paulis: what it works with, and what it answers and leaves in the lent buffers.
 use Prim.Native.Nat.{ℕ, _+_, _*_, _/_, _%_}
 use mathlib.Core.Path.{_≡_}
 use mathlib.Core.Bool.{Bool, true, false, cond, _&&_, _||_}

@@ -58,7 +58,7 @@ fn begin(n: usize, outputs: NodeSet, layers: &mut [u16], sets: &mut [u64]) -> St
 }
 
 // For Paulis rounds start at 0, where no node is later. From round 1 on the outputs and the solved nodes are. A round behind which
-// no more nodes are later ends the search.
+// no more nodes are later ends the search; round 0 only where no node is an output or solved, and round 1 would find the same.
 fn rounds(
     pauli: bool,
     graph: &[u64],
