@@ -7,7 +7,7 @@ ghost use lib.ListN.{length};
 ghost use Rattle.nodes.specs.NodeSet.{member, capacity};
 ghost use Rattle.nodes.specs.SetTable.{tableWords};
 ghost use Rattle.nodes.specs.Lists.{zeros};
-ghost use Rattle.finder.specs.Searches.{planesGiven, searchOf, searchCall};
+ghost use Rattle.finder.specs.Searches.{planesGiven};
 ghost use Rattle.answers.specs.Answer.{gives};
 ghost use Rattle.records.specs.JobFile.{readJob, modePlanes, modePauli};
 ghost use Rattle.records.specs.Views.{jobAt};
@@ -23,8 +23,7 @@ use crate::load::Loaded;
 use crate::load::load_job;
 use crate::write_bare;
 use answers::Refusal;
-use finder::gflow;
-use finder::pflow;
+use finder::search;
 use finder::search::Search;
 use nodes::utils::CAPACITY;
 use nodes::utils::NodeSet;
@@ -48,27 +47,7 @@ fn write_found(n: usize, outputs: NodeSet, layers: &[u16], sets: &[u64], out: &m
     answered(write_flow(out, &layers[0..n], sets, nodes))
 }
 
-// Mode 2 searches by planes, mode 3 by Paulis.
-fn search(
-    mode: u8,
-    graph: &[u64],
-    n: usize,
-    inputs: NodeSet,
-    outputs: NodeSet,
-    measured: &[u8],
-    work: &mut [u8],
-    layers: &mut [u16],
-    sets: &mut [u64],
-) -> Search
-    ensures { λ r. ⌜ record { answer = searchOf r; work = now (work .exit); layers = now (layers .exit); sets = now (sets .exit) } ≡ searchCall (not (eqb mode modePlanes)) n (now (graph .entry)) inputs outputs (now (measured .entry)) (now (work .entry)) (now (layers .entry)) (now (sets .entry)) ⌝ }
-{
-    if mode == MODE_PLANES {
-        return gflow::find(graph, n, inputs, outputs, measured, work, layers, sets);
-    }
-    pflow::find(graph, n, inputs, outputs, measured, work, layers, sets)
-}
-
-// The search on a job that was loaded, and what is written of it.
+// The search on a job that was loaded, mode 2 by planes and mode 3 by Paulis, and what is written of it.
 fn find_loaded(
     job: Loaded,
     graph: &[u64],
@@ -84,8 +63,8 @@ fn find_loaded(
     let outputs = job.outputs;
     let mut layers = [0u16; CAPACITY];
     let mut sets = [0u64; TABLE_WORDS];
-    match search(
-        job.mode,
+    match search::find(
+        job.mode != MODE_PLANES,
         graph,
         n,
         job.inputs,

@@ -9,12 +9,12 @@ use Rattle.nodes.specs.Row.{anyBelow}
 use Rattle.nodes.proofs.Logic.{and-r, or-out}
 use Rattle.flows.specs.Job.{Job}
 use Rattle.flows.specs.Branch.{Context, inSet, branches, tryNode}
-use Rattle.flows.specs.Search.{Progress, start, solvedNow, orNone, round, rounds, noNode}
-use Rattle.flows.specs.Planes as Planes
-use Rattle.flows.specs.Paulis as Paulis
+use Rattle.flows.specs.Search.{Progress, start, solvedNow, orNone, round, rounds, begun, noNode}
+use Rattle.flows.specs.Tries.{contextAt, noColumnAt, tryAt}
 use Rattle.finder.specs.Searches.{progressAt}
-use Rattle.flows.proofs.Search.{rounds-step, Ended}
+use Rattle.flows.proofs.Search.{never, rounds-step, Ended}
 use Rattle.flows.proofs.Tries.{first-of, branch-answer}
+use Rattle.finder.proofs.Rounds.{progress-ended}
 
 abbrev pub Below : ℕ → (ℕ → Bool) → Type 0
 Below n s = (k : ℕ) → T (s k) → k < n
@@ -58,19 +58,16 @@ module _ (n : ℕ) (try : (ℕ → Bool) → ℕ → Option (ℕ → Bool)) (bel
       go (inr (t, p)) ih = rw p ih
 
 -- ---- both searches
-planes-below : (j : Job) (later : ℕ → Bool) (u : ℕ) → u < j .nodes → (set : ℕ → Bool) → Planes.try j later u ≡ some set → Below (j .nodes) set
-planes-below j later u l set e = node-below j (Planes.context j later) u l set e
-
-paulis-below : (j : Job) (later : ℕ → Bool) (u : ℕ) → u < j .nodes → (set : ℕ → Bool) → Paulis.try j later u ≡ some set → Below (j .nodes) set
-paulis-below j later u l set e = go (Paulis.noColumnFor j later u) e
+try-below : (pauli : Bool) (j : Job) (later : ℕ → Bool) (u : ℕ) → u < j .nodes → (set : ℕ → Bool) → tryAt j pauli later u ≡ some set → Below (j .nodes) set
+try-below pauli j later u l set e = go (noColumnAt j pauli later u) e
   where
-    go : (b : Bool) → cond b none (tryNode j (Paulis.context j later u) u) ≡ some set → Below (j .nodes) set
+    go : (b : Bool) → cond b none (tryNode j (contextAt j pauli later u) u) ≡ some set → Below (j .nodes) set
     go true e = absurd (Option·none-ne-some _ e)
-    go false e = node-below j (Paulis.context j later u) u l set e
+    go false e = node-below j (contextAt j pauli later u) u l set e
 
 pub progress-below : (pauli : Bool) (j : Job) (u : ℕ) → u < j .nodes → Below (j .nodes) (progressAt pauli j .set u)
-progress-below true j =
-    rounds-below (j .nodes) (Paulis.try j) (paulis-below j) (λ s. false) (j .nodes) 1 (round (Paulis.try j noNode) 0 (start (j .output)))
-    (round-below (j .nodes) (Paulis.try j) (paulis-below j) noNode 0 (start (j .output)) (start-below (j .nodes) (Paulis.try j) (paulis-below j) (j .output)))
-progress-below false j =
-    rounds-below (j .nodes) (Planes.try j) (planes-below j) (Planes.stops j) (j .nodes) 1 (start (j .output)) (start-below (j .nodes) (Planes.try j) (planes-below j) (j .output))
+progress-below pauli j = rw (progress-ended pauli j) (rounds-below (j .nodes) (tryAt j pauli) (try-below pauli j) never (j .nodes) 1 (begun pauli (tryAt j pauli) (j .output)) (first pauli))
+  where
+    first : (b : Bool) → SetsBelow (j .nodes) (tryAt j pauli) (try-below pauli j) (begun b (tryAt j pauli) (j .output))
+    first true = round-below (j .nodes) (tryAt j pauli) (try-below pauli j) noNode 0 (start (j .output)) (start-below (j .nodes) (tryAt j pauli) (try-below pauli j) (j .output))
+    first false = start-below (j .nodes) (tryAt j pauli) (try-below pauli j) (j .output)

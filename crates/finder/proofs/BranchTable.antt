@@ -1,4 +1,4 @@
--- The code's table of branches: row m - 1 lists exactly the branches of m. It is tested over the whole table at once. Serves Tries.
+-- The code's table of branches: row m - 1 lists exactly the branches of m. It is tested over the whole table at once. Serves `try_for`.
 use Prim.Native.Nat.{ℕ, zero, suc, _-_, _≤_, _<_}
 use mathlib.Core.Path.{_≡_, refl, sym, ap, _∙_}
 use mathlib.Core.Bool.{Bool, true, false, cond, not, _&&_}
@@ -9,7 +9,7 @@ use lib.Dec.{T, eqb, eqb→eq}
 use lib.Seq.{ext-getD}
 use lib.ListN.{length, getD, List·getD-eq-default}
 use Rattle.nodes.specs.Row.{allBelow}
-use Rattle.nodes.proofs.Logic.{and-l, and-r}
+use Rattle.nodes.proofs.Logic.{is-false, and-l, and-r, not-out}
 use Rattle.nodes.proofs.Row.{all-out}
 use Rattle.nodes.specs.Options.{firstOf}
 use Rattle.flows.specs.Branch.{Context, branchTable, branches, tryBranch, firstSolvable}
@@ -42,6 +42,14 @@ rows-list m l =
     ext-getD 0 (entry m) (branches (suc m)) (eqb→eq (length (entry m)) (length (branches (suc m))) (and-l (eqb (length (entry m)) (length (branches (suc m)))) (allBelow (length (entry m)) each) t))
     (λ k j. eqb→eq (getD (entry m) k 0) (getD (branches (suc m)) k 0) (all-out (length (entry m)) each (and-r (eqb (length (entry m)) (length (branches (suc m)))) (allBelow (length (entry m)) each) t) k j))
 
+-- no row is empty
+rows-filled : T (allBelow 6 (λ m. not (eqb (getD (getD table m []) 0 0) 0)))
+unfolding allBelow
+rows-filled = tt
+
+rows-first : (m : ℕ) → m < 6 → eqb (getD (getD table m []) 0 0) 0 ≡ false
+rows-first m l = is-false (eqb (getD (getD table m []) 0 0) 0) (not-out (eqb (getD (getD table m []) 0 0) 0) (all-out 6 (λ m. not (eqb (getD (getD table m []) 0 0) 0)) rows-filled m l))
+
 past : (m : ℕ) → 6 < m → branches m ≡ []
 unfolding branches
 past zero l = absurd (bad l)
@@ -58,21 +66,19 @@ module _ (n : ℕ) (graph : List ℕ) (c : Context) (u : ℕ) where
   abbrev attempt : ℕ → Option (ℕ → Bool)
   attempt b = tryBranch (graphJob n graph) c u b
 
-  -- the first solvable of two entries
-  first-two : (a b : ℕ) → firstOf (tryListed n graph c u a) (tryListed n graph c u b) ≡ firstSolvable (graphJob n graph) c u (keep (λ b. not (eqb b 0)) (a ∷ b ∷ []))
+  -- the first solvable of two entries, of which the first is a branch
+  first-two : (a b : ℕ) → eqb a 0 ≡ false → firstOf (attempt a) (tryListed n graph c u b) ≡ firstSolvable (graphJob n graph) c u (keep (λ b. not (eqb b 0)) (a ∷ b ∷ []))
   unfolding keep firstSolvable
-  first-two a b = go (eqb a 0) (eqb b 0)
+  first-two a b e = rw e (go (eqb b 0))
     where
-      go : (x y : Bool) → firstOf (cond x none (attempt a)) (cond y none (attempt b)) ≡ firstSolvable (graphJob n graph) c u (cond (not x) (a ∷ cond (not y) (b ∷ []) []) (cond (not y) (b ∷ []) []))
-      go true true = refl
-      go true false = sym (alone (attempt b))
-      go false true = refl
-      go false false = ap (firstOf (attempt a)) (sym (alone (attempt b)))
+      go : (y : Bool) → firstOf (attempt a) (cond y none (attempt b)) ≡ firstSolvable (graphJob n graph) c u (a ∷ cond (not y) (b ∷ []) [])
+      go true = refl
+      go false = ap (firstOf (attempt a)) (sym (alone (attempt b)))
 
-  pub row-tried : (m : ℕ) → 1 ≤ m → m ≤ 6 → firstOf (tryListed n graph c u (getD (getD table (m - 1) []) 0 0)) (tryListed n graph c u (getD (getD table (m - 1) []) 1 0)) ≡ tryIn n graph c u m
+  pub row-tried : (m : ℕ) → 1 ≤ m → m ≤ 6 → firstOf (attempt (getD (getD table (m - 1) []) 0 0)) (tryListed n graph c u (getD (getD table (m - 1) []) 1 0)) ≡ tryIn n graph c u m
   row-tried m lo hi =
       let e : suc (m - 1) ≡ m = omega arith in
-      first-two (getD (getD table (m - 1) []) 0 0) (getD (getD table (m - 1) []) 1 0)
+      first-two (getD (getD table (m - 1) []) 0 0) (getD (getD table (m - 1) []) 1 0) (rows-first (m - 1) (omega arith))
       ∙ ap (firstSolvable (graphJob n graph) c u) (rows-list (m - 1) (omega arith) ∙ ap branches e)
 
   -- the numbers of no measurement

@@ -1,5 +1,5 @@
 -- What stands in the lent buffers: how a search starts, and the layers and sets that are left.
-use Prim.Native.Nat.{ℕ, _+_, _*_, _/_, _%_, _≤_, _<_, _-_}
+use Prim.Native.Nat.{ℕ, _+_, _*_, _/_, _%_, _≤_, _<_}
 use mathlib.Core.Path.{_≡_, refl, sym, ap, ap₂, _∙_, fun-ext}
 use mathlib.Core.Bool.{Bool, true, false, cond, not, _&&_, _||_}
 use mathlib.Core.Logic.{_⊎_, inl, inr, _≢_}
@@ -118,24 +118,20 @@ module _ (n : ℕ) (graph measured work layers sets : List ℕ) where
       }
 
 -- ---- what a call answers
-module _ (n : ℕ) (graph : List ℕ) (inputs outputs : NodeSet) (measured work layers sets : List ℕ) where
-  pub call-sizes : (pauli : Bool) → sizesFit n graph measured work layers sets ≡ false → searchCall pauli n graph inputs outputs measured work layers sets ≡ refused work layers sets
+module _ (pauli : Bool) (n : ℕ) (graph : List ℕ) (inputs outputs : NodeSet) (measured work layers sets : List ℕ) where
+  abbrev given : Bool
+  given = sizesFit n graph measured work layers sets && (pauli || planesGiven (jobIn n graph inputs outputs measured))
+
+  pub call-refused : given ≡ false → searchCall pauli n graph inputs outputs measured work layers sets ≡ refused work layers sets
   unfolding searchCall
-  call-sizes pauli e = rw e
+  call-refused e = rw e
 
-  module _ (e : sizesFit n graph measured work layers sets ≡ true) where
-    pub call-no-plane : planesGiven (jobIn n graph inputs outputs measured) ≡ false → searchCall false n graph inputs outputs measured work layers sets ≡ refused work layers sets
-    unfolding searchCall
-    call-no-plane f = rw (e, f)
+  pub call-searched : given ≡ true → searchCall pauli n graph inputs outputs measured work layers sets ≡ searched n (progressAt pauli (jobIn n graph inputs outputs measured))
+  unfolding searchCall
+  call-searched e = rw e
 
-    pub call-planes : planesGiven (jobIn n graph inputs outputs measured) ≡ true
-        → searchCall false n graph inputs outputs measured work layers sets ≡ searched n (progressAt false (jobIn n graph inputs outputs measured))
-    unfolding searchCall
-    call-planes f = rw (e, f)
-
-    pub call-paulis : searchCall true n graph inputs outputs measured work layers sets ≡ searched n (progressAt true (jobIn n graph inputs outputs measured))
-    unfolding searchCall
-    call-paulis = rw e
+  pub given-sized : given ≡ true → Sized n measured work layers sets
+  given-sized e = sizes-out n graph measured work layers sets (is-true (sizesFit n graph measured work layers sets) (and-l (sizesFit n graph measured work layers sets) (pauli || planesGiven (jobIn n graph inputs outputs measured)) (from-true given e)))
 
 pub outcome-eq : (n : ℕ) (p : Progress) (answer : Answer Bool) (work layers sets : List ℕ) → answer ≡ answerOf n (p .solved) → work ≡ zeros workBytes → layers ≡ layersOf n p → sets ≡ setTable n p
     → _≡_ {A = SearchOutcome} (record { answer = answer; work = work; layers = layers; sets = sets }) (searched n p)
@@ -165,6 +161,13 @@ one-more i f found has e g = fun-ext (λ u. ap (λ (q : ℕ → Bool). q u || (h
       where
         beyond : (u i : ℕ) → i ≤ u → u ≢ i → i + 1 ≤ u
         beyond u i l q = omega (arith, lt-of-le-of-ne l (λ x. q (sym x)))
+
+-- who is excused: nobody for planes
+pub nobody-excused : {pauli : Bool} → pauli ≡ false → (n : ℕ) (f : ℕ → Bool) → _≡_ {A = ℕ → Bool} (λ u. false) (λ u. ltb u n && (pauli && f u))
+nobody-excused e n f = fun-ext (λ u. rw e (sym (and-none (ltb u n))))
+
+pub all-excused : {pauli : Bool} → pauli ≡ true → (n : ℕ) (f : ℕ → Bool) → _≡_ {A = ℕ → Bool} (λ u. ltb u n && f u) (λ u. ltb u n && (pauli && f u))
+all-excused e n f = fun-ext (λ u. rw e)
 
 pub or-self : (a : Bool) → a || a ≡ a
 or-self true = refl

@@ -1,6 +1,6 @@
 -- A round visits its nodes one after the other, and the rounds follow one another: what stands in the search's set and in
 -- the lent buffers is at each point the progress of the definition, of the nodes below n.
-use Prim.Native.Nat.{ℕ, zero, suc, _+_, _≤_, _<_, _*_, _-_}
+use Prim.Native.Nat.{ℕ, suc, _+_, _≤_, _<_, _*_}
 use mathlib.Core.Path.{_≡_, refl, sym, ap, ap₂, _∙_, subst, fun-ext}
 use mathlib.Core.Bool.{Bool, true, false, cond, not, _&&_, _||_}
 use mathlib.Core.Logic.{_⊎_, inl, inr}
@@ -10,16 +10,15 @@ use lib.Dec.{T, eqb, leb, ltb, eqb→eq, le→leb}
 use Rattle.nodes.specs.Bit.{_⊕_}
 use Rattle.nodes.specs.Row.{anyBelow, allBelow, count}
 use Rattle.nodes.specs.NodeSet.{capacity, highest, member, wordsOf}
-use Rattle.nodes.proofs.Logic.{is-true, is-false, from-true, from-false, both-ways, dec, and-l, and-r, and-in, and-none, and-all, or-r, or-none, not-in, not-out, eqb-yes, lt-or-ge, ⊕-self, ⊕-eq, eqb-no}
+use Rattle.nodes.proofs.Logic.{is-true, is-false, from-true, from-false, both-ways, dec, and-l, and-r, and-in, and-none, and-all, or-l, or-r, or-none, not-in, not-out, eqb-yes, lt-or-ge, ⊕-eq, eqb-no}
 use Rattle.nodes.proofs.Row.{any-in, any-none, all-in, all-out, ltb-yes, ltb-no}
-use Rattle.nodes.proofs.Count.{count-le, count-ext}
+use Rattle.nodes.proofs.Count.{Within, count-le, grows}
 use Rattle.nodes.proofs.Remove.{removed}
 use Rattle.nodes.specs.Options.{isSome}
-use Rattle.flows.specs.Search.{Progress, orNone, solvedNow, round, rounds}
+use Rattle.flows.specs.Search.{Progress, noNode, orNone, start, solvedNow, round, rounds, firstRound, searchFrom}
 use Rattle.finder.specs.Visits.{cutTo, placed, visited, progressIn}
-use Rattle.finder.specs.Searches.{advanced}
-use Rattle.flows.proofs.Search.{fresh-open, fewer}
-use Rattle.flows.proofs.Progress.{SameProgress, progress-sym, progress-trans, rounds-agree}
+use Rattle.flows.proofs.Search.{never, Ended, fresh-open, rounds-step, rounds-idle, rounds-enough}
+use Rattle.flows.proofs.Progress.{SameProgress, progress-sym, progress-trans, round-agree, rounds-agree}
 use mathlib.Core.List.{List}
 use native.Mathlib.Decide.{ℕ-discrete}
 use lib.ListN.{length, getD, set}
@@ -89,6 +88,9 @@ cut-below n t = record {
 
 pub cut-same : (n : ℕ) (s t : Progress) → s ≡ cutTo n t → SameProgress n s t
 cut-same n s t e = rw e (cut-below n t)
+
+progress-same : {n : ℕ} {s t : Progress} → s ≡ t → SameProgress n s t
+progress-same {s = s} e = record { solved = λ u l. ap (λ (p : Progress). p .solved u) e; layer = λ u l. ap (λ (p : Progress). p .layer u) e; set = λ u l. ap (λ (p : Progress). p .set u) e }
 
 -- what is cut stays as it is
 pub cut-again : (n : ℕ) (s t : Progress) → s ≡ cutTo n t → s ≡ cutTo n s
@@ -207,149 +209,120 @@ module _ (try : ℕ → Option (ℕ → Bool)) (r : ℕ) (p : Progress) where
           ∙ sym (ap {B = ℕ → Bool} (λ (b : Bool) (v : ℕ). b && cond (solvedNow full p u) (orNone (full u)) (p .set u) v) (ltb-no u n l))
 
 -- ---- one round after the other
-module _ (stops : Progress → Bool) (try : (ℕ → Bool) → ℕ → Option (ℕ → Bool)) (n : ℕ) where
-  stopped : (k r : ℕ) (s : Progress) → T (stops s) → rounds stops try n k r s ≡ s
-  unfolding rounds
-  stopped zero r s t = refl
-  stopped (suc k) r s t = rw (is-true (stops s) t)
+module _ (try : (ℕ → Bool) → ℕ → Option (ℕ → Bool)) (n : ℕ) where
+  -- what the rounds from r on make of s
+  abbrev onward : ℕ → Progress → Progress
+  onward = rounds never try n n
 
-  idle : (k r : ℕ) (s : Progress) → anyBelow n (solvedNow (try (s .solved)) s) ≡ false → rounds stops try n k r s ≡ s
-  unfolding rounds
-  idle zero r s e = refl
-  idle (suc k) r s e = rw e (either (stops s))
-    where
-      either : (b : Bool) → cond b s s ≡ s
-      either true = refl
-      either false = refl
-
-  goes : (k r : ℕ) (s : Progress) → (T (stops s) → ⊥) → T (anyBelow n (solvedNow (try (s .solved)) s)) → rounds stops try n (suc k) r s ≡ rounds stops try n k (r + 1) (round (try (s .solved)) r s)
-  unfolding rounds
-  goes k r s f t = rw (is-false (stops s) f, is-true (anyBelow n (solvedNow (try (s .solved)) s)) t)
-
-  -- Before round r, with s found so far, the search is on its way to w: the rounds that are left lead there, and there are as
-  -- many as nodes can still be solved.
-  pub record Pending (w : Progress) (r : ℕ) (s : Progress) : Type 0 where
+  -- Before round r, with s found so far, the search is on its way to w: this round, where the nodes `later` are later than all of it,
+  -- and those behind it lead there. They are no more than the nodes that can still become later.
+  pub record Pending (w : Progress) (r : ℕ) (later : ℕ → Bool) (s : Progress) : Type 0 where
     pub cut : s ≡ cutTo n s
-    pub bound : ℕ
-    pub all : r + bound ≡ n + 1
-    pub unsolved : count n (λ u. not (s .solved u)) ≤ bound
-    pub same : SameProgress n (rounds stops try n bound r s) w
+    pub sub : (u : ℕ) → T (later u) → T (s .solved u)
+    pub all : r + count n (λ u. not (later u)) ≤ n + 1
+    pub leads : SameProgress n (onward (r + 1) (round (try later) r s)) w
 
-  going-stop : (w : Progress) (r : ℕ) (s : Progress) → Pending w r s → T (stops s) → s ≡ cutTo n w
-  going-stop w r s g t = g .cut ∙ cut-ext n s w (rw (stopped (g .bound) r s t) at (g .same))
+-- a try asks of the later nodes those below n only
+module _ (try : (ℕ → Bool) → ℕ → Option (ℕ → Bool)) (n : ℕ)
+    (ext : (later later′ : ℕ → Bool) → ((v : ℕ) → v < n → later v ≡ later′ v) → (u : ℕ) → try later u ≡ try later′ u) where
+  onward-agree : (r : ℕ) (s t : Progress) → SameProgress n s t → SameProgress n (onward try n r s) (onward try n r t)
+  onward-agree = rounds-agree never try n (λ x y q. refl) (λ x y q u l. ext x y q u) n
+
+  -- the first of the rounds, which may be idle
+  onward-step : (r : ℕ) (s : Progress) → SameProgress n (onward try n (r + 1) (round (try (s .solved)) r s)) (onward try n r s)
+  onward-step r s = by (rounds-step never try n n r s)
+    where
+      next : Progress
+      next = round (try (s .solved)) r s
+
+      by : (Ended never try n s × (rounds never try n (suc n) r s ≡ s)) ⊎ (T (anyBelow n (solvedNow (try (s .solved)) s)) × (rounds never try n (suc n) r s ≡ onward try n (r + 1) next))
+          → SameProgress n (onward try n (r + 1) next) (onward try n r s)
+      by (inl (inl x, p)) = absurd x
+      by (inl (inr e, p)) =
+          progress-trans (onward-agree (r + 1) next s (record { solved = λ u l. rw (none′ u l) (or-none (s .solved u)); layer = λ u l. rw (none′ u l); set = λ u l. rw (none′ u l) }))
+          (progress-same (rounds-idle never try n n (r + 1) s e ∙ sym (rounds-idle never try n n r s e)))
+        where
+          none′ : (u : ℕ) → u < n → solvedNow (try (s .solved)) s u ≡ false
+          none′ u l = is-false (solvedNow (try (s .solved)) s u) (λ a. from-false (anyBelow n (solvedNow (try (s .solved)) s)) e (any-in n (solvedNow (try (s .solved)) s) u l a))
+      by (inr (a, p)) =
+          let h = count-le n (λ u. not (s .solved u)) in progress-same (sym p ∙ rounds-enough never try n (suc n) n r s (omega arith) h)
 
   -- what round r has made of s
-  module _ (w : Progress) (r : ℕ) (s t : Progress) (g : Pending w r s) (e : t ≡ cutTo n (round (try (s .solved)) r s)) where
-    nothing-new : anyBelow n (solvedNow (try (s .solved)) s) ≡ false → t ≡ cutTo n s
-    nothing-new f = e ∙ cut-ext n (round (try (s .solved)) r s) s (record { solved = λ u l. rw (none′ u l) (or-none (s .solved u)); layer = λ u l. rw (none′ u l); set = λ u l. rw (none′ u l) })
-      where
-        none′ : (u : ℕ) → u < n → solvedNow (try (s .solved)) s u ≡ false
-        none′ u l = is-false (solvedNow (try (s .solved)) s u) (λ a. from-false (anyBelow n (solvedNow (try (s .solved)) s)) f (any-in n (solvedNow (try (s .solved)) s) u l a))
-
-    -- it has solved some node
-    going-new : allBelow capacity (λ u. not (t .solved u ⊕ s .solved u)) ≡ false → T (anyBelow n (solvedNow (try (s .solved)) s))
-    going-new f = go (dec (anyBelow n (solvedNow (try (s .solved)) s)))
-      where
-        go : T (anyBelow n (solvedNow (try (s .solved)) s)) ⊎ (T (anyBelow n (solvedNow (try (s .solved)) s)) → ⊥) → T (anyBelow n (solvedNow (try (s .solved)) s))
-        go (inl a) = a
-        go (inr a) =
-            let q : t ≡ s = nothing-new (is-false (anyBelow n (solvedNow (try (s .solved)) s)) a) ∙ sym (g .cut) in
-            absurd (both-ways (allBelow capacity (λ u. not (t .solved u ⊕ s .solved u)))
-            (is-true (allBelow capacity (λ u. not (t .solved u ⊕ s .solved u))) (all-in capacity (λ u. not (t .solved u ⊕ s .solved u)) (λ u l. rw (q, ⊕-self (s .solved u)) tt))) f)
-
-    -- it has solved nothing: the search is at its end
-    going-idle : n ≤ capacity → allBelow capacity (λ u. not (t .solved u ⊕ s .solved u)) ≡ true → t ≡ cutTo n w
-    going-idle h f = nothing-new quiet ∙ cut-ext n s w (rw (idle (g .bound) r s quiet) at (g .same))
-      where
-        as-before : (u : ℕ) → u < n → t .solved u ≡ s .solved u
-        as-before u l =
-            ⊕-eq (t .solved u) (s .solved u)
-            (is-false (t .solved u ⊕ s .solved u)
-            (not-out (t .solved u ⊕ s .solved u) (all-out capacity (λ u. not (t .solved u ⊕ s .solved u)) (from-true (allBelow capacity (λ u. not (t .solved u ⊕ s .solved u))) f) u (omega arith))))
-
-        quiet : anyBelow n (solvedNow (try (s .solved)) s) ≡ false
-        quiet = any-none n (solvedNow (try (s .solved)) s) (λ u l a. fresh-open (try (s .solved)) s u (now-solved u l a) a)
-          where
-            now-solved : (u : ℕ) → u < n → T (solvedNow (try (s .solved)) s u) → T (s .solved u)
-            now-solved u l a = rw (← as-before u l, cut-same n t (round (try (s .solved)) r s) e .solved u l) (or-r (s .solved u) (solvedNow (try (s .solved)) s u) a)
-
-    module _ (a : T (anyBelow n (solvedNow (try (s .solved)) s))) where
-      -- fewer nodes are unsolved
-      going-fewer : count n (λ u. not (t .solved u)) < count n (λ u. not (s .solved u))
-      going-fewer =
-          let f : count n (λ u. not (round (try (s .solved)) r s .solved u)) < count n (λ u. not (s .solved u)) = fewer stops try n r s a in
-          let q : count n (λ u. not (t .solved u)) ≡ count n (λ u. not (round (try (s .solved)) r s .solved u)) =
-          count-ext n (λ u. not (t .solved u)) (λ u. not (round (try (s .solved)) r s .solved u)) (λ u l. ap not (cut-same n t (round (try (s .solved)) r s) e .solved u l)) in
-          omega arith
-
-      going-on : ((x y : Progress) → SameProgress n x y → stops x ≡ stops y)
-          → ((later later′ : ℕ → Bool) → ((v : ℕ) → v < n → later v ≡ later′ v) → (u : ℕ) → u < n → try later u ≡ try later′ u)
-          → (T (stops s) → ⊥) → Pending w (r + 1) t
-      going-on x y f = go (g .bound) (g .all) (g .unsolved) (g .same)
-        where
-          less : (k : ℕ) → count n (λ u. not (s .solved u)) ≤ k → count n (λ u. not (t .solved u)) < k
-          less k h = let q = going-fewer in omega arith
-
-          shift : (k : ℕ) → r + suc k ≡ n + 1 → r + 1 + k ≡ n + 1
-          shift k h = omega arith
-
-          few : (m k : ℕ) → m < suc k → m ≤ k
-          few m k h = omega arith
-
-          no-bound : (m : ℕ) → m < 0 → ⊥
-          no-bound m h = omega arith
-
-          go : (k : ℕ) → r + k ≡ n + 1 → count n (λ u. not (s .solved u)) ≤ k → SameProgress n (rounds stops try n k r s) w → Pending w (r + 1) t
-          go zero b c d = absurd (no-bound (count n (λ u. not (t .solved u))) (less zero c))
-          go (suc k) b c d = record {
-            cut = cut-again n t (round (try (s .solved)) r s) e;
-            bound = k;
-            all = shift k b;
-            unsolved = few (count n (λ u. not (t .solved u))) k (less (suc k) c);
-            same = progress-trans (rounds-agree stops try n x y k (r + 1) t (round (try (s .solved)) r s) (cut-same n t (round (try (s .solved)) r s) e)) (rw (goes k r s f a) at d);
-          }
-
-  -- what a round has made of s, or left of it where the search stops
-  module _ (w : Progress) (r : ℕ) (s t : Progress) (g : Pending w r s) (e : t ≡ advanced stops (try (s .solved)) n r s) where
+  module _ (w : Progress) (r : ℕ) (later : ℕ → Bool) (s t : Progress) (g : Pending try n w r later s) (e : t ≡ cutTo n (round (try later) r s)) where
     abbrev unchanged : Bool
-    unchanged = allBelow capacity (λ u. not (t .solved u ⊕ s .solved u))
+    unchanged = allBelow capacity (λ u. not (t .solved u ⊕ later u))
 
-    halted : T (stops s) → t ≡ s
-    halted q = e ∙ ap (λ (b : Bool). cond b s (cutTo n (round (try (s .solved)) r s))) (is-true (stops s) q)
+    made : SameProgress n t (round (try later) r s)
+    made = cut-same n t (round (try later) r s) e
 
-    went-on : (T (stops s) → ⊥) → t ≡ cutTo n (round (try (s .solved)) r s)
-    went-on f = e ∙ ap (λ (b : Bool). cond b s (cutTo n (round (try (s .solved)) r s))) (is-false (stops s) f)
+    led : SameProgress n (onward try n (r + 1) t) w
+    led = progress-trans (onward-agree (r + 1) t (round (try later) r s) made) (g .leads)
 
-    -- nothing has changed: the search is at its end
+    kept : (u : ℕ) → u < n → T (s .solved u) → T (t .solved u)
+    kept u l a = rw (made .solved u l) (or-l (s .solved u) (solvedNow (try later) s u) a)
+
+    -- no more nodes are later: the search is at its end
     pub going-end : n ≤ capacity → unchanged ≡ true → t ≡ cutTo n w
-    going-end h q = by (dec (stops s))
+    going-end h q = cut-again n t (round (try later) r s) e ∙ cut-ext n t w (rw (rounds-idle never try n n (r + 1) t quiet) at led)
       where
-        by : T (stops s) ⊎ (T (stops s) → ⊥) → t ≡ cutTo n w
-        by (inl y) = halted y ∙ going-stop w r s g y
-        by (inr f) = going-idle w r s t g (went-on f) h q
+        as-before : (u : ℕ) → u < n → t .solved u ≡ later u
+        as-before u l =
+            ⊕-eq (t .solved u) (later u)
+            (is-false (t .solved u ⊕ later u)
+            (not-out (t .solved u ⊕ later u) (all-out capacity (λ u. not (t .solved u ⊕ later u)) (from-true unchanged q) u (omega arith))))
 
-    -- something has changed
+        quiet : anyBelow n (solvedNow (try (t .solved)) t) ≡ false
+        quiet = any-none n (solvedNow (try (t .solved)) t) (λ u l a. fresh-open (try (t .solved)) t u (now-solved u l a (dec (s .solved u))) a)
+          where
+            now-solved : (u : ℕ) → u < n → T (solvedNow (try (t .solved)) t u) → T (s .solved u) ⊎ (T (s .solved u) → ⊥) → T (t .solved u)
+            now-solved u l a (inl b) = kept u l b
+            now-solved u l a (inr f) =
+                rw (made .solved u l)
+                (or-r (s .solved u) (solvedNow (try later) s u)
+                (and-in (not (s .solved u)) (isSome (try later u)) (not-in (s .solved u) f)
+                (rw (ext (t .solved) later as-before u) at (and-r (not (t .solved u)) (isSome (try (t .solved) u)) a))))
+
+    -- more nodes are later
     module _ (q : unchanged ≡ false) where
-      goes-on : T (stops s) → ⊥
-      goes-on y = both-ways unchanged (is-true unchanged (all-in capacity (λ u. not (t .solved u ⊕ s .solved u)) (λ u l. rw (halted y, ⊕-self (s .solved u)) tt))) q
+      pub going-less : count n (λ u. not (t .solved u)) < count n (λ u. not (later u))
+      going-less = by (grows n (λ u. not (t .solved u)) (λ u. not (later u)) (λ u l a. not-in (later u) (λ b. not-out (t .solved u) a (kept u l (g .sub u b)))))
+        where
+          outside : (p : Progress) → p ≡ cutTo n p → (u : ℕ) → n ≤ u → p .solved u ≡ false
+          outside p c u l = ap (λ (x : Progress). x .solved u) c ∙ ap (λ (b : Bool). b && p .solved u) (ltb-no u n l)
 
-      pub going-less : count n (λ u. not (t .solved u)) < count n (λ u. not (s .solved u))
-      going-less = going-fewer w r s t g (went-on goes-on) (going-new w r s t g (went-on goes-on) q)
+          by : (count n (λ u. not (t .solved u)) < count n (λ u. not (later u))) ⊎ ((count n (λ u. not (t .solved u)) ≡ count n (λ u. not (later u))) × Within n (λ u. not (later u)) (λ u. not (t .solved u)))
+              → count n (λ u. not (t .solved u)) < count n (λ u. not (later u))
+          by (inl a) = a
+          by (inr (a, b)) = absurd (both-ways unchanged (is-true unchanged (all-in capacity (λ u. not (t .solved u ⊕ later u)) (λ u l. same u (lt-or-ge u n) (dec (later u))))) q)
+            where
+              same : (u : ℕ) → (u < n) ⊎ (n ≤ u) → T (later u) ⊎ (T (later u) → ⊥) → T (not (t .solved u ⊕ later u))
+              same u (inl l) (inl d) = rw (is-true (later u) d, is-true (t .solved u) (kept u l (g .sub u d))) tt
+              same u (inl l) (inr d) = rw (is-false (later u) d, is-false (t .solved u) (not-out (t .solved u) (b u l (not-in (later u) d)))) tt
+              same u (inr l) (inl d) = absurd (from-false (s .solved u) (outside s (g .cut) u l) (g .sub u d))
+              same u (inr l) (inr d) = rw (is-false (later u) d, outside t (cut-again n t (round (try later) r s) e) u l) tt
 
-      pub going-next : ((x y : Progress) → SameProgress n x y → stops x ≡ stops y)
-          → ((later later′ : ℕ → Bool) → ((v : ℕ) → v < n → later v ≡ later′ v) → (u : ℕ) → u < n → try later u ≡ try later′ u)
-          → Pending w (r + 1) t
-      going-next x y = going-on w r s t g (went-on goes-on) (going-new w r s t g (went-on goes-on) q) x y goes-on
+      pub going-next : Pending try n w (r + 1) (t .solved) t
+      going-next = record {
+        cut = cut-again n t (round (try later) r s) e;
+        sub = λ u a. a;
+        all = omega (arith, going-less, g .all);
+        leads = progress-trans (onward-step (r + 1) t) led;
+      }
 
-  pub going-start : ((x y : Progress) → SameProgress n x y → stops x ≡ stops y)
-      → ((later later′ : ℕ → Bool) → ((v : ℕ) → v < n → later v ≡ later′ v) → (u : ℕ) → u < n → try later u ≡ try later′ u)
-      → (s t : Progress) → s ≡ cutTo n t → Pending (rounds stops try n n 1 t) 1 s
-  going-start x y s t e = record {
-    cut = cut-again n s t e;
-    bound = n;
-    all = omega arith;
-    unsolved = count-le n (λ u. not (s .solved u));
-    same = rounds-agree stops try n x y n 1 s t (cut-same n s t e);
+  -- the search begins with round 0, where no node is later, or with round 1
+  pub going-start : (fromZero : Bool) (output later : ℕ → Bool) (s : Progress) → s ≡ cutTo n (start output) → later ≡ cond fromZero noNode (s .solved)
+      → Pending try n (searchFrom fromZero try n output) (firstRound fromZero) later s
+  going-start true output later s e f = record {
+    cut = cut-again n s (start output) e;
+    sub = λ u a. absurd (rw f at a);
+    all = omega (arith, count-le n (λ u. not (later u)));
+    leads = rw f (onward-agree 1 (round (try noNode) 0 s) (round (try noNode) 0 (start output)) (round-agree n (try noNode) (try noNode) (λ u l. refl) 0 s (start output) (cut-same n s (start output) e)));
+  }
+  going-start false output later s e f = record {
+    cut = cut-again n s (start output) e;
+    sub = λ u a. rw f at a;
+    all = omega (arith, count-le n (λ u. not (later u)));
+    leads = rw f (progress-trans (onward-step 1 s) (onward-agree 1 s (start output) (cut-same n s (start output) e)));
   }
 
 -- a node of a part that leaves out `plain` where it is no pivot, and is not in it, is one of these

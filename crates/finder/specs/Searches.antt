@@ -1,8 +1,7 @@
--- The calls of both searches: what they work with, and what a call answers and leaves in the lent buffers.
+-- The call of the search, for planes or for Paulis: what it works with, and what it answers and leaves in the lent buffers.
 use Prim.Native.Nat.{ℕ, _+_, _*_, _/_, _%_}
 use mathlib.Core.Path.{_≡_}
 use mathlib.Core.Bool.{Bool, true, false, cond, _&&_, _||_}
-use mathlib.Core.Option.{Option}
 use mathlib.Core.List.{List}
 use lib.Dec.{eqb, leb, ltb}
 use lib.ListN.{length, getD}
@@ -17,10 +16,11 @@ use Rattle.nodes.specs.declared.utils.NodeSet.{NodeSet}
 use Rattle.solver.specs.Solver.{workBytes}
 use Rattle.flows.specs.Job.{Job, planeXY, planeYZ, planeXZ, pauliY, isXorY, isYorZ}
 use Rattle.flows.specs.Search.{Progress, round}
+use Rattle.flows.specs.Tries.{tryAt}
 use Rattle.flows.specs.Planes as Planes
 use Rattle.flows.specs.Paulis as Paulis
 use Rattle.finder.specs.Visits.{cutTo}
-use Rattle.finder.specs.declared.pflow.Kinds.{Kinds}
+use Rattle.finder.specs.declared.kinds.Kinds.{Kinds}
 use Rattle.finder.specs.declared.search.Search.{Search}
 use Rattle.finder.specs.declared.search.Search.the-variants.{Flow, NoFlow, Refused}
 
@@ -97,22 +97,14 @@ searchCall pauli n graph inputs outputs measured work layers sets =
     cond fits done (refused work layers sets)
 
 -- ---- within a search
--- the nodes that are measured in X or Y, in Y or Z, in Y, and in XY
-pub record KindsOf (n : ℕ) (measured : List ℕ) (k : Kinds) : Type 0 where
-  pub xy : member (k .xy) ≡ (λ u. ltb u n && isXorY (getD measured u 0))
-  pub yz : member (k .yz) ≡ (λ u. ltb u n && isYorZ (getD measured u 0))
-  pub y : member (k .y) ≡ (λ u. ltb u n && eqb (getD measured u 0) pauliY)
+-- the nodes that are excused with Paulis, those measured in X or Y, in Y or Z, and in Y; beside them those measured in XY
+pub record KindsOf (pauli : Bool) (n : ℕ) (measured : List ℕ) (k : Kinds) : Type 0 where
+  pub xy : member (k .xy) ≡ (λ u. ltb u n && (pauli && isXorY (getD measured u 0)))
+  pub yz : member (k .yz) ≡ (λ u. ltb u n && (pauli && isYorZ (getD measured u 0)))
+  pub y : member (k .y) ≡ (λ u. ltb u n && (pauli && eqb (getD measured u 0) pauliY))
   pub plain : member (k .plain) ≡ (λ u. ltb u n && eqb (getD measured u 0) planeXY)
 
--- what round r makes of p, of the nodes below n: where the search stops, nothing changes
-abbrev pub advanced : (stops : Progress → Bool) (try : ℕ → Option (ℕ → Bool)) (n r : ℕ) → Progress → Progress
-advanced stops try n r p = cond (stops p) p (cutTo n (round try r p))
-
--- round r has made q of p, for any outputs: no try asks for them
-abbrev pub PlanesAdvanced : (n : ℕ) (graph : List ℕ) (inputs : NodeSet) (measured : List ℕ) (r : ℕ) (p q : Progress) → Type 0
-PlanesAdvanced n graph inputs measured r p q =
-    (outputs : NodeSet) → let j = jobIn n graph inputs outputs measured in q ≡ advanced (Planes.stops j) (Planes.try j (p .solved)) n r p
-
-abbrev pub PaulisAdvanced : (n : ℕ) (graph : List ℕ) (inputs : NodeSet) (measured : List ℕ) (later : ℕ → Bool) (r : ℕ) (p q : Progress) → Type 0
-PaulisAdvanced n graph inputs measured later r p q =
-    (outputs : NodeSet) → let j = jobIn n graph inputs outputs measured in q ≡ advanced (λ s. false) (Paulis.try j later) n r p
+-- round r, where the nodes `later` are later than all of it, has made q of p, of the nodes below n; for any outputs, since no try asks for them
+abbrev pub Advanced : (pauli : Bool) (n : ℕ) (graph : List ℕ) (inputs : NodeSet) (measured : List ℕ) (later : ℕ → Bool) (r : ℕ) (p q : Progress) → Type 0
+Advanced pauli n graph inputs measured later r p q =
+    (outputs : NodeSet) → q ≡ cutTo n (round (tryAt (jobIn n graph inputs outputs measured) pauli later) r p)

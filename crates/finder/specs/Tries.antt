@@ -68,7 +68,7 @@ pub record Trying (n : ℕ) (s : Code.Context) (u : ℕ) (alone : NodeSet) : Typ
   pub covered : T (member (s .columns) u) → T (hasRow (contextOf s) u)
 
 -- ---- the branches of a measurement
--- a branch of a row of the table, in which 0 is no branch
+-- the second branch of a row of the table, where 0 is no branch
 abbrev pub tryListed : (n : ℕ) (graph : List ℕ) → Context → (u b : ℕ) → Option (ℕ → Bool)
 tryListed n graph c u b = let tried = tryBranch (graphJob n graph) c u b in cond (eqb b 0) none tried
 

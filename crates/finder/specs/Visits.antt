@@ -1,4 +1,4 @@
--- A round of both searches: how far a search has come in its set and the lent buffers, and how its nodes are visited.
+-- A round: how far a search has come in its set and the lent buffers, and how its nodes are visited.
 use Prim.Native.Nat.{ℕ, _≤_, _<_}
 use mathlib.Core.Path.{_≡_}
 use mathlib.Core.Bool.{Bool, cond, not, _&&_, _||_}

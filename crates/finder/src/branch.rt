@@ -5,12 +5,11 @@ ghost use Prim.Native.Nat.{_<_};
 ghost use lib.Dec.{eqb};
 ghost use Rattle.nodes.specs.Row.{anyBelow};
 ghost use Rattle.nodes.specs.NodeSet.{member, capacity};
-ghost use Rattle.nodes.specs.Options.{firstOf};
 ghost use Rattle.solver.specs.BasisCalls.{solutionOf};
 ghost use Rattle.flows.specs.Branch.{inSet, inOdd, withNode, tryBranch};
 ghost use Rattle.flows.specs.Round.{forNode, hasRow};
 ghost use Rattle.finder.specs.WorkMatrix.{contextOf};
-ghost use Rattle.finder.specs.Tries.{graphJob, sideBit, askedColumns, Ready, Trying, tryListed, tryIn, tryFor};
+ghost use Rattle.finder.specs.Tries.{graphJob, sideBit, askedColumns, Ready, Trying, tryFor};
 use crate::matrix::Context;
 use flows::PAULI_Z;
 use flows::PLANE_XY;
@@ -160,8 +159,9 @@ fn try_branch(
     with_node(found, u, alone, b)
 }
 
-// A branch of a row, where there is one.
-fn try_listed(
+// The branches of u's measurement m, by its row of the table, in order; the first that is solvable counts. 0 and numbers above 6 have
+// none. For u, u joins the upper rows and leaves the lower rows and the columns. Where no column is left, u is passed over.
+pub(crate) fn try_for(
     kernel: &[u64],
     reduced: &[u64],
     preimage: &[u64],
@@ -172,51 +172,26 @@ fn try_listed(
     s: Context,
     u: usize,
     alone: NodeSet,
-    b: u8,
+    m: u8,
 ) -> Solution
     requires { ⌜ Ready n (now graph) s echelon (now kernel) (now reduced) (now preimage) (now transposed) × Trying n s u alone ⌝ }
-    ensures { λ r. ⌜ solutionOf r ≡ tryListed n (now (graph .entry)) (forNode (contextOf s) u) u b ⌝ }
+    ensures { λ r. ⌜ solutionOf r ≡ tryFor n (now (graph .entry)) (contextOf s) u m ⌝ }
 {
-    if b == NO_BRANCH {
+    let columns = s.columns;
+    if columns.difference(alone).is_empty() {
         return Solution::Nothing;
     }
-    try_branch(
-        kernel,
-        reduced,
-        preimage,
-        echelon,
-        graph,
-        transposed,
-        n,
-        s,
-        u,
-        alone,
-        b,
-    )
-}
-
-// The branches of a row, in order; the first that is solvable counts.
-fn try_row(
-    kernel: &[u64],
-    reduced: &[u64],
-    preimage: &[u64],
-    echelon: Echelon,
-    graph: &[u64],
-    transposed: &[u64],
-    n: usize,
-    s: Context,
-    u: usize,
-    alone: NodeSet,
-    first: u8,
-    second: u8,
-) -> Solution
-    requires { ⌜ Ready n (now graph) s echelon (now kernel) (now reduced) (now preimage) (now transposed) × Trying n s u alone ⌝ }
-    ensures { λ r. ⌜ solutionOf r ≡ firstOf (tryListed n (now (graph .entry)) (forNode (contextOf s) u) u first) (tryListed n (now (graph .entry)) (forNode (contextOf s) u) u second) ⌝ }
-{
-    let mut b = first;
-    let mut later = second;
+    if m < PLANE_XY {
+        return Solution::Nothing;
+    }
+    if m > PAULI_Z {
+        return Solution::Nothing;
+    }
+    let row = BRANCHES[(m - PLANE_XY) as usize];
+    let mut b = row[0];
+    let mut later = row[1];
     loop {
-        let t = try_listed(
+        let t = try_branch(
             kernel,
             reduced,
             preimage,
@@ -239,80 +214,4 @@ fn try_row(
         b = later;
         later = NO_BRANCH;
     }
-}
-
-// The branches of u's measurement m, by its row of the table; 0 and numbers above 6 have none.
-fn try_node(
-    kernel: &[u64],
-    reduced: &[u64],
-    preimage: &[u64],
-    echelon: Echelon,
-    graph: &[u64],
-    transposed: &[u64],
-    n: usize,
-    s: Context,
-    u: usize,
-    alone: NodeSet,
-    m: u8,
-) -> Solution
-    requires { ⌜ Ready n (now graph) s echelon (now kernel) (now reduced) (now preimage) (now transposed) × Trying n s u alone ⌝ }
-    ensures { λ r. ⌜ solutionOf r ≡ tryIn n (now (graph .entry)) (forNode (contextOf s) u) u m ⌝ }
-{
-    if m < PLANE_XY {
-        return Solution::Nothing;
-    }
-    if m > PAULI_Z {
-        return Solution::Nothing;
-    }
-    let row = BRANCHES[(m - PLANE_XY) as usize];
-    try_row(
-        kernel,
-        reduced,
-        preimage,
-        echelon,
-        graph,
-        transposed,
-        n,
-        s,
-        u,
-        alone,
-        row[0],
-        row[1],
-    )
-}
-
-// For u, u joins the upper rows and leaves the lower rows and the columns. Where no column is left, u is passed over.
-pub(crate) fn try_for(
-    kernel: &[u64],
-    reduced: &[u64],
-    preimage: &[u64],
-    echelon: Echelon,
-    graph: &[u64],
-    transposed: &[u64],
-    n: usize,
-    s: Context,
-    u: usize,
-    alone: NodeSet,
-    m: u8,
-) -> Solution
-    requires { ⌜ Ready n (now graph) s echelon (now kernel) (now reduced) (now preimage) (now transposed) × Trying n s u alone ⌝ }
-    ensures { λ r. ⌜ solutionOf r ≡ tryFor n (now (graph .entry)) (contextOf s) u m ⌝ }
-{
-    let columns = s.columns;
-    if columns.difference(alone).is_empty() {
-        return Solution::Nothing;
-    }
-    try_node(
-        kernel,
-        reduced,
-        preimage,
-        echelon,
-        graph,
-        transposed,
-        n,
-        s,
-        u,
-        alone,
-        m,
-    )
 }

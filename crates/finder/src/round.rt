@@ -1,16 +1,21 @@
-// A round of both searches: one elimination serves all its nodes, which are visited one after the other.
+// A round: one elimination serves all its nodes, which are visited one after the other.
 ghost use mathlib.Core.Path.{_≡_};
-ghost use Prim.Native.Nat.{_≤_, _<_};
+ghost use mathlib.Core.Bool.{not, _&&_, _||_};
+ghost use Prim.Native.Nat.{ℕ, _≤_, _<_};
 ghost use lib.ListN.{length, getD};
-ghost use lib.Dec.{eqb};
+ghost use lib.Dec.{T, eqb};
+ghost use Rattle.nodes.specs.Row.{anyBelow};
 ghost use Rattle.nodes.specs.NodeSet.{member, capacity};
 ghost use Rattle.nodes.specs.SetTable.{tableWords};
 ghost use Rattle.solver.specs.Solver.{workBytes};
 ghost use Rattle.solver.specs.BasisCalls.{TablesSolve, solutionOf};
 ghost use Rattle.finder.specs.WorkMatrix.{contextOf, RowsApart, Reaching, Transposed};
 ghost use Rattle.finder.specs.Tries.{roundSystem, TablesFit, Ready, tryFor};
-ghost use Rattle.finder.specs.Visits.{Sized, RoundContext, unsolved, progressIn, placed, visited};
+ghost use Rattle.finder.specs.Visits.{Sized, RoundContext, unsolved, progressIn, cutTo, placed, visited};
+ghost use Rattle.finder.specs.Searches.{KindsOf, Advanced};
 use crate::branch::try_for;
+use crate::kinds::Kinds;
+use crate::kinds::context;
 use crate::matrix::Context;
 use crate::matrix::Support;
 use crate::matrix::fill;
@@ -137,13 +142,30 @@ fn visit(
     q
 }
 
-// Round r, where the nodes of `plain` are those measured in XY.
-pub(crate) fn round(
+// The search for planes stops where nothing is unsolved or no column exists: a round would solve nothing.
+fn stops(pauli: bool, s: Context) -> bool
+    ensures { λ r. ⌜ r ≡ (not pauli && (not (anyBelow capacity (member (s .upper))) || not (anyBelow capacity (member (s .columns))))) ⌝ }
+{
+    if pauli {
+        return false;
+    }
+    let upper = s.upper;
+    let columns = s.columns;
+    if upper.is_empty() {
+        return true;
+    }
+    columns.is_empty()
+}
+
+// One round, with the nodes that are later than all of it, solved ones.
+pub(crate) fn advance(
+    pauli: bool,
     graph: &[u64],
     n: usize,
-    s: Context,
+    inputs: NodeSet,
     measured: &[u8],
-    plain: NodeSet,
+    kinds: Kinds,
+    later: NodeSet,
     state: State,
     r: u16,
     work: &mut [u8],
@@ -154,10 +176,16 @@ pub(crate) fn round(
     reduced: &mut [u64],
     preimage: &mut [u64],
 ) -> State
-    requires { ⌜ Sized n (now measured) (now work) (now layers) (now sets) × TablesFit (now kernel) (now reduced) (now preimage) × Transposed (now graph) (state .support) (now transposed) × RoundContext n (now measured) (state .solved) s plain ⌝ }
-    ensures { λ q. ⌜ progressIn (q .solved) (now (layers .exit)) (now (sets .exit)) ≡ visited (unsolved n (member (state .solved))) (λ u. tryFor n (now (graph .entry)) (contextOf s) u (getD (now (measured .entry)) u 0)) r (progressIn (state .solved) (now (layers .entry)) (now (sets .entry))) ⌝ }
+    requires { ⌜ Sized n (now measured) (now work) (now layers) (now sets) × TablesFit (now kernel) (now reduced) (now preimage) × Transposed (now graph) (state .support) (now transposed) ⌝ }
+    requires { ⌜ KindsOf pauli n (now measured) kinds × ((v : ℕ) → T (member later v) → T (member (state .solved) v)) × (progressIn (state .solved) (now layers) (now sets) ≡ cutTo n (progressIn (state .solved) (now layers) (now sets))) ⌝ }
+    ensures { λ q. ⌜ Advanced pauli n (now (graph .entry)) inputs (now (measured .entry)) (member later) r (progressIn (state .solved) (now (layers .entry)) (now (sets .entry))) (progressIn (q .solved) (now (layers .exit)) (now (sets .exit))) ⌝ }
     ensures { λ q. ⌜ Sized n (now (measured .entry)) (now (work .exit)) (now (layers .exit)) (now (sets .exit)) × TablesFit (now (kernel .exit)) (now (reduced .exit)) (now (preimage .exit)) × Transposed (now (graph .entry)) (q .support) (now (transposed .exit)) ⌝ }
 {
+    let s = context(n, inputs, later, kinds);
+    if stops(pauli, s) {
+        return state;
+    }
+    let plain = kinds.plain;
     let columns = s.columns;
     let support = transpose(graph, state.support, columns, transposed);
     let rows = support.rows;

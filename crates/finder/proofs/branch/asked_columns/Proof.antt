@@ -11,14 +11,8 @@ use Rattle.finder.proofs.branch.asked_columns.Tie as tie
 returns : tie.Need-returns
 returns c = let a = c .before .before .args in let p = c .before .before .pre in p .0 ∙ sym (ap {B = ℕ → Bool} (λ (b : Bool) (k : ℕ). cond b (eqb k (a .u)) (setAt (a .transposed .now) (a .u) k && member (a .s .columns) k)) (sym (p .1) ∙ c .if1 .taken))
 
-set-at-requires : tie.Need-set-at-requires
-set-at-requires c κs = search needs
-
-intersection-requires : tie.Need-intersection-requires
-intersection-requires c κs = search needs
-
 returns-2 : tie.Need-returns-2
 returns-2 c = let a = c .before .before .before .before .before .args in let p = c .before .before .before .before .before .pre in c .intersection .ensures ∙ ap {B = ℕ → Bool} (λ (f : ℕ → Bool) (k : ℕ). f k && member (a .s .columns) k) (c .before .set-at .ensures) ∙ sym (ap {B = ℕ → Bool} (λ (b : Bool) (k : ℕ). cond b (eqb k (a .u)) (setAt (a .transposed .now) (a .u) k && member (a .s .columns) k)) (sym (p .1) ∙ c .before .before .before .if1 .left))
 
 pub asked-columns-spec : {M : Type 1} → statement M
-asked-columns-spec = tie.close (tie.spec returns set-at-requires intersection-requires returns-2)
+asked-columns-spec = tie.close (tie.spec returns (λ c κs. search needs) (λ c κs. search needs) returns-2)

@@ -7,14 +7,8 @@ use borrow.Author.Needs.{needs}
 use Rattle.finder.proofs.branch.meet.Statement.{statement}
 use Rattle.finder.proofs.branch.meet.Tie as tie
 
-intersection-requires : tie.Need-intersection-requires
-intersection-requires c κs = search needs
-
-is-empty-requires : tie.Need-is-empty-requires
-is-empty-requires c κs = search needs
-
 returns : tie.Need-returns
 returns c = ap not (c .is-empty .ensures) ∙ not-not (anyBelow capacity (member (c .before .intersection .result))) ∙ ap (anyBelow capacity) (c .before .intersection .ensures)
 
 pub meet-spec : {M : Type 1} → statement M
-meet-spec = tie.close (tie.spec intersection-requires is-empty-requires returns)
+meet-spec = tie.close (tie.spec (λ c κs. search needs) (λ c κs. search needs) returns)

@@ -5,18 +5,6 @@ use borrow.Author.Needs.{needs}
 use Rattle.finder.proofs.branch.side_of.Statement.{statement}
 use Rattle.finder.proofs.branch.side_of.Tie as tie
 
-odd-of-requires : tie.Need-odd-of-requires
-odd-of-requires c κs = search needs
-
-in-set-requires : tie.Need-in-set-requires
-in-set-requires c κs = search needs
-
-set-at-requires : tie.Need-set-at-requires
-set-at-requires c κs = search needs
-
-xor-requires : tie.Need-xor-requires
-xor-requires c κs = search needs
-
 returns : tie.Need-returns
 returns c =
     let call-odd-of = c .before .before .before .before .odd-of in
@@ -28,4 +16,4 @@ returns-2 c = let a = c .before .before .before .before .args in side-out (a .gr
 pub side-of-spec : {M : Type 1} → statement M
 side-of-spec =
     tie.close
-    (tie.spec odd-of-requires in-set-requires set-at-requires xor-requires returns returns-2)
+    (tie.spec (λ c κs. search needs) (λ c κs. search needs) (λ c κs. search needs) (λ c κs. search needs) returns returns-2)

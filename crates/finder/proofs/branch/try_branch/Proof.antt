@@ -11,26 +11,14 @@ use borrow.Author.Needs.{needs}
 use Rattle.finder.proofs.branch.try_branch.Statement.{statement}
 use Rattle.finder.proofs.branch.try_branch.Tie as tie
 
-union-requires : tie.Need-union-requires
-union-requires c κs = search needs
-
 side-of-requires : tie.Need-side-of-requires
 side-of-requires c κs = c .before .before .before .before .before .before .before .before .pre .1 .alone′
-
-meet-requires : tie.Need-meet-requires
-meet-requires c κs = search needs
 
 asked-columns-requires : tie.Need-asked-columns-requires
 asked-columns-requires c κs = let a = c .before .before .before .before .before .before .before .before .before .before .args in let p = c .before .before .before .before .before .before .before .before .before .before .pre in let low : a .u < capacity = omega (arith, p .0 .within .nodes, p .1 .node) in (p .1 .alone′, c .meet .ensures ∙ meets-one (member (c .before .before .union .result)) (member (a .alone)) (a .u) low (p .1 .alone′) ∙ ap (λ (f : ℕ → Bool). f (a .u)) (c .before .before .union .ensures))
 
 asked-odd-requires : tie.Need-asked-odd-requires
 asked-odd-requires c κs = let a = c .before .before .before .before .before .before .before .before .before .before .before .args in let p = c .before .before .before .before .before .before .before .before .before .before .before .pre in (omega (arith, p .0 .within .nodes, p .1 .node), p .1 .alone′)
-
-intersection-requires : tie.Need-intersection-requires
-intersection-requires c κs = search needs
-
-answer-requires : tie.Need-answer-requires
-answer-requires c κs = search needs
 
 with-node-requires : tie.Need-with-node-requires
 with-node-requires c κs = c .before .before .before .before .before .before .before .before .before .before .before .before .before .before .pre .1 .alone′
@@ -52,12 +40,12 @@ pub try-branch-spec : {M : Type 1} → statement M
 try-branch-spec =
     tie.close
     (tie.spec
-    union-requires
+    (λ c κs. search needs)
     side-of-requires
-    meet-requires
+    (λ c κs. search needs)
     asked-columns-requires
     asked-odd-requires
-    intersection-requires
-    answer-requires
+    (λ c κs. search needs)
+    (λ c κs. search needs)
     with-node-requires
     returns)

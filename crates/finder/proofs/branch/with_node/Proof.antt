@@ -5,28 +5,13 @@ use borrow.Author.Needs.{needs}
 use Rattle.finder.proofs.branch.with_node.Statement.{statement}
 use Rattle.finder.proofs.branch.with_node.Tie as tie
 
-enum-known-f : tie.Need-enum-known-f
-enum-known-f c = search needs
-
-in-set-requires : tie.Need-in-set-requires
-in-set-requires c κs = search needs
-
-union-requires : tie.Need-union-requires
-union-requires c κs = search needs
-
 returns : tie.Need-returns
 returns c = let a = c .before .before .before .before .before .before .args in let m = c .before .before .before .before .f .given in own-in (a .f) (m .0 .0) (c .union .result) (a .u) (a .b) (member (a .alone)) (m .1) (sym (c .before .before .in-set .ensures) ∙ c .before .if1 .taken) (c .before .before .before .before .before .before .pre) (c .union .ensures)
-
-enum-told : tie.Need-enum-told
-enum-told c = search needs
 
 returns-2 : tie.Need-returns-2
 returns-2 c = let a = c .before .before .before .before .before .args in let m = c .before .before .before .f .given in own-out (a .f) (m .0 .0) (a .u) (a .b) (m .1) (sym (c .before .in-set .ensures) ∙ c .if1 .left)
 
-returns-3 : tie.Need-returns-3
-returns-3 c = search needs
-
 pub with-node-spec : {M : Type 1} → statement M
 with-node-spec =
     tie.close
-    (tie.spec enum-known-f in-set-requires union-requires returns enum-told returns-2 returns-3)
+    (tie.spec (λ c. search needs) (λ c κs. search needs) (λ c κs. search needs) returns (λ c. search needs) returns-2 (λ c. search needs))

@@ -4,12 +4,6 @@ use borrow.Author.Needs.{needs}
 use Rattle.finder.proofs.matrix.row_of.Statement.{statement}
 use Rattle.finder.proofs.matrix.row_of.Tie as tie
 
-set-at-requires : tie.Need-set-at-requires
-set-at-requires c κs = search needs
-
-xor-requires : tie.Need-xor-requires
-xor-requires c κs = search needs
-
 returns : tie.Need-returns
 returns c = let a = c .before .before .before .before .args in row-lower (a .transposed .now) (a .v) (a .lower) (member (c .before .before .set-at .result)) (member (a .alone)) (member (c .xor .result)) (c .before .if1 .taken) (c .before .before .set-at .ensures) (c .before .before .before .before .pre) (c .xor .ensures)
 
@@ -17,4 +11,4 @@ returns-2 : tie.Need-returns-2
 returns-2 c = let a = c .before .before .before .args in row-upper (a .transposed .now) (a .v) (a .lower) (member (c .before .set-at .result)) (c .if1 .left) (c .before .set-at .ensures)
 
 pub row-of-spec : {M : Type 1} → statement M
-row-of-spec = tie.close (tie.spec set-at-requires xor-requires returns returns-2)
+row-of-spec = tie.close (tie.spec (λ c κs. search needs) (λ c κs. search needs) returns returns-2)

@@ -30,38 +30,8 @@ room c =
     rows-room (record { columns = a .s .columns; upper = i .result; lower = a .s .lower })
     (λ v t l. entry c .pre .1 v (and-l (member (a .s .upper) v) (member (a .rows) v) (subst (λ (f : ℕ → Bool). T (f v)) (i .ensures) t)) l)
 
-intersection-requires : tie.Need-intersection-requires
-intersection-requires c κs = search needs
-
 fill-requires : tie.Need-fill-requires
 fill-requires c κs = let d = c .before .before .before in omega (arith, room d, entry d .pre .0)
-
-form-requires : tie.Need-form-requires
-form-requires c κs = search needs
-
-enum-known-formed : tie.Need-enum-known-formed
-enum-known-formed c = search needs
-
-enum-told : tie.Need-enum-told
-enum-told c = search needs
-
-empty-requires : tie.Need-empty-requires
-empty-requires c κs = search needs
-
-empty-requires-2 : tie.Need-empty-requires-2
-empty-requires-2 c κs = search needs
-
-same-length : tie.Need-same-length
-same-length c = search needs
-
-same-length-2 : tie.Need-same-length-2
-same-length-2 c = search needs
-
-same-length-3 : tie.Need-same-length-3
-same-length-3 c = search needs
-
-same-length-4 : tie.Need-same-length-4
-same-length-4 c = search needs
 
 returns : tie.Need-returns
 returns c =
@@ -76,18 +46,6 @@ returns c =
       laid-answers (a .transposed .now) (g .last .0) (a .s) (i .result) (a .rows) (i .ensures) (p .3) (g .ensures .0) (g .ensures .1 .0) (m .0 .0) _ _ _ z,
       (g .ensures .1 .1 ∙ p .0, (z .kernelSize, z .reducedSize, z .preimageSize)),
     )
-
-same-length-5 : tie.Need-same-length-5
-same-length-5 c = search needs
-
-same-length-6 : tie.Need-same-length-6
-same-length-6 c = search needs
-
-same-length-7 : tie.Need-same-length-7
-same-length-7 c = search needs
-
-same-length-8 : tie.Need-same-length-8
-same-length-8 c = search needs
 
 returns-2 : tie.Need-returns-2
 returns-2 c =
@@ -104,20 +62,20 @@ pub open-round-spec : {M : Type 1} → statement M
 open-round-spec =
     tie.close
     (tie.spec
-    intersection-requires
+    (λ c κs. search needs)
     fill-requires
-    form-requires
-    enum-known-formed
-    enum-told
-    empty-requires
-    empty-requires-2
-    same-length
-    same-length-2
-    same-length-3
-    same-length-4
+    (λ c κs. search needs)
+    (λ c. search needs)
+    (λ c. search needs)
+    (λ c κs. search needs)
+    (λ c κs. search needs)
+    (λ c. search needs)
+    (λ c. search needs)
+    (λ c. search needs)
+    (λ c. search needs)
     returns
-    same-length-5
-    same-length-6
-    same-length-7
-    same-length-8
+    (λ c. search needs)
+    (λ c. search needs)
+    (λ c. search needs)
+    (λ c. search needs)
     returns-2)

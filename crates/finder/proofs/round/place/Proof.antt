@@ -12,30 +12,6 @@ use borrow.Author.Needs.{needs}
 use Rattle.finder.proofs.round.place.Statement.{statement}
 use Rattle.finder.proofs.round.place.Tie as tie
 
-enum-known-t : tie.Need-enum-known-t
-enum-known-t c = search needs
-
-mul-layers : tie.Need-mul-layers
-mul-layers c = search needs
-
-slice-write-layers : tie.Need-slice-write-layers
-slice-write-layers c = search needs
-
-put-set-requires : tie.Need-put-set-requires
-put-set-requires c κs = search needs
-
-union-requires : tie.Need-union-requires
-union-requires c κs = search needs
-
-enum-told : tie.Need-enum-told
-enum-told c = search needs
-
-same-length : tie.Need-same-length
-same-length c = search needs
-
-same-length-2 : tie.Need-same-length-2
-same-length-2 c = search needs
-
 returns : tie.Need-returns
 returns c =
     let call-put-set = c .before .before .before .put-set in
@@ -56,13 +32,13 @@ pub place-spec : {M : Type 1} → statement M
 place-spec =
     tie.close
     (tie.spec
-    enum-known-t
-    mul-layers
-    slice-write-layers
-    put-set-requires
-    union-requires
-    enum-told
-    same-length
-    same-length-2
+    (λ c. search needs)
+    (λ c. search needs)
+    (λ c. search needs)
+    (λ c κs. search needs)
+    (λ c κs. search needs)
+    (λ c. search needs)
+    (λ c. search needs)
+    (λ c. search needs)
     returns
     returns-2)

@@ -8,27 +8,6 @@ use borrow.Author.Needs.{needs}
 use Rattle.finder.proofs.search.begin.Statement.{statement}
 use Rattle.finder.proofs.search.begin.Tie as tie
 
-clear-layers-requires : tie.Need-clear-layers-requires
-clear-layers-requires c κs = search needs
-
-clear-table-requires : tie.Need-clear-table-requires
-clear-table-requires c κs = search needs
-
-below-requires : tie.Need-below-requires
-below-requires c κs = search needs
-
-intersection-requires : tie.Need-intersection-requires
-intersection-requires c κs = search needs
-
-same-length : tie.Need-same-length
-same-length c = search needs
-
-same-length-2 : tie.Need-same-length-2
-same-length-2 c = search needs
-
-empty-requires : tie.Need-empty-requires
-empty-requires c κs = search needs
-
 returns : tie.Need-returns
 returns c =
     let s = c .before .before .before .before .before .before .before .before .before .before .before .before .before in
@@ -43,11 +22,11 @@ pub begin-spec : {M : Type 1} → statement M
 begin-spec =
     tie.close
     (tie.spec
-    clear-layers-requires
-    clear-table-requires
-    below-requires
-    intersection-requires
-    empty-requires
-    same-length
-    same-length-2
+    (λ c κs. search needs)
+    (λ c κs. search needs)
+    (λ c κs. search needs)
+    (λ c κs. search needs)
+    (λ c κs. search needs)
+    (λ c. search needs)
+    (λ c. search needs)
     returns)

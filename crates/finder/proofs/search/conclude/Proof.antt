@@ -9,30 +9,12 @@ use borrow.Author.Needs.{needs}
 use Rattle.finder.proofs.search.conclude.Statement.{statement}
 use Rattle.finder.proofs.search.conclude.Tie as tie
 
-clear-requires : tie.Need-clear-requires
-clear-requires c κs = search needs
-
-below-requires : tie.Need-below-requires
-below-requires c κs = search needs
-
-difference-requires : tie.Need-difference-requires
-difference-requires c κs = search needs
-
-is-empty-requires : tie.Need-is-empty-requires
-is-empty-requires c κs = search needs
-
-same-length : tie.Need-same-length
-same-length c = search needs
-
 returns : tie.Need-returns
 returns c = let e = c .before in
     let d = e .before in
     let a = d .before .before .before .before .before .before .before .args in
     let whole = e .is-empty .ensures ∙ ap (λ (f : ℕ → Bool). not (anyBelow capacity f)) (d .difference .ensures ∙ ap {B = ℕ → Bool} (λ (f : ℕ → Bool) (u : ℕ). f u && not (member (a .solved) u)) (d .before .below .ensures)) ∙ all-solved (a .n) (member (a .solved)) (search needs) in
     (ap gives (sym (c .if1 .taken) ∙ whole), search needs)
-
-same-length-2 : tie.Need-same-length-2
-same-length-2 c = search needs
 
 returns-2 : tie.Need-returns-2
 returns-2 c = let e = c .before in
@@ -45,11 +27,11 @@ pub conclude-spec : {M : Type 1} → statement M
 conclude-spec =
     tie.close
     (tie.spec
-    clear-requires
-    below-requires
-    difference-requires
-    is-empty-requires
-    same-length
+    (λ c κs. search needs)
+    (λ c κs. search needs)
+    (λ c κs. search needs)
+    (λ c κs. search needs)
+    (λ c. search needs)
     returns
-    same-length-2
+    (λ c. search needs)
     returns-2)
