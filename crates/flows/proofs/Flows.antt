@@ -29,7 +29,7 @@ abbrev pub endedAt : Job → Bool → Progress
 endedAt j pauli = searchFrom pauli (tryAt j pauli) (j .nodes) (j .output)
 
 -- ---- the planes' stop is a round in which every node is passed over
-planes-rounds : (j : Job) (k r : ℕ) (s : Progress) → rounds (Planes.stops j) (Planes.try j) (j .nodes) k r s ≡ rounds never (tryAt j false) (j .nodes) k r s
+pub planes-rounds : (j : Job) (k r : ℕ) (s : Progress) → rounds (Planes.stops j) (Planes.try j) (j .nodes) k r s ≡ rounds never (tryAt j false) (j .nodes) k r s
 planes-rounds j = rounds-pass (Planes.stops j) (Planes.try j) (tryAt j false) (j .nodes) idle same
   where
     columns : (s : Progress) (u : ℕ) → (T (s .solved u) → ⊥) → noColumnAt j false (s .solved) u ≡ Planes.noColumn j (s .solved)

@@ -1,15 +1,11 @@
 -- The searches of specs/Search depend on the nodes below n only: progress that agrees there goes on to agree.
 use Prim.Native.Nat.{ℕ, zero, suc, _+_, _<_}
-use mathlib.Core.Path.{_≡_, refl, sym, ap, ap₂, _∙_}
-use mathlib.Core.Bool.{Bool, true, false, cond, not, _||_}
+use mathlib.Core.Path.{_≡_, sym, _∙_}
+use mathlib.Core.Bool.{Bool, true, false, cond}
 use mathlib.Core.Option.{Option}
 use Rattle.nodes.specs.Row.{anyBelow}
-use Rattle.nodes.proofs.Row.{any-ext, all-ext}
-use Rattle.flows.specs.Job.{Job}
+use Rattle.nodes.proofs.Row.{any-ext}
 use Rattle.flows.specs.Search.{Progress, solvedNow, round, rounds}
-use Rattle.flows.specs.Planes as Planes
-use Rattle.flows.specs.Paulis as Paulis
-use Rattle.flows.proofs.Tries.{node-ext, try-ext}
 
 pub record SameProgress (n : ℕ) (s t : Progress) : Type 0 where
   pub solved : (u : ℕ) → u < n → s .solved u ≡ t .solved u
@@ -49,16 +45,3 @@ rounds-agree stops try n p q (suc k) r s t h = go (stops s) (stops t) (p s t h) 
     go true b e c d f ih = rw (← e) h
     go false b e true d f ih = rw (← e, ← f) ih
     go false b e false d f ih = rw (← e, ← f) h
-
--- ---- both searches
-pub planes-try-ext : (j : Job) (later later′ : ℕ → Bool) → ((v : ℕ) → v < j .nodes → later v ≡ later′ v) → (u : ℕ) → u < j .nodes → Planes.try j later u ≡ Planes.try j later′ u
-planes-try-ext j later later′ e u l =
-    node-ext j (Planes.context j later) (Planes.context j later′) (record { column = λ k m. rw (e k m); upper = λ v m. rw (e v m); lower = λ v m. refl }) u
-
-pub planes-stops-ext : (j : Job) (s t : Progress) → SameProgress (j .nodes) s t → Planes.stops j s ≡ Planes.stops j t
-planes-stops-ext j s t h =
-    ap₂ _||_ (all-ext (j .nodes) (s .solved) (t .solved) (h .solved))
-    (ap not (any-ext (j .nodes) (Planes.context j (s .solved) .column) (Planes.context j (t .solved) .column) (λ k l. rw (h .solved k l))))
-
-pub paulis-try-ext : (j : Job) (later later′ : ℕ → Bool) → ((v : ℕ) → v < j .nodes → later v ≡ later′ v) → (u : ℕ) → u < j .nodes → Paulis.try j later u ≡ Paulis.try j later′ u
-paulis-try-ext j later later′ e u l = try-ext j true later later′ e u
