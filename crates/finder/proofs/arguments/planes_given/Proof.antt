@@ -25,24 +25,12 @@ loop-holds : tie.Need-loop-holds Inv-loop μ-loop
 unfolding allBelow
 loop-holds c = (search needs, tt)
 
-shared-slice-read-is-given : tie.Need-shared-slice-read-is-given Inv-loop μ-loop
-shared-slice-read-is-given c = search needs
-
-is-given-requires : tie.Need-is-given-requires Inv-loop μ-loop
-is-given-requires c κs = search needs
-
 returns : tie.Need-returns Inv-loop μ-loop
 returns c = let a = c .before .before .before .before .before .before .args in
     let i = c .before .before .before .before .loop .i in
     let f : ℕ → Bool = λ u. member (a .outputs) u || isPlane (getD (a .measured .now) u 0) in
     let no : f i ≡ false = sym (c .before .is-given .ensures) ∙ not-true _ (c .if1 .taken) in
     sym (is-false (allBelow (a .n) f) (λ t. from-false (f i) no (all-out (a .n) f t i (search needs))))
-
-add-i : tie.Need-add-i Inv-loop μ-loop
-add-i c = search needs
-
-loop-less : tie.Need-loop-less Inv-loop μ-loop
-loop-less c = search needs
 
 loop-again : tie.Need-loop-again Inv-loop μ-loop
 loop-again c = let a = c .before .before .before .before .before .before .args in
@@ -64,10 +52,10 @@ planes-given-spec =
     Inv-loop
     μ-loop
     loop-holds
-    shared-slice-read-is-given
-    is-given-requires
+    (λ c. search needs)
+    (λ c κs. search needs)
     returns
-    add-i
-    loop-less
+    (λ c. search needs)
+    (λ c. search needs)
     loop-again
     returns-2)

@@ -44,12 +44,6 @@ try-at c b = let a = entry (c .before .before .before .before .before) .args in 
 abbrev listed-at : tie.At-loop Inv-loop μ-loop → ℕ → Option (ℕ → Bool)
 listed-at c b = cond (eqb b 0) none (try-at c b)
 
-difference-requires : tie.Need-difference-requires Inv-loop μ-loop
-difference-requires c κs = search needs
-
-is-empty-requires : tie.Need-is-empty-requires Inv-loop μ-loop
-is-empty-requires c κs = search needs
-
 returns : tie.Need-returns Inv-loop μ-loop
 returns c = let a = entry (c .before) .args in ap (λ (b : Bool). cond b none (tryIn (a .n) (a .graph .now) (forNode (contextOf (a .s)) (a .u)) (a .u) (a .m))) (sym (c .if1 .taken) ∙ no-column (c .before))
 
@@ -59,46 +53,22 @@ returns-2 c = let a = entry (c .before .before) .args in none-below (a .n) (a .g
 returns-3 : tie.Need-returns-3 Inv-loop μ-loop
 returns-3 c = let a = entry (c .before .before .before) .args in none-above (a .n) (a .graph .now) (forNode (contextOf (a .s)) (a .u)) (a .u) (a .m) (c .if3 .taken) ∙ column-left (c .before .before)
 
-cast-row : tie.Need-cast-row Inv-loop μ-loop
-cast-row c = search needs
-
-mul-row : tie.Need-mul-row Inv-loop μ-loop
-mul-row c = search needs
-
-array-copy-out-row : tie.Need-array-copy-out-row Inv-loop μ-loop
-array-copy-out-row c = search needs
-
-array-read-b : tie.Need-array-read-b Inv-loop μ-loop
-array-read-b c = search needs
-
-array-read-later : tie.Need-array-read-later Inv-loop μ-loop
-array-read-later c = search needs
-
 loop-holds : tie.Need-loop-holds Inv-loop μ-loop
 loop-holds c = let a = entry (c .before .before .before .before) .args in row-tried (a .n) (a .graph .now) (forNode (contextOf (a .s)) (a .u)) (a .u) (a .m) (omega arith) (omega arith) ∙ column-left (c .before .before .before)
 
 try-branch-requires : tie.Need-try-branch-requires Inv-loop μ-loop
 try-branch-requires c κs = entry (c .before .before .before .before .before) .pre
 
-enum-known-t : tie.Need-enum-known-t Inv-loop μ-loop
-enum-known-t c = search needs
-
 returns-4 : tie.Need-returns-4 Inv-loop μ-loop
 returns-4 c =
     let d = c .before .before .before .before in
     ap (λ (o : Option (ℕ → Bool)). firstOf o (listed-at d (d .loop .later))) (ap solutionOf (sym (c .before .t .given .1)) ∙ c .before .before .before .try-branch .ensures) ∙ d .loop .inv
-
-enum-told : tie.Need-enum-told Inv-loop μ-loop
-enum-told c = search needs
 
 returns-5 : tie.Need-returns-5 Inv-loop μ-loop
 returns-5 c =
     let d = c .before .before .before .before in
     let e : d .loop .later ≡ 0 = c .if4 .taken in
     sym (ap₂ firstOf (sym (c .before .before .before .try-branch .ensures) ∙ ap solutionOf (c .before .enum-told .given .1)) (ap (listed-at d) e)) ∙ d .loop .inv
-
-loop-less : tie.Need-loop-less Inv-loop μ-loop
-loop-less c = search needs
 
 loop-again : tie.Need-loop-again Inv-loop μ-loop
 loop-again c =
@@ -112,21 +82,21 @@ try-for-spec =
     (tie.spec
     Inv-loop
     μ-loop
-    difference-requires
-    is-empty-requires
+    (λ c κs. search needs)
+    (λ c κs. search needs)
     returns
     returns-2
     returns-3
-    cast-row
-    mul-row
-    array-copy-out-row
-    array-read-b
-    array-read-later
+    (λ c. search needs)
+    (λ c. search needs)
+    (λ c. search needs)
+    (λ c. search needs)
+    (λ c. search needs)
     loop-holds
     try-branch-requires
-    enum-known-t
+    (λ c. search needs)
     returns-4
-    enum-told
+    (λ c. search needs)
     returns-5
-    loop-less
+    (λ c. search needs)
     loop-again)

@@ -16,26 +16,8 @@ Inv-loop n measured a b found₀ i₀ found i = (i ≤ n) × (member found ≡ (
 abbrev μ-loop : tie.MeasureT-loop
 μ-loop n measured a b found₀ i₀ found i = n - i
 
-empty-requires : tie.Need-empty-requires Inv-loop μ-loop
-empty-requires c κs = search needs
-
 loop-holds : tie.Need-loop-holds Inv-loop μ-loop
 loop-holds c = (search needs, c .empty .ensures ∙ none-yet _)
-
-shared-slice-read-is-either : tie.Need-shared-slice-read-is-either Inv-loop μ-loop
-shared-slice-read-is-either c = search needs
-
-is-either-requires : tie.Need-is-either-requires Inv-loop μ-loop
-is-either-requires c κs = search needs
-
-with-if-requires : tie.Need-with-if-requires Inv-loop μ-loop
-with-if-requires c κs = search needs
-
-add-i : tie.Need-add-i Inv-loop μ-loop
-add-i c = search needs
-
-loop-less : tie.Need-loop-less Inv-loop μ-loop
-loop-less c = search needs
 
 loop-again : tie.Need-loop-again Inv-loop μ-loop
 loop-again c = let a = c .before .before .before .before .before .before .before .args in
@@ -54,12 +36,12 @@ measured-in-spec =
     (tie.spec
     Inv-loop
     μ-loop
-    empty-requires
+    (λ c κs. search needs)
     loop-holds
-    shared-slice-read-is-either
-    is-either-requires
-    with-if-requires
-    add-i
-    loop-less
+    (λ c. search needs)
+    (λ c κs. search needs)
+    (λ c κs. search needs)
+    (λ c. search needs)
+    (λ c. search needs)
     loop-again
     returns)

@@ -34,28 +34,13 @@ some-here c = some-left (c .before .before .loop .left) (c .before .is-empty .re
 loop-holds : tie.Need-loop-holds Inv-loop μ-loop
 loop-holds c = let a = c .before .before .args in laying-start (member (a .rows)) (rowBit (a .transposed .now) (member (a .columns)) (a .lower)) (a .work .now)
 
-is-empty-requires : tie.Need-is-empty-requires Inv-loop μ-loop
-is-empty-requires c κs = search needs
-
-lowest-requires : tie.Need-lowest-requires Inv-loop μ-loop
-lowest-requires c κs = search needs
-
-first-requires : tie.Need-first-requires Inv-loop μ-loop
-first-requires c κs = search needs
-
 row-of-requires : tie.Need-row-of-requires Inv-loop μ-loop
 row-of-requires c κs = let d = c .before .before .before .before in
     let l = d .loop in least-one capacity (member (l .left)) (member (c .first .result)) (some-here (c .before .before)) (c .first .ensures) ∙ ap {B = ℕ → Bool} (λ (v u : ℕ). eqb u v) (sym (c .before .lowest .ensures))
 
-intersection-requires : tie.Need-intersection-requires Inv-loop μ-loop
-intersection-requires c κs = search needs
-
 put-row-requires : tie.Need-put-row-requires Inv-loop μ-loop
 put-row-requires c κs = let d = c .before .before .before .before .before .before .before in
     let l = d .loop in let room = walk-room capacity (member (entry d .args .rows)) (member (l .left)) (l .i) (l .inv .walk) (some-here (c .before .before .before .before .before)) in omega (arith, room, entry d .pre, l .inv .size)
-
-without-lowest-requires : tie.Need-without-lowest-requires Inv-loop μ-loop
-without-lowest-requires c κs = search needs
 
 add-i : tie.Need-add-i Inv-loop μ-loop
 add-i c = let d = c .before .before .before .before .before .before .before .before .before .before .before in
@@ -92,13 +77,13 @@ put-rows-spec =
     Inv-loop
     μ-loop
     loop-holds
-    is-empty-requires
-    lowest-requires
-    first-requires
+    (λ c κs. search needs)
+    (λ c κs. search needs)
+    (λ c κs. search needs)
     row-of-requires
-    intersection-requires
+    (λ c κs. search needs)
     put-row-requires
-    without-lowest-requires
+    (λ c κs. search needs)
     add-i
     loop-less
     loop-again

@@ -16,20 +16,11 @@ abbrev μ-loop : tie.MeasureT-loop
 loop-holds : tie.Need-loop-holds Inv-loop μ-loop
 loop-holds c = let a = c .args in (omega arith, putting-start (a .at) (a .word) (a .work .now))
 
-cast-work : tie.Need-cast-work Inv-loop μ-loop
-cast-work c = search needs
-
 add-work : tie.Need-add-work Inv-loop μ-loop
 add-work c = let l = c .before .loop in omega (arith, l .inv .1 .size)
 
 slice-write-work : tie.Need-slice-write-work Inv-loop μ-loop
 slice-write-work c = let l = c .before .loop in omega (arith, l .inv .1 .size)
-
-add-i : tie.Need-add-i Inv-loop μ-loop
-add-i c = search needs
-
-loop-less : tie.Need-loop-less Inv-loop μ-loop
-loop-less c = search needs
 
 loop-again : tie.Need-loop-again Inv-loop μ-loop
 loop-again c = let a = c .before .before .args in let l = c .before .loop in (omega arith, putting-step (a .at) (a .word) (l .i) _ (l .left) _ (a .work .now) (l .work) _ refl (omega (arith, l .inv .1 .size)) refl refl (l .inv .1))
@@ -47,11 +38,11 @@ put-word-spec =
     Inv-loop
     μ-loop
     loop-holds
-    cast-work
+    (λ c. search needs)
     add-work
     slice-write-work
-    add-i
-    loop-less
+    (λ c. search needs)
+    (λ c. search needs)
     loop-again
     same-length
     returns)

@@ -25,32 +25,8 @@ entry c = c .before .before .before .before .before .before
 some-here : (c : tie.Then1 Inv-loop μ-loop) → T (anyBelow capacity (member (c .before .before .loop .left)))
 some-here c = some-left (c .before .before .loop .left) (c .before .is-empty .result) (c .before .is-empty .ensures) (c .if1 .taken)
 
-difference-requires : tie.Need-difference-requires Inv-loop μ-loop
-difference-requires c κs = search needs
-
 loop-holds : tie.Need-loop-holds Inv-loop μ-loop
 loop-holds c = let a = c .before .before .before .before .before .args in growing-start (a .graph .now) (a .support) (member (a .columns)) (member (c .before .difference .result)) (a .transposed .now) (c .before .before .before .before .before .pre) (c .before .difference .ensures)
-
-is-empty-requires : tie.Need-is-empty-requires Inv-loop μ-loop
-is-empty-requires c κs = search needs
-
-lowest-requires : tie.Need-lowest-requires Inv-loop μ-loop
-lowest-requires c κs = search needs
-
-set-at-requires : tie.Need-set-at-requires Inv-loop μ-loop
-set-at-requires c κs = search needs
-
-first-requires : tie.Need-first-requires Inv-loop μ-loop
-first-requires c κs = search needs
-
-add-to-requires : tie.Need-add-to-requires Inv-loop μ-loop
-add-to-requires c κs = search needs
-
-union-requires : tie.Need-union-requires Inv-loop μ-loop
-union-requires c κs = search needs
-
-without-lowest-requires : tie.Need-without-lowest-requires Inv-loop μ-loop
-without-lowest-requires c κs = search needs
 
 loop-less : tie.Need-loop-less Inv-loop μ-loop
 loop-less c = let d = c .before .before .before .before .before .before .before .before .before .before .before in
@@ -66,9 +42,6 @@ loop-again c =
     let a = entry d .args in let l = d .loop in
     growing-step (a .graph .now) (member (a .support .columns)) (member (c .before .before .before .before .before .before .before .before .before .before .before .before .before .difference .result)) (member (l .left)) (member (c .without-lowest .result)) (call-set-at .result) (call-first .result) (l .rows) (c .before .union .result) (call-lowest .result) (l .transposed) (call-add-to .last .0)
     (some-here (c .before .before .before .before .before .before .before .before .before)) (call-lowest .ensures) (call-set-at .ensures) (call-first .ensures) (c .without-lowest .ensures) (call-add-to .ensures) (c .before .union .ensures) (l .inv)
-
-union-requires-2 : tie.Need-union-requires-2 Inv-loop μ-loop
-union-requires-2 c κs = search needs
 
 same-length : tie.Need-same-length Inv-loop μ-loop
 same-length c = let d = c .before .before .before in
@@ -87,17 +60,17 @@ transpose-spec =
     (tie.spec
     Inv-loop
     μ-loop
-    difference-requires
+    (λ c κs. search needs)
     loop-holds
-    is-empty-requires
-    lowest-requires
-    set-at-requires
-    first-requires
-    add-to-requires
-    union-requires
-    without-lowest-requires
+    (λ c κs. search needs)
+    (λ c κs. search needs)
+    (λ c κs. search needs)
+    (λ c κs. search needs)
+    (λ c κs. search needs)
+    (λ c κs. search needs)
+    (λ c κs. search needs)
     loop-less
     loop-again
-    union-requires-2
+    (λ c κs. search needs)
     same-length
     returns)

@@ -83,31 +83,10 @@ here-alone c =
     least-one capacity (member left) (member (c .first .result)) (unless-in (e .result) (anyBelow capacity (member left)) (e .ensures) (d .before .if1 .taken)) (c .first .ensures)
     ∙ ap {B = ℕ → Bool} (λ (v u : ℕ). eqb u v) (sym (d .lowest .ensures))
 
-below-requires : tie.Need-below-requires Inv-loop μ-loop
-below-requires c κs = search needs
-
-difference-requires : tie.Need-difference-requires Inv-loop μ-loop
-difference-requires c κs = search needs
-
-difference-requires-2 : tie.Need-difference-requires-2 Inv-loop μ-loop
-difference-requires-2 c κs = search needs
-
-difference-requires-3 : tie.Need-difference-requires-3 Inv-loop μ-loop
-difference-requires-3 c κs = search needs
-
 loop-holds : tie.Need-loop-holds Inv-loop μ-loop
 loop-holds c =
     let s = c .before .before .before .before .before .before .before .before .before .before .before .before .before in
     (s .pre .3, s .pre .4, λ v t. t, visited-start (try-at s) (s .args .r) (begun s) (member (c .difference3 .result)))
-
-is-empty-requires : tie.Need-is-empty-requires Inv-loop μ-loop
-is-empty-requires c κs = search needs
-
-lowest-requires : tie.Need-lowest-requires Inv-loop μ-loop
-lowest-requires c κs = search needs
-
-first-requires : tie.Need-first-requires Inv-loop μ-loop
-first-requires c κs = search needs
 
 shared-slice-read-m : tie.Need-shared-slice-read-m Inv-loop μ-loop
 shared-slice-read-m c = let d = c .before .before in lt-of-lt-of-le (here-node d) (entry (at d) .pre .2)
@@ -126,9 +105,6 @@ place-requires c κs =
     let l = at d .loop in
     let e = d .before .before .is-empty in
     (lowest-small (l .left) (e .result) (e .ensures) (d .before .if1 .taken) (d .lowest .result) (d .lowest .ensures), here-alone (c .before .before .before .before), l .inv .0, l .inv .1)
-
-without-lowest-requires : tie.Need-without-lowest-requires Inv-loop μ-loop
-without-lowest-requires c κs = search needs
 
 loop-less : tie.Need-loop-less Inv-loop μ-loop
 loop-less c =
@@ -185,18 +161,18 @@ visit-spec =
     (tie.spec
     Inv-loop
     μ-loop
-    below-requires
-    difference-requires
-    difference-requires-2
-    difference-requires-3
+    (λ c κs. search needs)
+    (λ c κs. search needs)
+    (λ c κs. search needs)
+    (λ c κs. search needs)
     loop-holds
-    is-empty-requires
-    lowest-requires
-    first-requires
+    (λ c κs. search needs)
+    (λ c κs. search needs)
+    (λ c κs. search needs)
     shared-slice-read-m
     try-for-requires
     place-requires
-    without-lowest-requires
+    (λ c κs. search needs)
     loop-less
     loop-again
     same-length

@@ -82,9 +82,6 @@ kinds-of-requires c κs = let p = c .before .before .before .before .before .bef
 begin-requires : tie.Need-begin-requires Inv-loop μ-loop
 begin-requires c κs = let p = entry (c .before .before) .pre .0 in (p .nodes, p .places, p .words)
 
-empty-requires : tie.Need-empty-requires Inv-loop μ-loop
-empty-requires c κs = search needs
-
 loop-holds : tie.Need-loop-holds Inv-loop μ-loop
 loop-holds c =
     let g = begun (c .before) in
@@ -98,9 +95,6 @@ advance-requires c κs =
     let d = c .before .before .before .before .before .before .before in
     let i = d .loop .inv in
     ((i .0, i .1, i .2), (kinds-at (begun-at d) .kinds-of .ensures, on-way d .sub, on-way d .cut))
-
-same-requires : tie.Need-same-requires Inv-loop μ-loop
-same-requires c κs = search needs
 
 same-length : tie.Need-same-length Inv-loop μ-loop
 same-length c = let d = done c in d .advance .ensures .1 .0 .rows ∙ sym (start-at (at d) .pre .0 .rows)
@@ -163,10 +157,10 @@ rounds-spec =
     μ-loop
     kinds-of-requires
     begin-requires
-    empty-requires
+    (λ c κs. search needs)
     loop-holds
     advance-requires
-    same-requires
+    (λ c κs. search needs)
     same-length
     same-length-2
     same-length-3

@@ -37,9 +37,6 @@ returns c =
     let y = fits-here (c .before .before) in
     sym (l .inv .2 ∙ one-no p (l .i) (l .i + 2 + getD p (l .i + 1) 0) refl y (l .inv .1) (c .if1 .taken))
 
-add-i : tie.Need-add-i Inv-loop μ-loop
-add-i c = search needs
-
 add-i-2 : tie.Need-add-i-2 Inv-loop μ-loop
 add-i-2 c =
     let l = c .before .before .before .loop in
@@ -47,9 +44,6 @@ add-i-2 c =
     let y = fits-here (c .before .before) in
     let o : getD p (l .i + 1) 0 ≡ 1 = c .if1 .left in
     search needs
-
-loop-less : tie.Need-loop-less Inv-loop μ-loop
-loop-less c = search needs
 
 loop-again : tie.Need-loop-again Inv-loop μ-loop
 loop-again c =
@@ -78,8 +72,8 @@ counts-one-spec =
     add-if1
     shared-slice-read-if1
     returns
-    add-i
+    (λ c. search needs)
     add-i-2
-    loop-less
+    (λ c. search needs)
     loop-again
     returns-2)

@@ -30,9 +30,6 @@ add-number c = let y = fits-here c in search needs
 shared-slice-read-number : tie.Need-shared-slice-read-number Inv-loop μ-loop
 shared-slice-read-number c = let y = fits-here (c .before) in omega arith
 
-number-requires : tie.Need-number-requires Inv-loop μ-loop
-number-requires c κs = search needs
-
 add-start : tie.Need-add-start Inv-loop μ-loop
 add-start c = let y = fits-here (c .before .before) in search needs
 
@@ -41,9 +38,6 @@ add-end c = let y = fits-here (c .before .before) in search needs
 
 shared-slice-read-number-2 : tie.Need-shared-slice-read-number-2 Inv-loop μ-loop
 shared-slice-read-number-2 c = let y = fits-here (c .before .before .before) in omega arith
-
-number-requires-2 : tie.Need-number-requires-2 Inv-loop μ-loop
-number-requires-2 c κs = search needs
 
 returns : tie.Need-returns Inv-loop μ-loop
 returns c =
@@ -61,9 +55,6 @@ part-below-start c = let y = fits-here (c .before .before .before .before .befor
 part-below-end : tie.Need-part-below-end Inv-loop μ-loop
 part-below-end c = let y = fits-here (c .before .before .before .before .before) in search needs
 
-below-requires : tie.Need-below-requires Inv-loop μ-loop
-below-requires c κs = search needs
-
 returns-2 : tie.Need-returns-2 Inv-loop μ-loop
 returns-2 c =
     let l = c .before .before .before .before .before .before .before .before .before .loop in
@@ -71,9 +62,6 @@ returns-2 c =
     let y = fits-here (c .before .before .before .before .before .before .before .before) in
     let w = c .before .before .before .before .before .before .number .ensures .0 in
     sym (l .inv .2 ∙ below-set p (l .i) _ (ap (λ (x : ℕ). l .i + 2 + x) w) (omega arith) (l .inv .1) (c .before .before .before .before .before .before .before .before .before .before .before .args .n) (sym (c .before .below .ensures) ∙ not-true _ (c .if2 .taken)))
-
-loop-less : tie.Need-loop-less Inv-loop μ-loop
-loop-less c = search needs
 
 loop-again : tie.Need-loop-again Inv-loop μ-loop
 loop-again c =
@@ -101,17 +89,17 @@ entries-below-spec =
     loop-holds
     add-number
     shared-slice-read-number
-    number-requires
+    (λ c κs. search needs)
     add-start
     add-end
     shared-slice-read-number-2
-    number-requires-2
+    (λ c κs. search needs)
     returns
     sub-below
     part-below-start
     part-below-end
-    below-requires
+    (λ c κs. search needs)
     returns-2
-    loop-less
+    (λ c. search needs)
     loop-again
     returns-3)

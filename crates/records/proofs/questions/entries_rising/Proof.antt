@@ -24,20 +24,11 @@ fits-here c = let l = c .before .loop in fits (c .before .before .before .args .
 loop-holds : tie.Need-loop-holds Inv-loop μ-loop
 loop-holds c = (search needs, c .before .pre, refl)
 
-shared-slice-read-number : tie.Need-shared-slice-read-number Inv-loop μ-loop
-shared-slice-read-number c = search needs
-
-number-requires : tie.Need-number-requires Inv-loop μ-loop
-number-requires c κs = search needs
-
 add-number : tie.Need-add-number Inv-loop μ-loop
 add-number c = let y = fits-here (c .before .before) in search needs
 
 shared-slice-read-number-2 : tie.Need-shared-slice-read-number-2 Inv-loop μ-loop
 shared-slice-read-number-2 c = let y = fits-here (c .before .before .before) in omega arith
-
-number-requires-2 : tie.Need-number-requires-2 Inv-loop μ-loop
-number-requires-2 c κs = search needs
 
 add-start : tie.Need-add-start Inv-loop μ-loop
 add-start c = let y = fits-here (c .before .before .before .before) in search needs
@@ -61,9 +52,6 @@ part-rising-start c = let y = fits-here (c .before .before .before .before .befo
 part-rising-end : tie.Need-part-rising-end Inv-loop μ-loop
 part-rising-end c = let y = fits-here (c .before .before .before .before .before) in search needs
 
-rising-requires : tie.Need-rising-requires Inv-loop μ-loop
-rising-requires c κs = search needs
-
 returns-2 : tie.Need-returns-2 Inv-loop μ-loop
 returns-2 c =
     let l = c .before .before .before .before .before .before .before .before .before .loop in
@@ -71,12 +59,6 @@ returns-2 c =
     let y = fits-here (c .before .before .before .before .before .before .before .before) in
     let w = c .before .before .before .before .number2 .ensures .0 in
     sym (l .inv .2 ∙ rise-set p (l .i) _ (ap (λ (x : ℕ). l .i + 2 + x) w) (omega arith) (l .inv .1) (l .low) (sym (c .before .rising .ensures) ∙ not-true _ (c .if2 .taken)))
-
-add-low : tie.Need-add-low Inv-loop μ-loop
-add-low c = search needs
-
-loop-less : tie.Need-loop-less Inv-loop μ-loop
-loop-less c = search needs
 
 loop-again : tie.Need-loop-again Inv-loop μ-loop
 loop-again c =
@@ -103,20 +85,20 @@ entries-rising-spec =
     Inv-loop
     μ-loop
     loop-holds
-    shared-slice-read-number
-    number-requires
+    (λ c. search needs)
+    (λ c κs. search needs)
     add-number
     shared-slice-read-number-2
-    number-requires-2
+    (λ c κs. search needs)
     add-start
     add-end
     returns
     sub-rising
     part-rising-start
     part-rising-end
-    rising-requires
+    (λ c κs. search needs)
     returns-2
-    add-low
-    loop-less
+    (λ c. search needs)
+    (λ c. search needs)
     loop-again
     returns-3)

@@ -20,12 +20,6 @@ abbrev μ-loop : tie.MeasureT-loop
 loop-holds : tie.Need-loop-holds Inv-loop μ-loop
 loop-holds c = (search needs, refl)
 
-shared-slice-read-number : tie.Need-shared-slice-read-number Inv-loop μ-loop
-shared-slice-read-number c = search needs
-
-number-requires : tie.Need-number-requires Inv-loop μ-loop
-number-requires c κs = search needs
-
 shared-slice-read-if1 : tie.Need-shared-slice-read-if1 Inv-loop μ-loop
 shared-slice-read-if1 c =
     let l = c .before .before .before .before .loop in
@@ -39,12 +33,6 @@ returns c =
     let a = c .before .before .before .before .before .before .before .before .args in
     sym (l .inv .1 ∙ all-next (zeroAt (a .bytes .now)) (a .nodes .now) (l .i) (omega arith)
     ∙ rw (ne-eqb (getD (a .bytes .now) (getD (a .nodes .now) (l .i) 0) 0) 0 (rw (c .before .before .number .ensures .0) at (c .if1 .taken))))
-
-add-i : tie.Need-add-i Inv-loop μ-loop
-add-i c = search needs
-
-loop-less : tie.Need-loop-less Inv-loop μ-loop
-loop-less c = search needs
 
 loop-again : tie.Need-loop-again Inv-loop μ-loop
 loop-again c =
@@ -68,11 +56,11 @@ zero-at-spec =
     Inv-loop
     μ-loop
     loop-holds
-    shared-slice-read-number
-    number-requires
+    (λ c. search needs)
+    (λ c κs. search needs)
     shared-slice-read-if1
     returns
-    add-i
-    loop-less
+    (λ c. search needs)
+    (λ c. search needs)
     loop-again
     returns-2)

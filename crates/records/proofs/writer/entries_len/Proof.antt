@@ -20,21 +20,6 @@ Inv-loop sets left₀ len₀ left len = len + length (setBytes capacity (setAt s
 abbrev μ-loop : tie.MeasureT-loop
 μ-loop sets left₀ len₀ left len = count capacity (member left)
 
-loop-holds : tie.Need-loop-holds Inv-loop μ-loop
-loop-holds c = omega arith
-
-is-empty-requires : tie.Need-is-empty-requires Inv-loop μ-loop
-is-empty-requires c κs = search needs
-
-lowest-requires : tie.Need-lowest-requires Inv-loop μ-loop
-lowest-requires c κs = search needs
-
-set-at-requires : tie.Need-set-at-requires Inv-loop μ-loop
-set-at-requires c κs = search needs
-
-count-requires : tie.Need-count-requires Inv-loop μ-loop
-count-requires c κs = search needs
-
 -- no more than all entries of a table
 small : (c : tie.After-count Inv-loop μ-loop) → c .before .before .before .before .before .loop .len + (2 + c .count .result) ≤ capacity * (capacity + 2)
 small c =
@@ -50,9 +35,6 @@ add-len c = omega (arith, small c)
 
 add-len-2 : tie.Need-add-len-2 Inv-loop μ-loop
 add-len-2 c = omega (arith, small c)
-
-without-lowest-requires : tie.Need-without-lowest-requires Inv-loop μ-loop
-without-lowest-requires c κs = search needs
 
 loop-less : tie.Need-loop-less Inv-loop μ-loop
 loop-less c = let l = c .before .before .before .before .before .before .loop in
@@ -78,14 +60,14 @@ entries-len-spec =
     (tie.spec
     Inv-loop
     μ-loop
-    loop-holds
-    is-empty-requires
-    lowest-requires
-    set-at-requires
-    count-requires
+    (λ c. omega arith)
+    (λ c κs. search needs)
+    (λ c κs. search needs)
+    (λ c κs. search needs)
+    (λ c κs. search needs)
     add-len
     add-len-2
-    without-lowest-requires
+    (λ c κs. search needs)
     loop-less
     loop-again
     returns)

@@ -28,15 +28,6 @@ abbrev μ-loop : tie.MeasureT-loop
 loop-holds : tie.Need-loop-holds Inv-loop μ-loop
 loop-holds c = (refl, refl, refl)
 
-is-empty-requires : tie.Need-is-empty-requires Inv-loop μ-loop
-is-empty-requires c κs = search needs
-
-lowest-requires : tie.Need-lowest-requires Inv-loop μ-loop
-lowest-requires c κs = search needs
-
-set-at-requires : tie.Need-set-at-requires Inv-loop μ-loop
-set-at-requires c κs = search needs
-
 put-entry-requires : tie.Need-put-entry-requires Inv-loop μ-loop
 put-entry-requires c κs = let l = c .before .before .before .before .before .loop in
     let g = c .before .before .before .before .before .before .before .before .args .sets .now in
@@ -44,9 +35,6 @@ put-entry-requires c κs = let l = c .before .before .before .before .before .lo
     let low = c .before .before .lowest in
     let few = lowest-some capacity (member (l .left)) left in
     (omega (arith, low .ensures), omega (arith, entry-length (member (l .left)) (removed (member (l .left)) (lowest capacity (member (l .left)))) left (refl) (setAt (g)) ((c .before .before .lowest) .result) ((c .before .before .lowest) .ensures), ap (count capacity) (c .set-at .ensures)))
-
-without-lowest-requires : tie.Need-without-lowest-requires Inv-loop μ-loop
-without-lowest-requires c κs = search needs
 
 loop-less : tie.Need-loop-less Inv-loop μ-loop
 loop-less c = let l = c .before .before .before .before .before .before .before .before .before .loop in
@@ -69,9 +57,6 @@ loop-again c = let l = c .before .before .before .before .before .before .before
           (put .ensures .0 ∙ ap (λ (f : ℕ → Bool). splice (l .p) (low .result ∷ count capacity f ∷ members capacity f) (l .out)) (set .ensures)) ∙ l .inv .2,
     )
 
-same-length : tie.Need-same-length Inv-loop μ-loop
-same-length c = search needs
-
 returns : tie.Need-returns Inv-loop μ-loop
 returns c = let l = c .before .before .loop in
     let g = c .before .before .before .before .before .args .sets .now in
@@ -85,12 +70,12 @@ put-entries-spec =
     Inv-loop
     μ-loop
     loop-holds
-    is-empty-requires
-    lowest-requires
-    set-at-requires
+    (λ c κs. search needs)
+    (λ c κs. search needs)
+    (λ c κs. search needs)
     put-entry-requires
-    without-lowest-requires
+    (λ c κs. search needs)
     loop-less
     loop-again
-    same-length
+    (λ c. search needs)
     returns)

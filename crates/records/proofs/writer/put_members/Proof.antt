@@ -25,12 +25,6 @@ abbrev μ-loop : tie.MeasureT-loop
 loop-holds : tie.Need-loop-holds Inv-loop μ-loop
 loop-holds c = (refl, refl, refl)
 
-is-empty-requires : tie.Need-is-empty-requires Inv-loop μ-loop
-is-empty-requires c κs = search needs
-
-lowest-requires : tie.Need-lowest-requires Inv-loop μ-loop
-lowest-requires c κs = search needs
-
 cast-put-byte : tie.Need-cast-put-byte Inv-loop μ-loop
 cast-put-byte c =
     let l = c .before .before .before .before .loop in
@@ -38,9 +32,6 @@ cast-put-byte c =
 
 put-byte-requires : tie.Need-put-byte-requires Inv-loop μ-loop
 put-byte-requires c κs = let l = c .before .before .before .before .loop in omega (arith, count-lowest capacity (member (l .left)) (unless-in (c .before .before .before .is-empty .result) (anyBelow capacity (member (l .left))) (c .before .before .before .is-empty .ensures) (c .before .before .if1 .taken)))
-
-without-lowest-requires : tie.Need-without-lowest-requires Inv-loop μ-loop
-without-lowest-requires c κs = search needs
 
 add-p : tie.Need-add-p Inv-loop μ-loop
 add-p c = let l = c .before .before .before .before .before .before .before .before .loop in omega (arith, count-lowest capacity (member (l .left)) (unless-in (c .before .before .before .before .before .before .before .is-empty .result) (anyBelow capacity (member (l .left))) (c .before .before .before .before .before .before .before .is-empty .ensures) (c .before .before .before .before .before .before .if1 .taken)))
@@ -61,9 +52,6 @@ loop-again c = let l = c .before .before .before .before .before .before .before
       members-step (member (l .left)) (member (c .without-lowest .result)) left (c .without-lowest .ensures) (l .p) (low .result) (l .out) (put .last .0) (low .ensures) (omega arith) (put .ensures) ∙ l .inv .2,
     )
 
-same-length : tie.Need-same-length Inv-loop μ-loop
-same-length c = search needs
-
 returns : tie.Need-returns Inv-loop μ-loop
 returns c = let l = c .before .before .loop in
     let none = unless-out (c .before .is-empty .result) (anyBelow capacity (member (l .left))) (c .before .is-empty .ensures) (c .if1 .left) in (
@@ -78,13 +66,13 @@ put-members-spec =
     Inv-loop
     μ-loop
     loop-holds
-    is-empty-requires
-    lowest-requires
+    (λ c κs. search needs)
+    (λ c κs. search needs)
     cast-put-byte
     put-byte-requires
-    without-lowest-requires
+    (λ c κs. search needs)
     add-p
     loop-less
     loop-again
-    same-length
+    (λ c. search needs)
     returns)
