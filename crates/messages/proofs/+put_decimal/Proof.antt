@@ -39,6 +39,12 @@ long t c =
     let big : 10 ≤ c .before .before .args .n = omega (arith, c .if1 .left) in
     (big, more-long (c .before .before .args .n) big)
 
+-- so there is room for the last one
+room : (t : ℕ) (c : put-decimal-lts.After-digit2 (claims t) (put-decimal-at t) put-decimal.Post) → c .before .before .before .put-decimal .result < length (c .before .before .before .before .before .before .before .args .out .now)
+room t c =
+    let e = c .before .before .before .before .before in
+    omega (arith, long t e .1, e .before .before .pre .1, c .before .before .before .put-decimal .ensures .1)
+
 put-decimal-returns : (t : ℕ) → put-decimal-lts.Need-returns (claims t) (put-decimal-at t) put-decimal.Post
 put-decimal-returns t c =
     let a = c .before .before .before .args in
@@ -62,7 +68,7 @@ pub +put-decimal-spec : {M : Type 1} → statement M
     (put-decimal-returns t)
     (λ c κs. (omega (arith, long t (c .before) .0, c .before .before .before .pre .0), omega (arith, long t (c .before) .1, c .before .before .before .pre .1)))
     (λ c κs. search needs)
-    (λ c. let e = c .before .before .before .before .before in let p = c .before .before .before .put-decimal in omega (arith, long t e .1, e .before .before .pre .1, p .ensures .1, p .kept .0))
-    (λ c. let e = c .before .before .before .before .before in let p = c .before .before .before .put-decimal in record { fits = omega (arith, long t e .1, e .before .before .pre .1, p .ensures .1, e .before .before .good .0 .0) })
+    (λ c. omega (arith, room t c, c .before .before .before .put-decimal .kept .0))
+    (λ c. record { fits = omega (arith, room t c, c .before .before .before .before .before .before .before .good .0 .0) })
     (λ c. search needs)
     (put-decimal-returns-2 t)

@@ -44,7 +44,7 @@ holds c =
     let a = entry (looped c) .args in
     Bool·beq (anyBelow (a .n) (setAt (a .sets .now) u)) (not (member (a .outputs) u))
 
--- the code's test asks for just that
+-- the code's test is true just where that fails
 asked : (c : tie.After-has Inv-loop μ-loop) → not (holds c) ≡ not (Bool·beq (c .before .is-empty .result) (c .has .result))
 asked c =
     let e = c .before in
