@@ -31,7 +31,7 @@ last c =
     let e = i .before in
     let a = entry c .args in
     let d = member (a .wrong) in
-    next-goes (wrong-ask (entry c)) _ (sym (first-none d (λ k. record { number = 19; a = a .i; b = 0 }) (is-false (anyBelow capacity d) (unless-out (e .is-empty .result) (anyBelow capacity d) (e .is-empty .ensures) (i .if1 .left)))))
+    next-goes (wrong-ask (entry c)) _ (sym (first-none d _ (is-false (anyBelow capacity d) (unless-out (e .is-empty .result) (anyBelow capacity d) (e .is-empty .ensures) (i .if1 .left)))))
     ∙ ap (λ (b : Bool). ask b 19 (a .i) 0) (sym (c .own-holds .ensures ∙ ap₂ (own (a .measurement)) (h .before .has .ensures) (h .has2 .ensures)))
 
 returns : tie.Need-returns
@@ -39,7 +39,7 @@ returns c =
     let e = c .before in
     let a = e .before .args in
     let d = member (a .wrong) in
-    sym (next-stops (wrong-ask (e .before)) _ _ (sym (first-some d (λ k. record { number = 19; a = a .i; b = 0 }) (is-true (anyBelow capacity d) (unless-in (e .is-empty .result) (anyBelow capacity d) (e .is-empty .ensures) (c .if1 .taken))))))
+    sym (next-stops (wrong-ask (e .before)) _ _ (sym (first-some d _ (is-true (anyBelow capacity d) (unless-in (e .is-empty .result) (anyBelow capacity d) (e .is-empty .ensures) (c .if1 .taken))))))
 
 returns-2 : tie.Need-returns-2
 returns-2 c = sym (last (c .before) ∙ ask-no (c .before .own-holds .result) 19 (entry (c .before) .args .i) 0 (not-true _ (c .if2 .taken)))

@@ -43,15 +43,15 @@ first : (c : tie.After-in-order) → let s = start (set-1 c) in each (s .args .n
 first c =
     let d = c .before in
     let m = d .before in
-    let e = m .before .before in
+    let e = set-1 c in
     let s = start e in
     order-excused (s .args .n) (s .args .i) (F s .layer) (F s .set (s .args .i)) (memberExcused (G s) (eqb (s .args .mode) modePauli)) (member (d .intersection .result)) (λ k l. set-past (s .args .sets .now) (s .args .i) k l)
     (λ k. ap (λ (f : ℕ → Bool). f k) (d .intersection .ensures) ∙ rw (e .set-at .ensures, m .difference .ensures, e .before .not-later .ensures, s .pre .1 .members))
     ∙ sym (c .in-order .ensures)
 
-set-odd : (c : tie.After-odd-of) → let s = start (c .before .before .before .before .before .before .before) in member (c .odd-of .result) ≡ odd (G s) (F s .set (s .args .i))
+set-odd : (c : tie.After-odd-of) → let s = start (set-1 (c .before .before .before)) in member (c .odd-of .result) ≡ odd (G s) (F s .set (s .args .i))
 set-odd c =
-    let e = c .before .before .before .before .before .before .before in
+    let e = set-1 (c .before .before .before) in
     let s = start e in
     c .odd-of .ensures ∙ fun-ext (λ v. ap (λ (x : ℕ → Bool). parity (s .args .n) (λ k. setAt (s .args .graph .now) k v && x k)) (e .set-at .ensures))
 
@@ -60,7 +60,7 @@ second c =
     let d = c .before in
     let m = d .before in
     let o = m .before .before in
-    let e = o .before .before .before .before .before .before .before in
+    let e = set-2 c in
     let s = start e in
     order-excused (s .args .n) (s .args .i) (F s .layer) (odd (G s) (F s .set (s .args .i))) (oddExcused (G s) (eqb (s .args .mode) modePauli)) (member (d .intersection2 .result))
     (odd-past (s .args .n) (setAt (s .args .graph .now)) (F s .set (s .args .i)) (set-past (s .args .graph .now)))
@@ -78,12 +78,12 @@ rest c =
     node-rest (G s) (F s) (s .args .mode) (s .args .i) (plain (set-2 l)) (s .pre .0 .2) (first-holds l) (second l ∙ ap askedOf (c .enum-told3 .given .1))
 
 -- the Y nodes
-third : (c : tie.After-intersection4) → let s = start (c .before .before .before .before .before .before .before .before .before .before .before .before .before .before .before .before .before) in each (s .args .n) (yAsk (G s) (F s) (s .args .mode) (s .args .i)) ≡ firstIn (member (c .intersection4 .result)) (λ k. record { number = 19; a = s .args .i; b = 0 })
+third : (c : tie.After-intersection4) → let s = start (set-2 (c .before .before .before .before .before .before)) in each (s .args .n) (yAsk (G s) (F s) (s .args .mode) (s .args .i)) ≡ firstIn (member (c .intersection4 .result)) (λ k. record { number = 19; a = s .args .i; b = 0 })
 third c =
     let m = c .before in
     let x = m .before in
     let o = x .before .before .before .before .before .before .before .before in
-    let e = o .before .before .before .before .before .before .before in
+    let e = set-1 (o .before .before .before) in
     let s = start e in
     y-first (s .args .n) (s .args .i) (F s .layer) (F s .set (s .args .i)) (odd (G s) (F s .set (s .args .i))) (yAsked (G s) (eqb (s .args .mode) modePauli)) (member (c .intersection4 .result))
     (λ k l. set-past (s .args .sets .now) (s .args .i) k l)
@@ -117,7 +117,7 @@ returns-4 c = let b = c .before in
     let w = b .before in
     let t = w .before .before .before .before in
     let o = t .before .before .before .before .before .before in
-    let e = o .before .before .before .before .before .before .before in
+    let e = set-1 (o .before .before .before) in
     let s = start e in
     c .check-measurement .ensures
     ∙ ap (λ (p : Option Refusal). p next ask (own (b .byte-at .result) (member (e .set-at .result) (s .args .i)) (member (o .odd-of .result) (s .args .i))) 19 (s .args .i) 0) (sym (third w))
