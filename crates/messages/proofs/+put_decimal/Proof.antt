@@ -1,7 +1,9 @@
-use Prim.Native.Nat.{ℕ, _+_, _≤_, _<_}
-use mathlib.Core.Path.{sym, ap}
+use Prim.Native.Nat.{ℕ, _+_, _/_, _≤_, _<_}
+use mathlib.Core.Path.{_≡_, sym, ap}
 use native.Mathlib.Omega.{arith}
+use lib.ListN.{length}
 use borrow.Author.Needs.{needs}
+use Rattle.messages.specs.Message.{inDecimal}
 use Rattle.messages.proofs.Decimal.{one-long, more-long, put-one, put-more}
 use borrow.Fn.Kinds.{In}
 use borrow.Fn.PlainCycle.{Measures, is, falls, and}
@@ -23,111 +25,50 @@ abbrev put-decimal-below : ℕ → In 1 put-decimal-kinds.ps
 put-decimal-below t =
     and 1 put-decimal-kinds.ps (falls 1 put-decimal-kinds.ps _<_ μ-put-decimal t) put-decimal.Pre
 
-put-decimal-digit-requires : (t : ℕ) → put-decimal-lts.Need-digit-requires (
-  digit-reads.Asked,
-  digit-reads.Learnt,
-  put-decimal-below t,
-  put-decimal.Post,
-) (put-decimal-at t) put-decimal.Post
-put-decimal-digit-requires t c κs = c .if1 .taken
+-- what the two calls ask and promise
+abbrev claims : ℕ → put-decimal-lts.Claims
+claims t = (digit-reads.Asked, digit-reads.Learnt, put-decimal-below t, put-decimal.Post)
 
-put-decimal-slice-write-out : (t : ℕ) → put-decimal-lts.Need-slice-write-out (
-  digit-reads.Asked,
-  digit-reads.Learnt,
-  put-decimal-below t,
-  put-decimal.Post,
-) (put-decimal-at t) put-decimal.Post
-put-decimal-slice-write-out t c = let a = c .before .before .before .args in omega (arith, one-long (a .n) (c .before .if1 .taken), c .before .before .before .pre .1)
+-- a number below ten has one digit
+short : (t : ℕ) (c : put-decimal-lts.Then1 (claims t) (put-decimal-at t) put-decimal.Post) → length (inDecimal (c .before .before .args .n)) ≡ 1
+short t c = one-long (c .before .before .args .n) (c .if1 .taken)
 
-put-decimal-add-result : (t : ℕ) → put-decimal-lts.Need-add-result (
-  digit-reads.Asked,
-  digit-reads.Learnt,
-  put-decimal-below t,
-  put-decimal.Post,
-) (put-decimal-at t) put-decimal.Post
-put-decimal-add-result t c = let a = c .before .before .before .args in record { fits = omega (arith, one-long (a .n) (c .before .if1 .taken), c .before .before .before .pre .1, c .before .before .before .good .0 .0) }
+-- any other has one digit more than its tenth
+long : (t : ℕ) (c : put-decimal-lts.Else1 (claims t) (put-decimal-at t) put-decimal.Post) → let n = c .before .before .args .n in (10 ≤ n) × (length (inDecimal n) ≡ length (inDecimal (n / 10)) + 1)
+long t c =
+    let big : 10 ≤ c .before .before .args .n = omega (arith, c .if1 .left) in
+    (big, more-long (c .before .before .args .n) big)
 
-put-decimal-same-length : (t : ℕ) → put-decimal-lts.Need-same-length (
-  digit-reads.Asked,
-  digit-reads.Learnt,
-  put-decimal-below t,
-  put-decimal.Post,
-) (put-decimal-at t) put-decimal.Post
-put-decimal-same-length t c = search needs
+-- so there is room for the last one
+room : (t : ℕ) (c : put-decimal-lts.After-digit2 (claims t) (put-decimal-at t) put-decimal.Post) → c .before .before .before .put-decimal .result < length (c .before .before .before .before .before .before .before .args .out .now)
+room t c =
+    let e = c .before .before .before .before .before in
+    omega (arith, long t e .1, e .before .before .pre .1, c .before .before .before .put-decimal .ensures .1)
 
-put-decimal-returns : (t : ℕ) → put-decimal-lts.Need-returns (
-  digit-reads.Asked,
-  digit-reads.Learnt,
-  put-decimal-below t,
-  put-decimal.Post,
-) (put-decimal-at t) put-decimal.Post
-put-decimal-returns t c = let a = c .before .before .before .args in (put-one (a .n) (c .digit .result) (a .at) (a .out .now) (c .before .if1 .taken) (c .digit .ensures), ap (λ (k : ℕ). a .at + k) (sym (one-long (a .n) (c .before .if1 .taken))))
+put-decimal-returns : (t : ℕ) → put-decimal-lts.Need-returns (claims t) (put-decimal-at t) put-decimal.Post
+put-decimal-returns t c =
+    let a = c .before .before .before .args in
+    (put-one (a .n) (c .digit .result) (a .at) (a .out .now) (c .before .if1 .taken) (c .digit .ensures), ap (λ (k : ℕ). a .at + k) (sym (short t (c .before))))
 
-put-decimal-put-decimal-requires : (t : ℕ) → put-decimal-lts.Need-put-decimal-requires (
-  digit-reads.Asked,
-  digit-reads.Learnt,
-  put-decimal-below t,
-  put-decimal.Post,
-) (put-decimal-at t) put-decimal.Post
-put-decimal-put-decimal-requires t c κs = let a = c .before .before .before .args in let big : 10 ≤ a .n = omega (arith, c .before .if1 .left) in (omega (arith, c .before .before .before .pre .0), omega (arith, more-long (a .n) big, c .before .before .before .pre .1))
-
-put-decimal-digit-requires-2 : (t : ℕ) → put-decimal-lts.Need-digit-requires-2 (
-  digit-reads.Asked,
-  digit-reads.Learnt,
-  put-decimal-below t,
-  put-decimal.Post,
-) (put-decimal-at t) put-decimal.Post
-put-decimal-digit-requires-2 t c κs = search needs
-
-put-decimal-slice-write-out-2 : (t : ℕ) → put-decimal-lts.Need-slice-write-out-2 (
-  digit-reads.Asked,
-  digit-reads.Learnt,
-  put-decimal-below t,
-  put-decimal.Post,
-) (put-decimal-at t) put-decimal.Post
-put-decimal-slice-write-out-2 t c = let a = c .before .before .before .before .before .before .before .args in let big : 10 ≤ a .n = omega (arith, c .before .before .before .before .before .if1 .left) in omega (arith, more-long (a .n) big, c .before .before .before .before .before .before .before .pre .1, c .before .before .before .put-decimal .ensures .1, c .before .before .before .put-decimal .kept .0)
-
-put-decimal-add-result-2 : (t : ℕ) → put-decimal-lts.Need-add-result-2 (
-  digit-reads.Asked,
-  digit-reads.Learnt,
-  put-decimal-below t,
-  put-decimal.Post,
-) (put-decimal-at t) put-decimal.Post
-put-decimal-add-result-2 t c = let a = c .before .before .before .before .before .before .before .args in let big : 10 ≤ a .n = omega (arith, c .before .before .before .before .before .if1 .left) in record { fits = omega (arith, more-long (a .n) big, c .before .before .before .before .before .before .before .pre .1, c .before .before .before .put-decimal .ensures .1, c .before .before .before .before .before .before .before .good .0 .0) }
-
-put-decimal-same-length-2 : (t : ℕ) → put-decimal-lts.Need-same-length-2 (
-  digit-reads.Asked,
-  digit-reads.Learnt,
-  put-decimal-below t,
-  put-decimal.Post,
-) (put-decimal-at t) put-decimal.Post
-put-decimal-same-length-2 t c = search needs
-
-put-decimal-returns-2 : (t : ℕ) → put-decimal-lts.Need-returns-2 (
-  digit-reads.Asked,
-  digit-reads.Learnt,
-  put-decimal-below t,
-  put-decimal.Post,
-) (put-decimal-at t) put-decimal.Post
-put-decimal-returns-2 t c = let a = c .before .before .before .before .before .before .before .args in let big : 10 ≤ a .n = omega (arith, c .before .before .before .before .before .if1 .left) in (put-more (a .n) (c .digit2 .result) (a .at) (c .before .before .before .put-decimal .result) (a .out .now) _ big (c .before .before .before .put-decimal .ensures .0) (c .before .before .before .put-decimal .ensures .1) (c .digit2 .ensures), omega (arith, more-long (a .n) big, c .before .before .before .put-decimal .ensures .1))
+put-decimal-returns-2 : (t : ℕ) → put-decimal-lts.Need-returns-2 (claims t) (put-decimal-at t) put-decimal.Post
+put-decimal-returns-2 t c =
+    let e = c .before .before .before .before .before in
+    let a = e .before .before .args in
+    let p = c .before .before .before .put-decimal in
+    (put-more (a .n) (c .digit2 .result) (a .at) (p .result) (a .out .now) _ (long t e .0) (p .ensures .0) (p .ensures .1) (c .digit2 .ensures), omega (arith, long t e .1, p .ensures .1))
 
 pub +put-decimal-spec : {M : Type 1} → statement M
-+put-decimal-spec = close μ-put-decimal λ t. put-decimal-lts.spec (
-  digit-reads.Asked,
-  digit-reads.Learnt,
-  put-decimal-below t,
-  put-decimal.Post,
-)
++put-decimal-spec = close μ-put-decimal λ t. put-decimal-lts.spec (claims t)
     (put-decimal-at t)
     put-decimal.Post
-    (put-decimal-digit-requires t)
-    (put-decimal-slice-write-out t)
-    (put-decimal-add-result t)
-    (put-decimal-same-length t)
+    (λ c κs. c .if1 .taken)
+    (λ c. omega (arith, short t (c .before), c .before .before .before .pre .1))
+    (λ c. record { fits = omega (arith, short t (c .before), c .before .before .before .pre .1, c .before .before .before .good .0 .0) })
+    (λ c. search needs)
     (put-decimal-returns t)
-    (put-decimal-put-decimal-requires t)
-    (put-decimal-digit-requires-2 t)
-    (put-decimal-slice-write-out-2 t)
-    (put-decimal-add-result-2 t)
-    (put-decimal-same-length-2 t)
+    (λ c κs. (omega (arith, long t (c .before) .0, c .before .before .before .pre .0), omega (arith, long t (c .before) .1, c .before .before .before .pre .1)))
+    (λ c κs. search needs)
+    (λ c. omega (arith, room t c, c .before .before .before .put-decimal .kept .0))
+    (λ c. record { fits = omega (arith, room t c, c .before .before .before .before .before .before .before .good .0 .0) })
+    (λ c. search needs)
     (put-decimal-returns-2 t)

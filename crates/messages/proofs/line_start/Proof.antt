@@ -22,18 +22,6 @@ returns c = let l = c .before .before .loop in
     let a = c .before .before .before .before .args in
     (search needs, behind-all (a .text .now) (l .i) (l .left) (c .if1 .taken) ∙ l .inv .1)
 
-shared-slice-read-lines-left : tie.Need-shared-slice-read-lines-left Inv-loop μ-loop
-shared-slice-read-lines-left c = search needs
-
-lines-left-requires : tie.Need-lines-left-requires Inv-loop μ-loop
-lines-left-requires c κs = search needs
-
-add-i : tie.Need-add-i Inv-loop μ-loop
-add-i c = search needs
-
-loop-less : tie.Need-loop-less Inv-loop μ-loop
-loop-less c = search needs
-
 loop-again : tie.Need-loop-again Inv-loop μ-loop
 loop-again c = let l = c .before .before .before .before .loop in
     let a = c .before .before .before .before .before .before .args in
@@ -55,9 +43,9 @@ line-start-spec =
     μ-loop
     loop-holds
     returns
-    shared-slice-read-lines-left
-    lines-left-requires
-    add-i
-    loop-less
+    (λ c. search needs)
+    (λ c κs. search needs)
+    (λ c. search needs)
+    (λ c. search needs)
     loop-again
     returns-2)

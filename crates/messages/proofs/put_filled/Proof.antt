@@ -22,19 +22,10 @@ abbrev μ-loop : tie.MeasureT-loop
 loop-holds : tie.Need-loop-holds Inv-loop μ-loop
 loop-holds c = (search needs, refl, refl, refl)
 
-shared-slice-read-put-letter : tie.Need-shared-slice-read-put-letter Inv-loop μ-loop
-shared-slice-read-put-letter c = search needs
-
 put-letter-requires : tie.Need-put-letter-requires Inv-loop μ-loop
 put-letter-requires c κs = let l = c .before .before .before .loop in
     let a = c .before .before .before .before .before .before .args in
     omega (arith, length-step (refusalOf (a .q)) (a .letters .now) (l .i) (omega arith), l .inv .2)
-
-add-i : tie.Need-add-i Inv-loop μ-loop
-add-i c = search needs
-
-loop-less : tie.Need-loop-less Inv-loop μ-loop
-loop-less c = search needs
 
 loop-again : tie.Need-loop-again Inv-loop μ-loop
 loop-again c = let l = c .before .before .before .before .before .before .loop in
@@ -45,9 +36,6 @@ loop-again c = let l = c .before .before .before .before .before .before .loop i
       omega (arith, length-step (refusalOf (a .q)) (a .letters .now) (l .i) (omega arith), put .1, l .inv .2),
       put-step (refusalOf (a .q)) (a .letters .now) (l .i) (l .p) _ (l .out) _ (omega arith) (put .1) (put .0) ∙ l .inv .3,
     )
-
-same-length : tie.Need-same-length Inv-loop μ-loop
-same-length c = search needs
 
 returns : tie.Need-returns Inv-loop μ-loop
 returns c = let l = c .before .loop in
@@ -62,10 +50,10 @@ put-filled-spec =
     Inv-loop
     μ-loop
     loop-holds
-    shared-slice-read-put-letter
+    (λ c. search needs)
     put-letter-requires
-    add-i
-    loop-less
+    (λ c. search needs)
+    (λ c. search needs)
     loop-again
-    same-length
+    (λ c. search needs)
     returns)

@@ -20,15 +20,6 @@ abbrev μ-loop : tie.MeasureT-loop
 loop-holds : tie.Need-loop-holds Inv-loop μ-loop
 loop-holds c = (search needs, each-start _ _)
 
-check-node-requires : tie.Need-check-node-requires Inv-loop μ-loop
-check-node-requires c κs = search needs
-
-enum-told : tie.Need-enum-told Inv-loop μ-loop
-enum-told c = search needs
-
-enum-told-2 : tie.Need-enum-told-2 Inv-loop μ-loop
-enum-told-2 c = search needs
-
 returns : tie.Need-returns Inv-loop μ-loop
 returns c = let k = c .before .before in
     let l = k .before .before .loop in
@@ -36,12 +27,6 @@ returns c = let k = c .before .before in
     let f = definitionAsk (jobIn (a .n) (a .graph .now) noNodes (a .outputs) []) (flowIn (a .layers .now) noNodes (a .sets .now)) modeCausal in
     let t = ap askedOf (c .enum-told2 .given .1) in
     t ∙ sym (l .inv .1 ∙ each-no (a .n) (l .i) f (omega arith) _ (sym (k .check-node .ensures) ∙ t))
-
-add-i : tie.Need-add-i Inv-loop μ-loop
-add-i c = search needs
-
-loop-less : tie.Need-loop-less Inv-loop μ-loop
-loop-less c = search needs
 
 loop-again : tie.Need-loop-again Inv-loop μ-loop
 loop-again c = let k = c .before .before in
@@ -63,11 +48,11 @@ check-nodes-spec =
     Inv-loop
     μ-loop
     loop-holds
-    check-node-requires
-    enum-told
-    enum-told-2
+    (λ c κs. search needs)
+    (λ c. search needs)
+    (λ c. search needs)
     returns
-    add-i
-    loop-less
+    (λ c. search needs)
+    (λ c. search needs)
     loop-again
     returns-2)

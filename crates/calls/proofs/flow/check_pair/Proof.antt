@@ -9,7 +9,7 @@ use Rattle.nodes.proofs.SetTable.{set-past}
 use Rattle.flows.specs.Job.{Job}
 use Rattle.finder.specs.Searches.{jobIn}
 use Rattle.records.specs.FlowFile.{Flow}
-use Rattle.verdicts.specs.Verdict.{each, later, neighbourAsk}
+use Rattle.verdicts.specs.Verdict.{ask, each, later, neighbourAsk, causalAsk}
 use Rattle.calls.specs.Loaded.{flowIn, noNodes, askedOf}
 use Rattle.calls.proofs.Asking.{ask-yes, ask-no}
 use Rattle.calls.proofs.AskingNodes.{order-plain}
@@ -26,6 +26,9 @@ F s = flowIn (s .args .layers .now) noNodes []
 
 abbrev start : tie.After-set-at → tie.Start
 start c = c .before .before .before .before .before .before
+
+abbrev around-at : tie.After-has → tie.After-set-at
+around-at c = c .before .before .before .before .before .before
 
 late : (c : tie.After-set-at) → let s = start c in later (G s) (F s) (s .args .i) (s .args .k) ≡ true
 late c =
@@ -44,6 +47,15 @@ around c =
     (λ k. ap (λ (f : ℕ → Bool). f k) (d .intersection .ensures) ∙ rw (e .set-at .ensures, m .not-later .ensures))
     ∙ sym (c .in-order .ensures)
 
+-- the first two questions hold, and the call's answer is the third's
+last : (c : tie.After-has) → let s = start (around-at c) in causalAsk (G s) (F s) (s .args .i) (s .args .k) ≡ ask (c .has .result) 18 (s .args .i) (s .args .k)
+last c =
+    let t = c .before in
+    let e = around-at c in
+    let s = start e in
+    pair-last (G s) (F s) (s .args .i) (s .args .k) (late e) (around (t .before .before) ∙ ap askedOf (t .enum-told .given .1))
+    ∙ ap (λ (b : Bool). ask b 18 (s .args .i) (s .args .k)) (sym (c .has .ensures ∙ rw (e .set-at .ensures)))
+
 returns : tie.Need-returns
 returns c = let t = c .before in
     let s = t .before .before .before .before in
@@ -58,22 +70,10 @@ returns-2 c = let m = c .before .before in
     t ∙ sym (pair-around (G s) (F s) (s .args .i) (s .args .k) (late e) _ (around m ∙ t))
 
 returns-3 : tie.Need-returns-3
-returns-3 c = let h = c .before in
-    let t = h .before in
-    let m = t .before .before in
-    let e = m .before .before .before in
-    let s = start e in
-    sym (pair-last (G s) (F s) (s .args .i) (s .args .k) (late e) (around m ∙ ap askedOf (t .enum-told .given .1))
-    ∙ ask-no (G s .edge (s .args .k) (s .args .i)) 18 (s .args .i) (s .args .k) (sym (h .has .ensures ∙ rw (e .set-at .ensures)) ∙ not-true _ (c .if2 .taken)))
+returns-3 c = let a = start (around-at (c .before)) .args in sym (last (c .before) ∙ ask-no (c .before .has .result) 18 (a .i) (a .k) (not-true _ (c .if2 .taken)))
 
 returns-4 : tie.Need-returns-4
-returns-4 c = let h = c .before in
-    let t = h .before in
-    let m = t .before .before in
-    let e = m .before .before .before in
-    let s = start e in
-    sym (pair-last (G s) (F s) (s .args .i) (s .args .k) (late e) (around m ∙ ap askedOf (t .enum-told .given .1))
-    ∙ ask-yes (G s .edge (s .args .k) (s .args .i)) 18 (s .args .i) (s .args .k) (sym (h .has .ensures ∙ rw (e .set-at .ensures)) ∙ not-false _ (c .if2 .left)))
+returns-4 c = let a = start (around-at (c .before)) .args in sym (last (c .before) ∙ ask-yes (c .before .has .result) 18 (a .i) (a .k) (not-false _ (c .if2 .left)))
 
 pub check-pair-spec : {M : Type 1} → statement M
 check-pair-spec =

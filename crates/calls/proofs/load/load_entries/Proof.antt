@@ -1,5 +1,6 @@
 use mathlib.Core.Path.{_≡_, refl, sym, ap, _∙_}
 use mathlib.Core.Bool.{Bool, true, _&&_, _||_}
+use mathlib.Core.List.{List}
 use Prim.Native.Nat.{ℕ, _+_, _*_, _-_, _≤_}
 use native.Mathlib.Omega.{arith}
 use lib.Dec.{eqb}
@@ -12,7 +13,7 @@ use Rattle.nodes.specs.Lists.{has}
 use Rattle.nodes.specs.Options.{isSome}
 use Rattle.records.specs.FlowFile.{entriesOf, listed, allEntries, entryBelow, setIn, entryIn}
 use Rattle.records.specs.Views.{between}
-use Rattle.records.proofs.ReadingEntries.{two-more, fits, framed-next}
+use Rattle.records.proofs.ReadingEntries.{fits, framed-next}
 use Rattle.records.proofs.JobFile.{has-small}
 use Rattle.calls.proofs.LoadingEdges.{cleared}
 use Rattle.calls.proofs.LoadingTables.{set-end, entry-end, set-more, entry-more, below-out}
@@ -28,11 +29,18 @@ Inv-loop sets table₀ entries₀ i₀ table entries i = (i ≤ length sets) × 
 abbrev μ-loop : tie.MeasureT-loop
 μ-loop sets table₀ entries₀ i₀ table entries i = length sets - i
 
-clear-table-requires : tie.Need-clear-table-requires Inv-loop μ-loop
-clear-table-requires c κs = search needs
+-- ---- the places on the way back to the function's entry
+abbrev bytes : tie.At-loop Inv-loop μ-loop → List ℕ
+bytes l = l .before .before .before .before .before .before .before .before .args .sets .now
 
-empty-requires : tie.Need-empty-requires Inv-loop μ-loop
-empty-requires c κs = search needs
+abbrev looped : tie.After-shared-slice-known3 Inv-loop μ-loop → tie.In-loop Inv-loop μ-loop
+looped c = c .before .before
+
+-- an entry that begins is there whole
+whole : (c : tie.In-loop Inv-loop μ-loop) → let i = c .before .loop .i in
+    let p = bytes (c .before) in
+    i + 2 + getD p (i + 1) 0 ≤ length p
+whole c = fits (bytes (c .before)) (c .before .loop .i) (c .before .loop .inv .2) (omega arith)
 
 loop-holds : tie.Need-loop-holds Inv-loop μ-loop
 loop-holds c = let t = c .before .before .before in
@@ -45,85 +53,17 @@ loop-holds c = let t = c .before .before .before in
       λ u. ap (λ (f : ℕ → Bool). f u || entryIn (listed (entriesOf (s .args .sets .now))) u) (sym (c .empty .ensures)),
     )
 
-shared-slice-read-u : tie.Need-shared-slice-read-u Inv-loop μ-loop
-shared-slice-read-u c = search needs
-
 cast-u : tie.Need-cast-u Inv-loop μ-loop
 cast-u c = omega (arith, c .shared-slice-known2 .given (c .before .before .loop .i))
 
-add-start : tie.Need-add-start Inv-loop μ-loop
-add-start c = let l = c .before .before .loop in
-    let p = c .before .before .before .before .before .before .before .before .before .before .args .sets .now in
-    let x = two-more p (l .i) (l .inv .2) (omega arith) in
-    let y = fits p (l .i) (l .inv .2) (omega arith) in
-    search needs
-
-add-end : tie.Need-add-end Inv-loop μ-loop
-add-end c = let l = c .before .before .loop in
-    let p = c .before .before .before .before .before .before .before .before .before .before .args .sets .now in
-    let x = two-more p (l .i) (l .inv .2) (omega arith) in
-    let y = fits p (l .i) (l .inv .2) (omega arith) in
-    search needs
-
-shared-slice-read-end : tie.Need-shared-slice-read-end Inv-loop μ-loop
-shared-slice-read-end c = let l = c .before .before .before .loop in
-    let p = c .before .before .before .before .before .before .before .before .before .before .before .args .sets .now in
-    let x = two-more p (l .i) (l .inv .2) (omega arith) in
-    let y = fits p (l .i) (l .inv .2) (omega arith) in
-    omega arith
-
 cast-end : tie.Need-cast-end Inv-loop μ-loop
-cast-end c = omega (arith, c .shared-slice-known3 .given (c .before .before .before .loop .i + 1))
-
-add-end-2 : tie.Need-add-end-2 Inv-loop μ-loop
-add-end-2 c = let l = c .before .before .before .loop in
-    let p = c .before .before .before .before .before .before .before .before .before .before .before .args .sets .now in
-    let x = two-more p (l .i) (l .inv .2) (omega arith) in
-    let y = fits p (l .i) (l .inv .2) (omega arith) in
-    search needs
-
-sub-set-of : tie.Need-sub-set-of Inv-loop μ-loop
-sub-set-of c = let l = c .before .before .before .loop in
-    let p = c .before .before .before .before .before .before .before .before .before .before .before .args .sets .now in
-    let x = two-more p (l .i) (l .inv .2) (omega arith) in
-    let y = fits p (l .i) (l .inv .2) (omega arith) in
-    search needs
-
-part-set-of-start : tie.Need-part-set-of-start Inv-loop μ-loop
-part-set-of-start c = let l = c .before .before .before .loop in
-    let p = c .before .before .before .before .before .before .before .before .before .before .before .args .sets .now in
-    let x = two-more p (l .i) (l .inv .2) (omega arith) in
-    let y = fits p (l .i) (l .inv .2) (omega arith) in
-    search needs
-
-part-set-of-end : tie.Need-part-set-of-end Inv-loop μ-loop
-part-set-of-end c = let l = c .before .before .before .loop in
-    let p = c .before .before .before .before .before .before .before .before .before .before .before .args .sets .now in
-    let x = two-more p (l .i) (l .inv .2) (omega arith) in
-    let y = fits p (l .i) (l .inv .2) (omega arith) in
-    search needs
-
-set-of-requires : tie.Need-set-of-requires Inv-loop μ-loop
-set-of-requires c κs = search needs
-
-add-set-requires : tie.Need-add-set-requires Inv-loop μ-loop
-add-set-requires c κs = search needs
-
-with-requires : tie.Need-with-requires Inv-loop μ-loop
-with-requires c κs = search needs
-
-loop-less : tie.Need-loop-less Inv-loop μ-loop
-loop-less c = let l = c .before .before .before .before .before .before .before .before .before .before .loop in
-    let p = c .before .before .before .before .before .before .before .before .before .before .before .before .before .before .before .before .before .before .args .sets .now in
-    let x = two-more p (l .i) (l .inv .2) (omega arith) in
-    let y = fits p (l .i) (l .inv .2) (omega arith) in
-    omega arith
+cast-end c = omega (arith, c .shared-slice-known3 .given (looped c .before .loop .i + 1))
 
 loop-again : tie.Need-loop-again Inv-loop μ-loop
-loop-again c = let l = c .before .before .before .before .before .before .before .before .before .before .loop in
-    let p = c .before .before .before .before .before .before .before .before .before .before .before .before .before .before .before .before .before .before .args .sets .now in
-    let x = two-more p (l .i) (l .inv .2) (omega arith) in
-    let y = fits p (l .i) (l .inv .2) (omega arith) in
+loop-again c = let g = looped (c .before .before .before .before .before .before .before) in
+    let l = g .before .loop in
+    let p = bytes (g .before) in
+    let y = whole g in
     let e : l .i + 2 + getD p (l .i + 1) 0 ≡ l .i + 2 + getD p (l .i + 1) 0 = refl in
     let j = l .i + 2 + getD p (l .i + 1) 0 in
     let (a, b, d) = below-out p (l .i) j e (omega arith) (l .inv .2) capacity (l .inv .3) in
@@ -146,12 +86,9 @@ loop-again c = let l = c .before .before .before .before .before .before .before
           (sym (put u)),
     )
 
-same-length : tie.Need-same-length Inv-loop μ-loop
-same-length c = search needs
-
 returns : tie.Need-returns Inv-loop μ-loop
 returns c = let l = c .before .loop in
-    let p = c .before .before .before .before .before .before .before .before .before .args .sets .now in (
+    let p = bytes (c .before) in (
       (λ u v. sym (l .inv .4 u v ∙ set-end p (l .i) u v (setAt (l .table) u v) (omega arith))),
       λ u. sym (l .inv .5 u ∙ entry-end p (l .i) u (member (l .entries) u) (omega arith)),
     )
@@ -162,23 +99,23 @@ load-entries-spec =
     (tie.spec
     Inv-loop
     μ-loop
-    clear-table-requires
-    empty-requires
+    (λ c κs. search needs)
+    (λ c κs. search needs)
     loop-holds
-    shared-slice-read-u
+    (λ c. search needs)
     cast-u
-    add-start
-    add-end
-    shared-slice-read-end
+    (λ c. let y = whole (c .before) in search needs)
+    (λ c. let y = whole (c .before) in search needs)
+    (λ c. let y = whole (looped c) in search needs)
     cast-end
-    add-end-2
-    sub-set-of
-    part-set-of-start
-    part-set-of-end
-    set-of-requires
-    add-set-requires
-    with-requires
-    loop-less
+    (λ c. let y = whole (looped c) in search needs)
+    (λ c. let y = whole (looped c) in search needs)
+    (λ c. let y = whole (looped c) in search needs)
+    (λ c. let y = whole (looped c) in search needs)
+    (λ c κs. search needs)
+    (λ c κs. search needs)
+    (λ c κs. search needs)
+    (λ c. let y = whole (looped (c .before .before .before .before .before .before .before)) in search needs)
     loop-again
-    same-length
+    (λ c. search needs)
     returns)

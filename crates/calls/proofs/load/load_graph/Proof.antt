@@ -20,29 +20,14 @@ Inv-loop edges graph₀ i₀ graph i = (i ≤ length edges) × (length graph ≡
 abbrev μ-loop : tie.MeasureT-loop
 μ-loop edges graph₀ i₀ graph i = length edges - i
 
-clear-table-requires : tie.Need-clear-table-requires Inv-loop μ-loop
-clear-table-requires c κs = search needs
-
 loop-holds : tie.Need-loop-holds Inv-loop μ-loop
 loop-holds c =
     let t = c .before .before in
     let a = c .before .before .before .before .before .before .args in
     (search needs, refl, λ u v. ap (λ (b : Bool). b || hasEdge (a .edges .now) u v) (sym (cleared (t .clear-table .last .0) (length (a .graph .now)) (t .clear-table .ensures) u v)))
 
-add-loop : tie.Need-add-loop Inv-loop μ-loop
-add-loop c = search needs
-
-shared-slice-read-a : tie.Need-shared-slice-read-a Inv-loop μ-loop
-shared-slice-read-a c = search needs
-
 cast-a : tie.Need-cast-a Inv-loop μ-loop
 cast-a c = omega (arith, c .shared-slice-known2 .given (c .before .before .loop .i))
-
-add-b : tie.Need-add-b Inv-loop μ-loop
-add-b c = search needs
-
-shared-slice-read-b : tie.Need-shared-slice-read-b Inv-loop μ-loop
-shared-slice-read-b c = search needs
 
 cast-b : tie.Need-cast-b Inv-loop μ-loop
 cast-b c = omega (arith, c .shared-slice-known3 .given (c .before .before .before .loop .i + 1))
@@ -59,12 +44,6 @@ join-requires-2 c κs =
     let l = c .before .before .before .before .before .before .before .before .loop in
     (search needs, below-at capacity (s .args .edges .now) (l .i + 1) (s .pre .1) (omega arith), below-at capacity (s .args .edges .now) (l .i) (s .pre .1) (omega arith))
 
-add-i : tie.Need-add-i Inv-loop μ-loop
-add-i c = search needs
-
-loop-less : tie.Need-loop-less Inv-loop μ-loop
-loop-less c = search needs
-
 loop-again : tie.Need-loop-again Inv-loop μ-loop
 loop-again c =
     let l = c .before .before .before .before .before .before .before .before .before .before .before .loop in
@@ -75,9 +54,6 @@ loop-again c =
           ∙ ap (λ (t : Bool). t || hasEdge (drop (l .i + 2) p) u v)
           (sym (c .before .before .join2 .ensures u v ∙ ap (λ (t : Bool). t || (eqb u (getD p (l .i + 1) 0) && eqb v (getD p (l .i) 0))) (c .before .before .before .before .before .before .join .ensures u v))),
     )
-
-same-length : tie.Need-same-length Inv-loop μ-loop
-same-length c = search needs
 
 returns : tie.Need-returns Inv-loop μ-loop
 returns c u v =
@@ -91,18 +67,18 @@ load-graph-spec =
     (tie.spec
     Inv-loop
     μ-loop
-    clear-table-requires
+    (λ c κs. search needs)
     loop-holds
-    add-loop
-    shared-slice-read-a
+    (λ c. search needs)
+    (λ c. search needs)
     cast-a
-    add-b
-    shared-slice-read-b
+    (λ c. search needs)
+    (λ c. search needs)
     cast-b
     join-requires
     join-requires-2
-    add-i
-    loop-less
+    (λ c. search needs)
+    (λ c. search needs)
     loop-again
-    same-length
+    (λ c. search needs)
     returns)

@@ -15,20 +15,11 @@ Inv-loop n mode graph outputs measured layers sets excused i₀ i = (i ≤ n) ×
 abbrev μ-loop : tie.MeasureT-loop
 μ-loop n mode graph outputs measured layers sets excused i₀ i = n - i
 
-excused-by-requires : tie.Need-excused-by-requires Inv-loop μ-loop
-excused-by-requires c κs = search needs
-
 loop-holds : tie.Need-loop-holds Inv-loop μ-loop
 loop-holds c = (search needs, each-start _ _)
 
 check-node-requires : tie.Need-check-node-requires Inv-loop μ-loop
 check-node-requires c κs = let s = c .before .before .before .before .before .before .before in ((s .pre .0, omega (arith, s .pre .0), s .pre .1), c .before .before .excused-by .ensures)
-
-enum-told : tie.Need-enum-told Inv-loop μ-loop
-enum-told c = search needs
-
-enum-told-2 : tie.Need-enum-told-2 Inv-loop μ-loop
-enum-told-2 c = search needs
 
 returns : tie.Need-returns Inv-loop μ-loop
 returns c = let k = c .before .before in
@@ -37,12 +28,6 @@ returns c = let k = c .before .before in
     let f = definitionAsk (jobIn (a .n) (a .graph .now) noNodes (a .outputs) (a .measured .now)) (flowIn (a .layers .now) noNodes (a .sets .now)) (a .mode) in
     let t = ap askedOf (c .enum-told2 .given .1) in
     t ∙ sym (l .inv .1 ∙ each-no (a .n) (l .i) f (omega arith) _ (sym (k .check-node .ensures) ∙ t))
-
-add-i : tie.Need-add-i Inv-loop μ-loop
-add-i c = search needs
-
-loop-less : tie.Need-loop-less Inv-loop μ-loop
-loop-less c = search needs
 
 loop-again : tie.Need-loop-again Inv-loop μ-loop
 loop-again c = let k = c .before .before in
@@ -63,13 +48,13 @@ check-nodes-spec =
     (tie.spec
     Inv-loop
     μ-loop
-    excused-by-requires
+    (λ c κs. search needs)
     loop-holds
     check-node-requires
-    enum-told
-    enum-told-2
+    (λ c. search needs)
+    (λ c. search needs)
     returns
-    add-i
-    loop-less
+    (λ c. search needs)
+    (λ c. search needs)
     loop-again
     returns-2)

@@ -33,9 +33,6 @@ add-add-set c = omega (arith, trailing-le wordBits (c .before .before .loop .lef
 add-set-requires : tie.Need-add-set-requires Inv-loop μ-loop
 add-set-requires c κs = omega (arith, trailing-le wordBits (c .before .before .loop .left))
 
-sub-left : tie.Need-sub-left Inv-loop μ-loop
-sub-left c = search needs
-
 loop-less : tie.Need-loop-less Inv-loop μ-loop
 loop-less c = let l = c .before .before .before .before .before .loop in omega (arith, and-le-r (l .left) (l .left - 1))
 
@@ -64,7 +61,7 @@ add-in-word-spec =
     cast-add-set
     add-add-set
     add-set-requires
-    sub-left
+    (λ c. search needs)
     loop-less
     loop-again
     same-length

@@ -19,28 +19,10 @@ Inv-loop g s₀ odd₀ s odd = (v : ℕ) → member odd v ⊕ sumOf g (member s)
 abbrev μ-loop : tie.MeasureT-loop
 μ-loop g s₀ odd₀ s odd = count capacity (member s)
 
-empty-requires : tie.Need-empty-requires Inv-loop μ-loop
-empty-requires c κs = search needs
-
 loop-holds : tie.Need-loop-holds Inv-loop μ-loop
 loop-holds c =
     let a = c .before .before .args in
     λ v. ap (λ (f : ℕ → Bool). f v ⊕ sumOf (a .g .now) (member (a .kset)) v) (c .empty .ensures)
-
-is-empty-requires : tie.Need-is-empty-requires Inv-loop μ-loop
-is-empty-requires c κs = search needs
-
-lowest-requires : tie.Need-lowest-requires Inv-loop μ-loop
-lowest-requires c κs = search needs
-
-set-at-requires : tie.Need-set-at-requires Inv-loop μ-loop
-set-at-requires c κs = search needs
-
-xor-requires : tie.Need-xor-requires Inv-loop μ-loop
-xor-requires c κs = search needs
-
-without-lowest-requires : tie.Need-without-lowest-requires Inv-loop μ-loop
-without-lowest-requires c κs = search needs
 
 loop-less : tie.Need-loop-less Inv-loop μ-loop
 loop-less c =
@@ -74,13 +56,13 @@ odd-neighbors-spec =
     (tie.spec
     Inv-loop
     μ-loop
-    empty-requires
+    (λ c κs. search needs)
     loop-holds
-    is-empty-requires
-    lowest-requires
-    set-at-requires
-    xor-requires
-    without-lowest-requires
+    (λ c κs. search needs)
+    (λ c κs. search needs)
+    (λ c κs. search needs)
+    (λ c κs. search needs)
+    (λ c κs. search needs)
     loop-less
     loop-again
     returns)

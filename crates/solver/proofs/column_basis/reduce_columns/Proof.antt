@@ -29,12 +29,6 @@ entry c = c .before .before .before .before .before .before .before
 some-here : (c : tie.Then1 Inv-loop μ-loop) → T (anyBelow capacity (member (c .before .before .loop .left)))
 some-here c = some-left (c .before .before .loop .left) (c .before .is-empty .result) (c .before .is-empty .ensures) (c .if1 .taken)
 
-empty-requires : tie.Need-empty-requires Inv-loop μ-loop
-empty-requires c κs = search needs
-
-empty-requires-2 : tie.Need-empty-requires-2 Inv-loop μ-loop
-empty-requires-2 c κs = search needs
-
 loop-holds : tie.Need-loop-holds Inv-loop μ-loop
 loop-holds c = let a = c .before .before .before .before .before .before .args in let p = c .before .before .before .before .before .before .pre in (
   p .0,
@@ -42,24 +36,12 @@ loop-holds c = let a = c .before .before .before .before .before .before .args i
   left-start (member (a .columns)) (a .reduced .now) (a .preimage .now) (a .kernel .now) _ (form-empty _ (a .reduced .now) (a .preimage .now) (a .kernel .now) (c .before .empty .ensures) (c .empty2 .ensures)),
 )
 
-is-empty-requires : tie.Need-is-empty-requires Inv-loop μ-loop
-is-empty-requires c κs = search needs
-
-lowest-requires : tie.Need-lowest-requires Inv-loop μ-loop
-lowest-requires c κs = search needs
-
-first-requires : tie.Need-first-requires Inv-loop μ-loop
-first-requires c κs = search needs
-
 reduce-column-requires : tie.Need-reduce-column-requires Inv-loop μ-loop
 reduce-column-requires c κs = let d = c .before .before .before .before .before .before .before .before in
     let a = entry d .args in let l = d .loop in let some = some-here (c .before .before .before .before .before .before) in let low = lowest-some capacity (member (l .left)) some in (
       (omega (arith, low, c .before .lowest .ensures), least-one capacity (member (l .left)) (member (c .first .result)) some (c .first .ensures) ∙ ap {B = ℕ → Bool} (λ (v u : ℕ). eqb u v) (sym (c .before .lowest .ensures)), l .inv .0),
       (left-units (member (a .columns)) (a .reduced .now) (a .preimage .now) (a .kernel .now) (member (l .left)) (l .echelon) (l .reduced) (l .preimage) (l .kernel) (l .inv .2), l .inv .1),
     )
-
-without-lowest-requires : tie.Need-without-lowest-requires Inv-loop μ-loop
-without-lowest-requires c κs = search needs
 
 loop-less : tie.Need-loop-less Inv-loop μ-loop
 loop-less c = let d = c .before .before .before .before .before .before .before .before .before .before .before .before .before .before .before .before .before .before in
@@ -99,14 +81,14 @@ reduce-columns-spec =
     (tie.spec
     Inv-loop
     μ-loop
-    empty-requires
-    empty-requires-2
+    (λ c κs. search needs)
+    (λ c κs. search needs)
     loop-holds
-    is-empty-requires
-    lowest-requires
-    first-requires
+    (λ c κs. search needs)
+    (λ c κs. search needs)
+    (λ c κs. search needs)
     reduce-column-requires
-    without-lowest-requires
+    (λ c κs. search needs)
     loop-less
     loop-again
     same-length

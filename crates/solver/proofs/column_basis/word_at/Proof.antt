@@ -16,21 +16,6 @@ abbrev μ-loop : tie.MeasureT-loop
 loop-holds : tie.Need-loop-holds Inv-loop μ-loop
 loop-holds c = let a = c .before .args in (omega arith, word-none (a .matrix .now) (a .at + 8))
 
-sub-left : tie.Need-sub-left Inv-loop μ-loop
-sub-left c = search needs
-
-add-as-word : tie.Need-add-as-word Inv-loop μ-loop
-add-as-word c = search needs
-
-shared-slice-read-as-word : tie.Need-shared-slice-read-as-word Inv-loop μ-loop
-shared-slice-read-as-word c = search needs
-
-as-word-requires : tie.Need-as-word-requires Inv-loop μ-loop
-as-word-requires c κs = search needs
-
-loop-less : tie.Need-loop-less Inv-loop μ-loop
-loop-less c = omega arith
-
 loop-again : tie.Need-loop-again Inv-loop μ-loop
 loop-again c = let a = c .before .before .before .before .before .args in let l = c .before .before .before .loop in let w = c .as-word in
     (omega arith, word-more (a .matrix .now) (a .at + (l .left - 1)) (a .at + l .left) (8 - l .left) (8 - (l .left - 1)) (l .word) (w .result) _ (omega arith) (omega arith) (omega arith) (l .inv .1) (w .ensures .0) (w .ensures .1) refl)
@@ -47,10 +32,10 @@ word-at-spec =
     Inv-loop
     μ-loop
     loop-holds
-    sub-left
-    add-as-word
-    shared-slice-read-as-word
-    as-word-requires
-    loop-less
+    (λ c. search needs)
+    (λ c. search needs)
+    (λ c. search needs)
+    (λ c κs. search needs)
+    (λ c. omega arith)
     loop-again
     returns)

@@ -18,23 +18,11 @@ abbrev μ-loop : tie.MeasureT-loop
 loop-holds : tie.Need-loop-holds Inv-loop μ-loop
 loop-holds c = (search needs, refl, turns-none _ _)
 
-clear-one-requires : tie.Need-clear-one-requires Inv-loop μ-loop
-clear-one-requires c κs = search needs
-
-add-i : tie.Need-add-i Inv-loop μ-loop
-add-i c = search needs
-
-loop-less : tie.Need-loop-less Inv-loop μ-loop
-loop-less c = search needs
-
 loop-again : tie.Need-loop-again Inv-loop μ-loop
 loop-again c = let d = c .before .before in
     let l = d .before .before .before .loop in
     let a = d .before .before .before .before .before .args in
     (search needs, search needs, d .clear-one .ensures ∙ turns-more (clearOne rowBytes (a .pivot) (a .col)) (l .i) (a .matrix .now) (l .matrix) (l .inv .2))
-
-same-length : tie.Need-same-length Inv-loop μ-loop
-same-length c = search needs
 
 returns : tie.Need-returns Inv-loop μ-loop
 unfolding clearColumn
@@ -50,9 +38,9 @@ clear-column-spec =
     Inv-loop
     μ-loop
     loop-holds
-    clear-one-requires
-    add-i
-    loop-less
+    (λ c κs. search needs)
+    (λ c. search needs)
+    (λ c. search needs)
     loop-again
-    same-length
+    (λ c. search needs)
     returns)

@@ -18,15 +18,6 @@ abbrev μ-loop : tie.MeasureT-loop
 loop-holds : tie.Need-loop-holds Inv-loop μ-loop
 loop-holds c = (search needs, search needs, refl, turns-none _ _)
 
-eliminate-column-requires : tie.Need-eliminate-column-requires Inv-loop μ-loop
-eliminate-column-requires c κs = search needs
-
-add-col : tie.Need-add-col Inv-loop μ-loop
-add-col c = search needs
-
-loop-less : tie.Need-loop-less Inv-loop μ-loop
-loop-less c = search needs
-
 loop-again : tie.Need-loop-again Inv-loop μ-loop
 loop-again c = let d = c .before .before in
     let l = d .before .before .before .loop in
@@ -37,9 +28,6 @@ loop-again c = let d = c .before .before in
       d .eliminate-column .ensures .0
           ∙ turns-more (eliminateColumn rowBytes (a .rows)) (l .col) (record { rank = 0; rows = a .matrix .now }) (record { rank = l .rank; rows = l .matrix }) (l .inv .3),
     )
-
-same-length : tie.Need-same-length Inv-loop μ-loop
-same-length c = search needs
 
 returns : tie.Need-returns Inv-loop μ-loop
 unfolding eliminateColumns
@@ -55,9 +43,9 @@ eliminate-columns-spec =
     Inv-loop
     μ-loop
     loop-holds
-    eliminate-column-requires
-    add-col
-    loop-less
+    (λ c κs. search needs)
+    (λ c. search needs)
+    (λ c. search needs)
     loop-again
-    same-length
+    (λ c. search needs)
     returns)

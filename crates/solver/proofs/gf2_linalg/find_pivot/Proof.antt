@@ -19,20 +19,11 @@ abbrev μ-loop : tie.MeasureT-loop
 loop-holds : tie.Need-loop-holds Inv-loop μ-loop
 loop-holds c = (search needs, search needs, refl)
 
-has-requires : tie.Need-has-requires Inv-loop μ-loop
-has-requires c κs = search needs
-
 returns : tie.Need-returns Inv-loop μ-loop
 returns c = let l = c .before .before .before .loop in
     let a = c .before .before .before .before .before .args in
     let has : entryOf rowBytes (a .matrix .now) (l .i) (a .col) ≡ true = sym (c .before .has .ensures) ∙ c .if1 .taken in
     sym (l .inv .2 ∙ first-here (λ k. entryOf rowBytes (a .matrix .now) k (a .col)) (l .i) (a .rows) (omega arith) has)
-
-add-i : tie.Need-add-i Inv-loop μ-loop
-add-i c = search needs
-
-loop-less : tie.Need-loop-less Inv-loop μ-loop
-loop-less c = search needs
 
 loop-again : tie.Need-loop-again Inv-loop μ-loop
 loop-again c = let l = c .before .before .before .loop in
@@ -48,4 +39,13 @@ returns-2 c = let l = c .before .loop in
 pub find-pivot-spec : {M : Type 1} → statement M
 find-pivot-spec =
     tie.close
-    (tie.spec Inv-loop μ-loop loop-holds has-requires returns add-i loop-less loop-again returns-2)
+    (tie.spec
+    Inv-loop
+    μ-loop
+    loop-holds
+    (λ c κs. search needs)
+    returns
+    (λ c. search needs)
+    (λ c. search needs)
+    loop-again
+    returns-2)

@@ -15,20 +15,8 @@ Inv-loop matrix row cols start q₀ q = (q ≤ rowBytes) × NoneBefore rowBytes 
 abbrev μ-loop : tie.MeasureT-loop
 μ-loop matrix row cols start q₀ q = rowBytes - q
 
-mul-start : tie.Need-mul-start Inv-loop μ-loop
-mul-start c = search needs
-
 loop-holds : tie.Need-loop-holds Inv-loop μ-loop
 loop-holds c = (search needs, none-start rowBytes (c .args .matrix .now) (c .args .row))
-
-add-byte : tie.Need-add-byte Inv-loop μ-loop
-add-byte c = search needs
-
-shared-slice-read-byte : tie.Need-shared-slice-read-byte Inv-loop μ-loop
-shared-slice-read-byte c = search needs
-
-mul-k : tie.Need-mul-k Inv-loop μ-loop
-mul-k c = search needs
 
 cast-k : tie.Need-cast-k Inv-loop μ-loop
 cast-k c =
@@ -56,12 +44,6 @@ returns-2 c =
     let byte : getD (a .matrix .now) (a .row * rowBytes + l .q) 0 < 2 ^ 8 = omega (arith, c .before .before .shared-slice-known .given (a .row * rowBytes + l .q)) in
     lead-outside rowBytes (a .matrix .now) (a .row) (l .q) (getD (a .matrix .now) (a .row * rowBytes + l .q) 0) refl (l .inv .1) byte (c .before .if1 .taken) (a .cols) (c .if2 .left)
 
-add-q : tie.Need-add-q Inv-loop μ-loop
-add-q c = search needs
-
-loop-less : tie.Need-loop-less Inv-loop μ-loop
-loop-less c = search needs
-
 loop-again : tie.Need-loop-again Inv-loop μ-loop
 loop-again c =
     let a = c .before .before .before .before .args in
@@ -81,16 +63,16 @@ lead-spec =
     (tie.spec
     Inv-loop
     μ-loop
-    mul-start
+    (λ c. search needs)
     loop-holds
-    add-byte
-    shared-slice-read-byte
-    mul-k
+    (λ c. search needs)
+    (λ c. search needs)
+    (λ c. search needs)
     cast-k
     add-k
     returns
     returns-2
-    add-q
-    loop-less
+    (λ c. search needs)
+    (λ c. search needs)
     loop-again
     returns-3)

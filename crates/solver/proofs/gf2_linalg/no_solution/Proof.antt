@@ -19,20 +19,11 @@ loop-holds : tie.Need-loop-holds Inv-loop μ-loop
 loop-holds c =
     let a = c .before .args in (search needs, any-start (inconsistentRow rowBytes (a .matrix .now) (a .cols) (a .asked)))
 
-inconsistent-row-requires : tie.Need-inconsistent-row-requires Inv-loop μ-loop
-inconsistent-row-requires c κs = search needs
-
 returns : tie.Need-returns Inv-loop μ-loop
 returns c =
     let a = c .before .before .before .before .before .args in
     let l = c .before .before .before .loop in
     sym (any-here (inconsistentRow rowBytes (a .matrix .now) (a .cols) (a .asked)) (a .rows) (l .i) (omega arith) (sym (c .before .inconsistent-row .ensures) ∙ c .if1 .taken))
-
-add-i : tie.Need-add-i Inv-loop μ-loop
-add-i c = search needs
-
-loop-less : tie.Need-loop-less Inv-loop μ-loop
-loop-less c = search needs
 
 loop-again : tie.Need-loop-again Inv-loop μ-loop
 loop-again c =
@@ -54,9 +45,9 @@ no-solution-spec =
     Inv-loop
     μ-loop
     loop-holds
-    inconsistent-row-requires
+    (λ c κs. search needs)
     returns
-    add-i
-    loop-less
+    (λ c. search needs)
+    (λ c. search needs)
     loop-again
     returns-2)

@@ -18,22 +18,10 @@ Inv-loop matrix rows cols pivots₀ i₀ pivots i = (i ≤ rows) × (member pivo
 abbrev μ-loop : tie.MeasureT-loop
 μ-loop matrix rows cols pivots₀ i₀ pivots i = rows - i
 
-empty-requires : tie.Need-empty-requires Inv-loop μ-loop
-empty-requires c κs = search needs
-
 loop-holds : tie.Need-loop-holds Inv-loop μ-loop
 loop-holds c =
     let a = c .before .before .args in
     (search needs, c .empty .ensures ∙ set-start (entryOf rowBytes (a .matrix .now)) (a .cols))
-
-add-pivot-requires : tie.Need-add-pivot-requires Inv-loop μ-loop
-add-pivot-requires c κs = search needs
-
-add-i : tie.Need-add-i Inv-loop μ-loop
-add-i c = search needs
-
-loop-less : tie.Need-loop-less Inv-loop μ-loop
-loop-less c = search needs
 
 loop-again : tie.Need-loop-again Inv-loop μ-loop
 loop-again c =
@@ -58,10 +46,10 @@ pivot-columns-spec =
     (tie.spec
     Inv-loop
     μ-loop
-    empty-requires
+    (λ c κs. search needs)
     loop-holds
-    add-pivot-requires
-    add-i
-    loop-less
+    (λ c κs. search needs)
+    (λ c. search needs)
+    (λ c. search needs)
     loop-again
     returns)

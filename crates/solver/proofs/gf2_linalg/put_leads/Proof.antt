@@ -17,29 +17,14 @@ Inv-loop matrix out₀ rows cols asked i₀ out i = (i ≤ rows) × (length out 
 abbrev μ-loop : tie.MeasureT-loop
 μ-loop matrix out₀ rows cols asked i₀ out i = rows - i
 
-clear-requires : tie.Need-clear-requires Inv-loop μ-loop
-clear-requires c κs = search needs
-
 loop-holds : tie.Need-loop-holds Inv-loop μ-loop
 loop-holds c =
     let a = c .before .before .before .before .before .before .args in
     let size : length (a .out .now) ≡ rowBytes = search needs in
     (search needs, search needs, c .before .before .clear .ensures ∙ ap zeros size ∙ bytes-none rowBytes ∙ bytes-start rowBytes (a .matrix .now) (a .cols) (a .asked))
 
-put-lead-requires : tie.Need-put-lead-requires Inv-loop μ-loop
-put-lead-requires c κs = search needs
-
-add-i : tie.Need-add-i Inv-loop μ-loop
-add-i c = search needs
-
-loop-less : tie.Need-loop-less Inv-loop μ-loop
-loop-less c = search needs
-
 loop-again : tie.Need-loop-again Inv-loop μ-loop
 loop-again c = (search needs, search needs, c .before .before .put-lead .ensures)
-
-same-length : tie.Need-same-length Inv-loop μ-loop
-same-length c = search needs
 
 returns : tie.Need-returns Inv-loop μ-loop
 returns c =
@@ -54,11 +39,11 @@ put-leads-spec =
     (tie.spec
     Inv-loop
     μ-loop
-    clear-requires
+    (λ c κs. search needs)
     loop-holds
-    put-lead-requires
-    add-i
-    loop-less
+    (λ c κs. search needs)
+    (λ c. search needs)
+    (λ c. search needs)
     loop-again
-    same-length
+    (λ c. search needs)
     returns)

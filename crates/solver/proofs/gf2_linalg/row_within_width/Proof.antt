@@ -17,23 +17,8 @@ Inv-loop matrix row width start q₀ inside₀ q inside = (q ≤ rowBytes) × (w
 abbrev μ-loop : tie.MeasureT-loop
 μ-loop matrix row width start q₀ inside₀ q inside = rowBytes - q
 
-mul-start : tie.Need-mul-start Inv-loop μ-loop
-mul-start c = search needs
-
 loop-holds : tie.Need-loop-holds Inv-loop μ-loop
 loop-holds c = (search needs, search needs, omega arith, ends-start rowBytes (c .args .matrix .now) (c .args .row) (c .args .width))
-
-add-if1 : tie.Need-add-if1 Inv-loop μ-loop
-add-if1 c = search needs
-
-shared-slice-read-if1 : tie.Need-shared-slice-read-if1 Inv-loop μ-loop
-shared-slice-read-if1 c = search needs
-
-cast-if1 : tie.Need-cast-if1 Inv-loop μ-loop
-cast-if1 c = search needs
-
-shr-if1 : tie.Need-shr-if1 Inv-loop μ-loop
-shr-if1 c = search needs
 
 returns : tie.Need-returns Inv-loop μ-loop
 returns c =
@@ -41,12 +26,6 @@ returns c =
     let l = c .before .before .before .loop in
     let byte : getD (a .matrix .now) (a .row * rowBytes + l .q) 0 < 2 ^ 8 = omega (arith, c .before .shared-slice-known .given (a .row * rowBytes + l .q)) in
     sym (ends-not rowBytes (a .matrix .now) (a .row) (a .width) (l .q) (l .inside) (l .inv .2) (omega arith) byte (c .if1 .taken))
-
-add-q : tie.Need-add-q Inv-loop μ-loop
-add-q c = search needs
-
-loop-less : tie.Need-loop-less Inv-loop μ-loop
-loop-less c = search needs
 
 loop-again : tie.Need-loop-again Inv-loop μ-loop
 loop-again c =
@@ -68,14 +47,14 @@ row-within-width-spec =
     (tie.spec
     Inv-loop
     μ-loop
-    mul-start
+    (λ c. search needs)
     loop-holds
-    add-if1
-    shared-slice-read-if1
-    cast-if1
-    shr-if1
+    (λ c. search needs)
+    (λ c. search needs)
+    (λ c. search needs)
+    (λ c. search needs)
     returns
-    add-q
-    loop-less
+    (λ c. search needs)
+    (λ c. search needs)
     loop-again
     returns-2)

@@ -20,20 +20,11 @@ loop-holds : tie.Need-loop-holds Inv-loop μ-loop
 loop-holds c =
     let a = c .before .args in (search needs, all-start (rowWithinWidth rowBytes (a .matrix .now) (a .width)))
 
-row-within-width-requires : tie.Need-row-within-width-requires Inv-loop μ-loop
-row-within-width-requires c κs = search needs
-
 returns : tie.Need-returns Inv-loop μ-loop
 returns c =
     let a = c .before .before .before .before .before .args in
     let l = c .before .before .before .loop in
     sym (all-here-not (rowWithinWidth rowBytes (a .matrix .now) (a .width)) (a .rows) (l .i) (omega arith) (sym (c .before .row-within-width .ensures) ∙ not-true _ (c .if1 .taken)))
-
-add-i : tie.Need-add-i Inv-loop μ-loop
-add-i c = search needs
-
-loop-less : tie.Need-loop-less Inv-loop μ-loop
-loop-less c = search needs
 
 loop-again : tie.Need-loop-again Inv-loop μ-loop
 loop-again c =
@@ -55,9 +46,9 @@ within-width-spec =
     Inv-loop
     μ-loop
     loop-holds
-    row-within-width-requires
+    (λ c κs. search needs)
     returns
-    add-i
-    loop-less
+    (λ c. search needs)
+    (λ c. search needs)
     loop-again
     returns-2)

@@ -16,44 +16,14 @@ Inv-loop matrix₀ dst src d s j₀ matrix j = (j ≤ rowBytes) × (length matri
 abbrev μ-loop : tie.MeasureT-loop
 μ-loop matrix₀ dst src d s j₀ matrix j = rowBytes - j
 
-mul-d : tie.Need-mul-d Inv-loop μ-loop
-mul-d c = search needs
-
-mul-s : tie.Need-mul-s Inv-loop μ-loop
-mul-s c = search needs
-
 loop-holds : tie.Need-loop-holds Inv-loop μ-loop
 loop-holds c = (search needs, refl, turns-none _ _)
-
-add-matrix : tie.Need-add-matrix Inv-loop μ-loop
-add-matrix c = search needs
-
-slice-read-matrix : tie.Need-slice-read-matrix Inv-loop μ-loop
-slice-read-matrix c = search needs
-
-add-matrix-2 : tie.Need-add-matrix-2 Inv-loop μ-loop
-add-matrix-2 c = search needs
-
-slice-read-matrix-2 : tie.Need-slice-read-matrix-2 Inv-loop μ-loop
-slice-read-matrix-2 c = search needs
-
-slice-write-matrix : tie.Need-slice-write-matrix Inv-loop μ-loop
-slice-write-matrix c = search needs
-
-add-j : tie.Need-add-j Inv-loop μ-loop
-add-j c = search needs
-
-loop-less : tie.Need-loop-less Inv-loop μ-loop
-loop-less c = search needs
 
 loop-again : tie.Need-loop-again Inv-loop μ-loop
 loop-again c =
     let a = c .before .before .before .before .args in
     let l = c .before .before .before .loop in
     (search needs, search needs, turns-more (xorByte (a .dst * rowBytes) (a .src * rowBytes)) (l .j) (a .matrix .now) (l .matrix) (l .inv .2))
-
-same-length : tie.Need-same-length Inv-loop μ-loop
-same-length c = search needs
 
 returns : tie.Need-returns Inv-loop μ-loop
 returns c =
@@ -70,16 +40,16 @@ xor-row-spec =
     (tie.spec
     Inv-loop
     μ-loop
-    mul-d
-    mul-s
+    (λ c. search needs)
+    (λ c. search needs)
     loop-holds
-    add-matrix
-    slice-read-matrix
-    add-matrix-2
-    slice-read-matrix-2
-    slice-write-matrix
-    add-j
-    loop-less
+    (λ c. search needs)
+    (λ c. search needs)
+    (λ c. search needs)
+    (λ c. search needs)
+    (λ c. search needs)
+    (λ c. search needs)
+    (λ c. search needs)
     loop-again
-    same-length
+    (λ c. search needs)
     returns)
