@@ -7,16 +7,14 @@ use mathlib.Core.List.{List, [], _∷_}
 use native.Mathlib.Omega.{arith}
 use borrow.Author.Tests.{ltb-true, lt-ltb, eq-eqb, ne-eqb}
 use lib.Dec.{eqb, ltb}
-use lib.ListN.{length, getD}
+use lib.ListN.{length}
 use Rattle.nodes.specs.NodeSet.{capacity}
-use Rattle.flows.specs.Job.{Job}
 use Rattle.answers.specs.Answer.{Refusal, refusal, gives, refuses}
 use Rattle.nodes.proofs.Logic.{and-out}
 use Rattle.records.specs.Records.{written, kindAccepted}
-use Rattle.nodes.specs.Lists.{has}
-use Rattle.records.specs.JobFile.{JobFile, mostNodes, modeCausal, workingOf, hasEdge, readJob, jobOf}
+use Rattle.records.specs.JobFile.{JobFile, mostNodes, modeCausal, workingOf, readJob, jobOf}
 use Rattle.nodes.specs.Options.{isSome}
-use Rattle.records.specs.FlowFile.{SetEntry, FlowFile, Flow, listed, allEntries, entryBelow, readFlow, setIn, entryIn, flowOf}
+use Rattle.records.specs.FlowFile.{SetEntry, FlowFile, listed, allEntries, entryBelow, readFlow, setIn, entryIn, flowOf}
 use Rattle.verdicts.specs.Verdict.{verify}
 use Rattle.demands.specs.Calls.{verdict, verifyAsks, put, verifyCall}
 use Rattle.answers.specs.Refusals.{refusalOf}
@@ -78,16 +76,6 @@ module _ (o : Option (List SetEntry)) (f : isSome o ≡ false) where
   pub no-entry : (u : ℕ) → false ≡ entryIn (listed o) u
   unfolding entryIn
   no-entry u = ap (λ (es : List SetEntry). entryIn es u) (sym (unframed o f))
-
--- ---- what was loaded is what the file means
-pub same-job : (f : JobFile) (edge : ℕ → ℕ → Bool) (input output : ℕ → Bool) → edge ≡ hasEdge (f .edges) → input ≡ has (f .inputs) → output ≡ has (f .outputs)
-    → (g : Flow) (mode : ℕ)
-    → verify (record { nodes = f .n; edge = edge; input = input; output = output; measured = λ u. getD (workingOf f .measurements) u 0 }) g mode ≡ verify (jobOf f) g mode
-same-job f edge input output a b c g mode = rw (a, b, c)
-
-pub same-flow : (g : FlowFile) (entry : ℕ → Bool) (set : ℕ → ℕ → Bool) → entry ≡ entryIn (g .sets) → set ≡ setIn (g .sets)
-    → (j : Job) (mode : ℕ) → verify j (record { layer = λ u. getD (g .layers) u 0; entry = entry; set = set }) mode ≡ verify j (flowOf g) mode
-same-flow g entry set a b j mode = rw (a, b)
 
 -- ---- the questions in order
 module _ (s : List ℕ) where

@@ -1,5 +1,5 @@
 -- How many numbers below n a set has, and the rank of a member: how many are below it. Serves Row.
-use Prim.Native.Nat.{ℕ, zero, suc, _+_, _-_, _%_, _≤_, _<_, zero-le}
+use Prim.Native.Nat.{ℕ, zero, suc, _+_, _%_, _≤_, _<_, zero-le}
 use mathlib.Core.Path.{_≡_, refl, sym, ap, ap₂, _∙_}
 use mathlib.Core.Bool.{Bool, true, false, cond, not}
 use mathlib.Core.Logic.{_⊎_, inl, inr}
@@ -40,11 +40,6 @@ count-none (suc n) s h = count-not n s (h n (lt-suc-self n)) ∙ count-none n s 
 
 pub count-empty : (n : ℕ) (s : ℕ → Bool) → (T (anyBelow n s) → ⊥) → count n s ≡ 0
 count-empty n s f = count-none n s (λ k l t. f (any-in n s k l t))
-
-pub count-all : (n : ℕ) (s : ℕ → Bool) → ((k : ℕ) → k < n → T (s k)) → count n s ≡ n
-unfolding count
-count-all zero s h = refl
-count-all (suc n) s h = count-at n s (h n (lt-suc-self n)) ∙ ap suc (count-all n s (λ k l. h k (le-step l)))
 
 -- the first m, and then n more
 pub count-split : (m n : ℕ) (s : ℕ → Bool) → count (m + n) s ≡ count m s + count n (λ k. s (m + k))

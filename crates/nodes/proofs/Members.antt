@@ -5,13 +5,13 @@ use mathlib.Core.Bool.{Bool, true, false, cond}
 use mathlib.Core.List.{List, [], _∷_, _++_, append-nil}
 use mathlib.Core.Logic.{_⊎_, inl, inr}
 use native.Mathlib.Omega.{arith}
-use native.Mathlib.Nat.{not-suc-le-zero, le-step, lt-suc-self, eq-or-lt-of-le, le-of-suc-le-suc, le-refl, add-zero, zero-add}
+use native.Mathlib.Nat.{le-step, lt-suc-self, eq-or-lt-of-le, le-refl, add-zero, zero-add}
 use lib.Dec.{T, ltb, ltb→lt}
-use lib.ListN.{length, getD, length-append, List·getD-append}
+use lib.ListN.{length, length-append}
 use Rattle.nodes.specs.Row.{count, anyBelow, lowestFrom, lowest, membersFrom, members}
 use Rattle.nodes.proofs.Logic.{is-true, is-false, from-true, from-false, both-ways, dec, le-or-lt, lt-or-ge}
 use Rattle.nodes.proofs.Row.{any-in, any-none, ltb-yes, ltb-no}
-use Rattle.nodes.proofs.Count.{count-at, count-not, rank-lt}
+use Rattle.nodes.proofs.Count.{count-at, count-not}
 
 -- ---- the least member
 pub from-ge : (k n : ℕ) (s : ℕ → Bool) → k ≤ lowestFrom k n s
@@ -170,31 +170,6 @@ members-length (suc n) s = go (dec (s n)) (members-length n s)
     go : T (s n) ⊎ (T (s n) → ⊥) → length (members n s) ≡ count n s → length (members (suc n) s) ≡ count (suc n) s
     go (inl t) ih = ap length (members-in n s t) ∙ length-append (members n s) (n ∷ []) ∙ omega (arith, count-at n s t)
     go (inr f) ih = ap length (members-out n s f) ∙ ih ∙ sym (count-not n s f)
-
--- a member stands at its rank
-pub members-at : (n : ℕ) (s : ℕ → Bool) (d v : ℕ) → v < n → T (s v) → getD (members n s) (count v s) d ≡ v
-members-at zero s d v h t = absurd (not-suc-le-zero h)
-members-at (suc n) s d v h t = go (eq-or-lt-of-le (le-of-suc-le-suc h)) (dec (s n)) (members-at n s d v)
-  where
-    past : (l : List ℕ) (i : ℕ) → length l ≡ i → getD (l ++ (n ∷ [])) i d ≡ n
-    past [] zero e = refl
-    past [] (suc i) e = absurd (bad i e)
-      where
-        bad : (i : ℕ) → 0 ≡ suc i → ⊥
-        bad i e = omega arith
-    past (x ∷ l) zero e = absurd (bad (length l) e)
-      where
-        bad : (i : ℕ) → suc i ≡ 0 → ⊥
-        bad i e = omega arith
-    past (x ∷ l) (suc i) e = past l i (omega arith)
-
-    go : (v ≡ n) ⊎ (v < n) → T (s n) ⊎ (T (s n) → ⊥) → (v < n → T (s v) → getD (members n s) (count v s) d ≡ v) → getD (members (suc n) s) (count v s) d ≡ v
-    go (inl e) (inl a) ih = rw e (ap (λ (l : List ℕ). getD l (count n s) d) (members-in n s a) ∙ past (members n s) (count n s) (members-length n s))
-    go (inl e) (inr f) ih = absurd (f (rw e at t))
-    go (inr l) (inl a) ih =
-        ap (λ (l : List ℕ). getD l (count v s) d) (members-in n s a)
-        ∙ List·getD-append (members n s) (n ∷ []) d (count v s) (omega (arith, members-length n s, rank-lt v n s l t)) ∙ ih l t
-    go (inr l) (inr f) ih = ap (λ (l : List ℕ). getD l (count v s) d) (members-out n s f) ∙ ih l t
 
 pub members-ext : (n : ℕ) (s t : ℕ → Bool) → ((k : ℕ) → k < n → s k ≡ t k) → members n s ≡ members n t
 unfolding membersFrom

@@ -1,7 +1,7 @@
 -- Rows of bits of any width: sums mod 2, and tests over the numbers below a bound.
 use Prim.Native.Nat.{ℕ, zero, suc, _+_, _-_, _≤_, _<_}
 use mathlib.Core.Path.{_≡_, refl, sym, ap, ap₂, _∙_}
-use mathlib.Core.Bool.{Bool, true, false, not, _&&_, _||_}
+use mathlib.Core.Bool.{Bool, true, false, _&&_, _||_}
 use mathlib.Core.Logic.{_⊎_, inl, inr}
 use native.Mathlib.Omega.{arith}
 use native.Mathlib.Nat.{le-of-suc-le-suc, not-suc-le-zero, le-step, lt-suc-self, eq-or-lt-of-le, add-zero, add-suc}
@@ -164,13 +164,3 @@ pub all-split : (m n : ℕ) (s : ℕ → Bool) → allBelow (m + n) s ≡ allBel
 unfolding allBelow
 all-split m zero s = ap (λ (x : ℕ). allBelow x s) (add-zero m) ∙ sym (and-all (allBelow m s))
 all-split m (suc n) s = ap (λ (x : ℕ). allBelow x s) (add-suc m n) ∙ ap (λ (b : Bool). s (m + n) && b) (all-split m n s) ∙ and-turn (s (m + n)) (allBelow m s) (allBelow n (λ k. s (m + k)))
-
--- some is not all of the others
-pub any-not-all : (n : ℕ) (s : ℕ → Bool) → anyBelow n s ≡ not (allBelow n (λ k. not (s k)))
-unfolding anyBelow allBelow
-any-not-all zero s = refl
-any-not-all (suc n) s = go (s n) (any-not-all n s)
-  where
-    go : (b : Bool) → anyBelow n s ≡ not (allBelow n (λ k. not (s k))) → b || anyBelow n s ≡ not (not b && allBelow n (λ k. not (s k)))
-    go true e = refl
-    go false e = e

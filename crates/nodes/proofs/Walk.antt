@@ -1,7 +1,7 @@
 -- A set is walked through, the least of what is left at a time, and a number counts along: it is the rank of the member at hand. Serves Row.
-use Prim.Native.Nat.{ℕ, _+_, _≤_, _<_, _-_}
+use Prim.Native.Nat.{ℕ, _+_, _≤_, _<_}
 use mathlib.Core.Path.{_≡_, sym, subst, ap, _∙_}
-use mathlib.Core.Bool.{Bool, not, true, false, _&&_}
+use mathlib.Core.Bool.{Bool, not, true, false}
 use mathlib.Core.Logic.{_≢_, _⊎_, inl, inr}
 use native.Mathlib.Omega.{arith}
 use native.Mathlib.Nat.{zero-add}
@@ -11,7 +11,7 @@ use Rattle.nodes.specs.Row.{anyBelow, count, lowest}
 use Rattle.nodes.proofs.Logic.{and-l, and-r, not-out, from-false, lt-or-ge, eqb-yes, unless-in, unless-out}
 use Rattle.nodes.proofs.Count.{count-none, rank-lt}
 use Rattle.nodes.proofs.Members.{lowest-none, lowest-some, lowest-member}
-use Rattle.nodes.proofs.Remove.{removed, count-remove, count-lowest, least-one}
+use Rattle.nodes.proofs.Remove.{removed, count-remove, count-lowest}
 use mathlib.Core.Option.{none, some}
 use Rattle.nodes.specs.NodeSet.{member, capacity}
 use Rattle.nodes.specs.declared.utils.NodeSet.{NodeSet}
@@ -71,10 +71,6 @@ module _ (left : NodeSet) (r : Bool) (e : r ≡ not (anyBelow capacity (member l
 
     pub lowest-small : u < capacity
     lowest-small = member-lt left u lowest-left
-
-    -- the node at hand alone
-    pub left-alone : (one : ℕ → Bool) → one ≡ (λ v. member left v && eqb v (lowest capacity (member left))) → one ≡ (λ v. eqb v u)
-    left-alone one h = least-one capacity (member left) one (some-left f) h ∙ ap {B = ℕ → Bool} (λ (x v : ℕ). eqb v x) (sym l)
 
     module _ (next : ℕ → Bool) (g : next ≡ removed (member left) (lowest capacity (member left))) where
       pub next-left : next ≡ removed (member left) u

@@ -18,7 +18,7 @@ use Rattle.records.specs.JobFile.{JobFile, mostNodes, openingAllowed, ed
 use Rattle.records.specs.FlowFile.{FlowFile, entriesOf, listed, allEntries, entryBelow, entriesRise, entryBytes, sets, FlowValue, flow, flowFile, flowValue, readFlow}
 use Rattle.records.specs.Encoding.{Bytes, jobBytes, ValidJob, ValidFlow}
 use Rattle.records.proofs.Records.{all-left, all-right, length-out}
-use Rattle.records.proofs.JobFile.{allowed-out, opening-out, opening-in, edges-out, nodes-out, measurements-out, rises-length, pairs-length}
+use Rattle.records.proofs.JobFile.{allowed-out, allowed-in, opening-out, opening-in, edges-out, edges-in, nodes-out, nodes-in, measurements-out, measurements-in, rises-length, pairs-length}
 use Rattle.records.proofs.FlowFile.{entries-back, entries-encode, sets-out, sets-in, entries-few, entry-bytes-length}
 use Rattle.records.proofs.Format.{PayloadExact, Appends, Lawful, exact-iff, payload-bytes, record-appends, plain-exact, record-then-appends, record-lawful, _then-lawful_}
 use Rattle.records.proofs.ReadingRefusals.{ReadingRefusal, numbered, Numbered, opening-numbered, edges-numbered, nodes-numbered, measurements-numbered, each-numbered, sets-numbered}
@@ -125,6 +125,20 @@ valid-out f v =
     let (u1, u2) = nodes-out (f .n) (f .outputs) u in
     let (m1, m2) = measurements-out (f .n) (f .mode) (has (f .outputs)) (f .measurements) m in
     record { few = o1; modeFrom = o2; modeTo = o3; pairs = e1; edgesBelow = e2; edgesRise = e3; inputsBelow = i1; inputsRise = i2; outputsBelow = u1; outputsRise = u2; count = m1; allowed = m2 }
+
+valid-in : (f : JobFile) → ValidJob f → job .valid (jobValue f) ≡ true
+valid-in f v =
+    rw (
+      allowed-in (f .n) (f .mode) (v .few) (v .modeFrom) (v .modeTo),
+      edges-in (f .n) (f .edges) (v .pairs) (v .edgesBelow) (v .edgesRise),
+      nodes-in (f .n) (f .inputs) (v .inputsBelow) (v .inputsRise),
+      nodes-in (f .n) (f .outputs) (v .outputsBelow) (v .outputsRise),
+      measurements-in (f .n) (f .mode) (has (f .outputs)) (f .measurements) (v .count) (v .allowed),
+    )
+
+-- what the format asks of a job, question by question
+pub job-valid : (f : JobFile) → (job .valid (jobValue f) ≡ true ↔ ValidJob f)
+job-valid f = (valid-out f, valid-in f)
 
 -- bytes are read as a job just where they are its bytes, its questions are answered yes, and what is behind it may follow
 pub job-exact : (s : List ℕ) (f : JobFile) → Bytes s

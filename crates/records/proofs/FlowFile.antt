@@ -188,12 +188,6 @@ entries-above low (e ∷ es) d (suc i) a h =
     let ih : e .node + 1 ≤ getD es i d .node = entries-above (e .node + 1) es d i q (le-of-suc-le-suc h) in
     omega arith
 
-pub entries-ascend : (low : ℕ) (es : List SetEntry) (d : SetEntry) (i j : ℕ) → entriesRise low es ≡ true → i < j → j < length es → getD es i d .node < getD es j d .node
-entries-ascend low [] d i j a h l = absurd (not-suc-le-zero l)
-entries-ascend low (e ∷ es) d i zero a h l = absurd (not-suc-le-zero h)
-entries-ascend low (e ∷ es) d zero (suc j) a h l = omega (arith, entries-above (e .node + 1) es d j (rise-out low e es a .2) (le-of-suc-le-suc l))
-entries-ascend low (e ∷ es) d (suc i) (suc j) a h l = entries-ascend (e .node + 1) es d i j (rise-out low e es a .2) (le-of-suc-le-suc h) (le-of-suc-le-suc l)
-
 pub entries-none : (low : ℕ) (es : List SetEntry) (u : ℕ) → entriesRise low es ≡ true → u < low → entryIn es u ≡ false
 entries-none low es u a h = is-false (entryIn es u) (λ t. by (entry-place es d u t))
   where

@@ -9,13 +9,10 @@ use borrow.Author.Tests.{leb-true, le-leb, lt-leb}
 use lib.Dec.{eqb, leb}
 use Rattle.nodes.proofs.Logic.{and-out}
 use lib.ListN.{length, getD, drop, length-drop, drop-of-length-le}
-use lib.Seq.{take-all, take-nil, getD-take, getD-drop, drop-drop, length-take-le}
+use lib.Seq.{take-all, take-nil, getD-drop, drop-drop, length-take-le}
 use Rattle.answers.specs.Answer.{gives, refuses, refusal}
 use Rattle.records.specs.Records.{headBytes, carries, part, lengthField, kindField}
 use Rattle.records.specs.Views.{between}
-
-pub between-at : (a b : ℕ) (s : List ℕ) (k : ℕ) → k < b - a → getD (between a b s) k 0 ≡ getD s (a + k) 0
-between-at a b s k h = getD-take (b - a) (drop a s) k 0 h ∙ getD-drop a s k 0
 
 pub between-length : (a b : ℕ) (s : List ℕ) → a ≤ b → b ≤ length s → length (between a b s) ≡ b - a
 between-length a b s h g = length-take-le (b - a) (drop a s) (simp length-drop (omega arith))
