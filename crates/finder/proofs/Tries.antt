@@ -31,7 +31,7 @@ use Rattle.solver.specs.declared.column_basis.Formed.{Formed}
 use Rattle.solver.specs.declared.column_basis.Formed.the-variants as formed
 use Rattle.solver.specs.declared.column_basis.Echelon.{Echelon}
 use Rattle.solver.proofs.System.{solve-ext, solve-past}
-use Rattle.solver.proofs.Asked.{Like, Found, Idle, solve-by-rows}
+use Rattle.solver.proofs.Asked.{Like, HasLike, Idle, solve-by-rows}
 use Rattle.solver.proofs.BasisTables.{rest-entry, fits-last}
 use Rattle.solver.proofs.BasisForms.{unreached}
 use Rattle.flows.specs.Job.{planeXY}
@@ -207,11 +207,11 @@ module _ (n : ℕ) (g : List ℕ) (s : Code.Context) (e : Echelon) (kernel reduc
             let y : n + (q - n) ≡ q = omega arith in (q - n, omega arith, small-at-hand (q - n), subst (λ (x : ℕ). Like small large n small-side large-side (q - n) x) y (lower-like (q - n) r))
         by (inr l) d = let y : q ≡ n + n = omega arith in (capacity, omega arith, small-at-hand capacity, subst (λ (x : ℕ). Like small large n small-side large-side capacity x) (sym y) last-like)
 
-    back : (i : ℕ) → i < suc capacity → T (small .row i) → Found small large n small-side large-side i ⊎ Idle small large n small-side i
+    back : (i : ℕ) → i < suc capacity → T (small .row i) → HasLike small large n small-side large-side i ⊎ Idle small large n small-side i
     back i h t = by (lt-or-ge i capacity) (dec (member (s .upper) i)) (dec (member (s .lower) i))
       where
         by : (i < capacity) ⊎ (capacity ≤ i) → T (member (s .upper) i) ⊎ (T (member (s .upper) i) → ⊥) → T (member (s .lower) i) ⊎ (T (member (s .lower) i) → ⊥)
-            → Found small large n small-side large-side i ⊎ Idle small large n small-side i
+            → HasLike small large n small-side large-side i ⊎ Idle small large n small-side i
         by (inl l) (inl a) d =
             let m = ready .within .upper i a in
             inl (i, omega arith, large-in i (omega arith) (subst (λ (c : Bool). T (cond c (member (s .upper) i) (member (s .lower) (i - n)))) (sym (ltb-yes i n m)) a), upper-like i a)
@@ -232,7 +232,7 @@ module _ (n : ℕ) (g : List ℕ) (s : Code.Context) (e : Echelon) (kernel reduc
         )
         by (inr l) d c =
             let y : i ≡ capacity = omega arith in
-            inl (subst (λ (x : ℕ). Found small large n small-side large-side x) (sym y)
+            inl (subst (λ (x : ℕ). HasLike small large n small-side large-side x) (sym y)
             (n + n, omega arith, subst (λ (x : Bool). T (cond x (sys .row (n + n)) true)) (sym (ltb-no (n + n) (n + n) (omega arith))) tt, last-like))
 
     none-past : (k : ℕ) → n ≤ k → member (s .columns) k ≡ false

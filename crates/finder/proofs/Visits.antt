@@ -262,8 +262,8 @@ module _ (try : (ℕ → Bool) → ℕ → Option (ℕ → Bool)) (n : ℕ)
     kept u l a = rw (made .solved u l) (or-l (s .solved u) (solvedNow (try later) s u) a)
 
     -- no more nodes are later: the search is at its end
-    pub going-end : n ≤ capacity → unchanged ≡ true → t ≡ cutTo n w
-    going-end h q = cut-again n t (round (try later) r s) e ∙ cut-ext n t w (rw (rounds-idle never try n n (r + 1) t quiet) at led)
+    pub pending-end : n ≤ capacity → unchanged ≡ true → t ≡ cutTo n w
+    pending-end h q = cut-again n t (round (try later) r s) e ∙ cut-ext n t w (rw (rounds-idle never try n n (r + 1) t quiet) at led)
       where
         as-before : (u : ℕ) → u < n → t .solved u ≡ later u
         as-before u l =
@@ -284,8 +284,8 @@ module _ (try : (ℕ → Bool) → ℕ → Option (ℕ → Bool)) (n : ℕ)
 
     -- more nodes are later
     module _ (q : unchanged ≡ false) where
-      pub going-less : count n (λ u. not (t .solved u)) < count n (λ u. not (later u))
-      going-less = by (grows n (λ u. not (t .solved u)) (λ u. not (later u)) (λ u l a. not-in (later u) (λ b. not-out (t .solved u) a (kept u l (g .sub u b)))))
+      pub pending-less : count n (λ u. not (t .solved u)) < count n (λ u. not (later u))
+      pending-less = by (grows n (λ u. not (t .solved u)) (λ u. not (later u)) (λ u l a. not-in (later u) (λ b. not-out (t .solved u) a (kept u l (g .sub u b)))))
         where
           outside : (p : Progress) → p ≡ cutTo n p → (u : ℕ) → n ≤ u → p .solved u ≡ false
           outside p c u l = ap (λ (x : Progress). x .solved u) c ∙ ap (λ (b : Bool). b && p .solved u) (ltb-no u n l)
@@ -301,24 +301,24 @@ module _ (try : (ℕ → Bool) → ℕ → Option (ℕ → Bool)) (n : ℕ)
               same u (inr l) (inl d) = absurd (from-false (s .solved u) (outside s (g .cut) u l) (g .sub u d))
               same u (inr l) (inr d) = rw (is-false (later u) d, outside t (cut-again n t (round (try later) r s) e) u l) tt
 
-      pub going-next : Pending try n w (r + 1) (t .solved) t
-      going-next = record {
+      pub pending-next : Pending try n w (r + 1) (t .solved) t
+      pending-next = record {
         cut = cut-again n t (round (try later) r s) e;
         sub = λ u a. a;
-        all = omega (arith, going-less, g .all);
+        all = omega (arith, pending-less, g .all);
         leads = progress-trans (onward-step (r + 1) t) led;
       }
 
   -- the search begins with round 0, where no node is later, or with round 1
-  pub going-start : (fromZero : Bool) (output later : ℕ → Bool) (s : Progress) → s ≡ cutTo n (start output) → later ≡ cond fromZero noNode (s .solved)
+  pub pending-start : (fromZero : Bool) (output later : ℕ → Bool) (s : Progress) → s ≡ cutTo n (start output) → later ≡ cond fromZero noNode (s .solved)
       → Pending try n (searchFrom fromZero try n output) (firstRound fromZero) later s
-  going-start true output later s e f = record {
+  pending-start true output later s e f = record {
     cut = cut-again n s (start output) e;
     sub = λ u a. absurd (rw f at a);
     all = omega (arith, count-le n (λ u. not (later u)));
     leads = rw f (onward-agree 1 (round (try noNode) 0 s) (round (try noNode) 0 (start output)) (round-agree n (try noNode) (try noNode) (λ u l. refl) 0 s (start output) (cut-same n s (start output) e)));
   }
-  going-start false output later s e f = record {
+  pending-start false output later s e f = record {
     cut = cut-again n s (start output) e;
     sub = λ u a. rw f at a;
     all = omega (arith, count-le n (λ u. not (later u)));

@@ -1,6 +1,6 @@
 // What the two programs write, as text on standard output: a line for each node of a flow file.
 // Of a file that is cut, and of one that neither program wrote, it says so on standard error and shows nothing.
-ghost use Prim.Native.Nat.{_≤_, _<_};
+ghost use Prim.Native.Nat.{_≤_};
 ghost use mathlib.Core.Path.{_≡_};
 ghost use lib.ListN.{length, getD};
 ghost use Rattle.messages.specs.Message.{line, putWhole};
@@ -16,6 +16,8 @@ use records::common::KIND_LAYERS;
 use records::common::KIND_NO_FLOW;
 use records::common::KIND_REFUSAL;
 use records::common::MOST_NODES;
+use records::common::byte_at;
+use records::common::number;
 use records::reader::read_flow;
 use streams::Input;
 use streams::only_usage;
@@ -42,33 +44,18 @@ enum Judged {
     Other,
 }
 
-fn byte(file: &[u8], at: usize) -> u8
-    ensures { λ r. ⌜ r ≡ getD (now (file .entry)) at 0 ⌝ }
-{
-    if at < file.len() {
-        return file[at];
-    }
-    0
-}
-
 // ---- Judging.
 
-fn wide(x: u8) -> usize
-    ensures { λ r. ⌜ r < 256 ⌝ }
-{
-    x as usize
-}
-
 fn length_field(file: &[u8]) -> usize {
-    let a = wide(byte(file, 0));
-    let b = wide(byte(file, 1));
-    let c = wide(byte(file, 2));
-    let d = wide(byte(file, 3));
+    let a = number(byte_at(file, 0));
+    let b = number(byte_at(file, 1));
+    let c = number(byte_at(file, 2));
+    let d = number(byte_at(file, 3));
     a + 256 * b + 65536 * c + 16777216 * d
 }
 
 fn kind_field(file: &[u8]) -> u16 {
-    byte(file, 4) as u16 + 256 * byte(file, 5) as u16
+    byte_at(file, 4) as u16 + 256 * byte_at(file, 5) as u16
 }
 
 // A file of one record whose payload should have so many bytes.
@@ -141,7 +128,7 @@ fn show_member(k: u8) -> bool {
 fn show_members(file: &[u8], start: usize, end: usize) -> bool {
     let mut p = start;
     while p < end {
-        if !show_member(byte(file, p)) {
+        if !show_member(byte_at(file, p)) {
             return false;
         }
         p += 1;
@@ -153,17 +140,17 @@ fn show_layer(file: &[u8], v: u8) -> bool {
     print(b"node ")
         && print_number(v)
         && print(b"  layer ")
-        && print_number(byte(file, HEAD_BYTES + wide(v)))
+        && print_number(byte_at(file, HEAD_BYTES + number(v)))
 }
 
 // Where the entry of node v ends, if it is the one at this place; else this place.
 fn entry_end(file: &[u8], v: u8, at: usize) -> usize
     requires { ⌜ length (now file) ≤ 65536 ⌝ }
 {
-    if at >= file.len() || byte(file, at) != v {
+    if at >= file.len() || byte_at(file, at) != v {
         return at;
     }
-    at + ENTRY_HEAD_BYTES + wide(byte(file, at + 1))
+    at + ENTRY_HEAD_BYTES + number(byte_at(file, at + 1))
 }
 
 // The entry of a node, where it has one.
@@ -185,8 +172,8 @@ fn show_node(file: &[u8], v: u8, at: usize, end: usize) -> bool
 fn show_flow(file: &[u8]) -> bool
     requires { ⌜ length (now file) ≤ 65536 ⌝ }
 {
-    let n = byte(file, 0);
-    let mut at = 2 * HEAD_BYTES + wide(n);
+    let n = byte_at(file, 0);
+    let mut at = 2 * HEAD_BYTES + number(n);
     let mut v = 0;
     while v < n {
         let end = entry_end(file, v, at);
@@ -203,10 +190,10 @@ fn show_flow(file: &[u8]) -> bool
 fn put_refusal(file: &[u8], out: &mut [u8]) -> usize
     ensures { λ r. ⌜ record { count = r; out = now (out .exit) } ≡ putWhole (line (record { number = getD (now (file .entry)) 6 0; a = getD (now (file .entry)) 7 0; b = getD (now (file .entry)) 8 0 })) (now (out .entry)) ⌝ }
 {
-    let number = byte(file, HEAD_BYTES);
-    let a = byte(file, HEAD_BYTES + 1);
-    let b = byte(file, HEAD_BYTES + 2);
-    message(Refusal(number, a, b as u16), out)
+    let q = byte_at(file, HEAD_BYTES);
+    let a = byte_at(file, HEAD_BYTES + 1);
+    let b = byte_at(file, HEAD_BYTES + 2);
+    message(Refusal(q, a, b as u16), out)
 }
 
 fn show_refusal(file: &[u8]) -> bool {

@@ -76,7 +76,7 @@ pub enum FlowRead {
 }
 
 // A byte as a number.
-pub(crate) fn number(x: u8) -> usize
+pub fn number(x: u8) -> usize
     ensures { λ r. ⌜ (r ≡ x) × (r < 256) ⌝ }
 {
     x as usize

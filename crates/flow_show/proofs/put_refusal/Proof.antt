@@ -13,9 +13,9 @@ by-bytes out n a b n′ a′ b′ p q r = rw (p, q, r)
 
 returns : tie.Need-returns
 returns c = let x = c .before .before .before .before .before .before .before .before .before .args in
-    let n = c .before .before .before .before .before .before .byte in
-    let a = c .before .before .before .before .before .byte2 in
-    let b = c .before .before .before .before .byte3 in
+    let n = c .before .before .before .before .before .before .byte-at in
+    let a = c .before .before .before .before .before .byte-at2 in
+    let b = c .before .before .before .before .byte-at3 in
     c .before .before .message .ensures ∙ by-bytes (x .out .now) _ _ _ _ _ _ (n .ensures) (a .ensures) (b .ensures)
 
 pub put-refusal-spec : {M : Type 1} → statement M

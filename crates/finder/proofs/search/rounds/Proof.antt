@@ -14,15 +14,15 @@ use Rattle.finder.specs.Tries.{TablesFit}
 use Rattle.finder.specs.Visits.{Sized, progressIn}
 use Rattle.finder.specs.Searches.{jobIn, progressAt}
 use Rattle.finder.proofs.WorkMatrix.{transposed-start}
-use Rattle.finder.proofs.Visits.{going-end, going-less, going-next}
-use Rattle.finder.proofs.Rounds.{Going, search-start}
+use Rattle.finder.proofs.Visits.{pending-end, pending-less, pending-next}
+use Rattle.finder.proofs.Rounds.{SearchPending, search-start}
 use borrow.Author.Needs.{needs}
 use Rattle.finder.proofs.search.rounds.Statement.{statement}
 use Rattle.finder.proofs.search.rounds.Tie as tie
 
 abbrev Inv-loop : tie.InvT-loop
 Inv-loop pauli graph n inputs measured work₀ layers₀ sets₀ transposed₀ kernel₀ reduced₀ preimage₀ kinds state₀ later₀ r₀ work layers sets transposed kernel reduced preimage state later r = Sized n measured work layers sets × TablesFit kernel reduced preimage × Transposed graph (state .support) transposed
-    × ((o : NodeSet) → Going pauli n graph inputs o measured r₀ (member later₀) (progressIn (state₀ .solved) layers₀ sets₀) → Going pauli n graph inputs o measured r (member later) (progressIn (state .solved) layers sets))
+    × ((o : NodeSet) → SearchPending pauli n graph inputs o measured r₀ (member later₀) (progressIn (state₀ .solved) layers₀ sets₀) → SearchPending pauli n graph inputs o measured r (member later) (progressIn (state .solved) layers sets))
 
 abbrev μ-loop : tie.MeasureT-loop
 μ-loop pauli graph n inputs measured work₀ layers₀ sets₀ transposed₀ kernel₀ reduced₀ preimage₀ kinds state₀ later₀ r₀ work layers sets transposed kernel reduced preimage state later r = count n (λ u. not (member later u))
@@ -70,7 +70,7 @@ first c =
     (c .if1 .came)
 
 -- the search is on its way
-on-way : (c : tie.At-loop Inv-loop μ-loop) → let a = start-at c .args in Going (a .pauli) (a .n) (a .graph .now) (a .inputs) (a .outputs) (a .measured .now) (c .loop .r) (member (c .loop .later)) (here c)
+on-way : (c : tie.At-loop Inv-loop μ-loop) → let a = start-at c .args in SearchPending (a .pauli) (a .n) (a .graph .now) (a .inputs) (a .outputs) (a .measured .now) (c .loop .r) (member (c .loop .later)) (here c)
 on-way c =
     let a = start-at c .args in
     let f = first (c .before) in
@@ -123,7 +123,7 @@ returns c =
     let l = at d in
     let a = start-at l .args in
     let j = job-at l in
-    (going-end (tryAt j (a .pauli)) (a .n) (try-ext j (a .pauli)) (progressAt (a .pauli) j) (l .loop .r) (member (l .loop .later)) (here l) _ (on-way l) (d .advance .ensures .0 (a .outputs)) (l .loop .inv .0 .nodes) (sym (c .before .same .ensures) ∙ c .if2 .taken), d .advance .ensures .1 .0)
+    (pending-end (tryAt j (a .pauli)) (a .n) (try-ext j (a .pauli)) (progressAt (a .pauli) j) (l .loop .r) (member (l .loop .later)) (here l) _ (on-way l) (d .advance .ensures .0 (a .outputs)) (l .loop .inv .0 .nodes) (sym (c .before .same .ensures) ∙ c .if2 .taken), d .advance .ensures .1 .0)
 
 add-r : tie.Need-add-r Inv-loop μ-loop
 add-r c = let d = at (turn c) in omega (arith, d .loop .inv .0 .nodes, on-way d .all)
@@ -134,7 +134,7 @@ loop-less c =
     let l = at d in
     let a = start-at l .args in
     let j = job-at l in
-    going-less (tryAt j (a .pauli)) (a .n) (try-ext j (a .pauli)) (progressAt (a .pauli) j) (l .loop .r) (member (l .loop .later)) (here l) _ (on-way l) (d .advance .ensures .0 (a .outputs)) (sym (c .before .before .same .ensures) ∙ c .before .if2 .left)
+    pending-less (tryAt j (a .pauli)) (a .n) (try-ext j (a .pauli)) (progressAt (a .pauli) j) (l .loop .r) (member (l .loop .later)) (here l) _ (on-way l) (d .advance .ensures .0 (a .outputs)) (sym (c .before .before .same .ensures) ∙ c .before .if2 .left)
 
 loop-again : tie.Need-loop-again Inv-loop μ-loop
 loop-again c =
@@ -146,7 +146,7 @@ loop-again c =
       e .1 .1,
       e .1 .2,
       λ o g. let j = jobIn (a .n) (a .graph .now) (a .inputs) o (a .measured .now) in
-          going-next (tryAt j (a .pauli)) (a .n) (try-ext j (a .pauli)) (progressAt (a .pauli) j) (l .loop .r) (member (l .loop .later)) (here l) _ (l .loop .inv .3 o g) (e .0 o) (sym (c .before .before .same .ensures) ∙ c .before .if2 .left),
+          pending-next (tryAt j (a .pauli)) (a .n) (try-ext j (a .pauli)) (progressAt (a .pauli) j) (l .loop .r) (member (l .loop .later)) (here l) _ (l .loop .inv .3 o g) (e .0 o) (sym (c .before .before .same .ensures) ∙ c .before .if2 .left),
     )
 
 pub rounds-spec : {M : Type 1} → statement M
