@@ -31,6 +31,9 @@ impl Refusal {
     pub const NO_SUCH_EQUATION: Refusal = Refusal(12, 0, 0);
 
     pub const RESULT_TOO_LONG: Refusal = Refusal(20, 0, 0);
+
+    // A loop, or an edge or a node given twice.
+    pub const GIVEN_TWICE: Refusal = Refusal(21, 0, 0);
 }
 
 // The questions of the verifier, by number: each names its node, a, and 15 and 18 a layer or a node, b.

@@ -7,3 +7,4 @@ pub mod Found
 pub mod LoadingEdges
 pub mod LoadingFiles
 pub mod LoadingTables
+pub mod Writing

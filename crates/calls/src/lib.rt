@@ -5,6 +5,7 @@ mod load; // load.rt: what the records hold, for every call
 mod pflow; // pflow.rt: checking a generalized flow or a Pauli flow
 mod validate; // validate.rt: what every flow is asked
 pub mod verify; // verify.rt: the verifier, from a job and a flow to a verdict
+pub mod write; // write.rt: the job writer, from lists to a job file
 
 ghost use mathlib.Core.Path.{_≡_};
 ghost use mathlib.Core.List.{[]};

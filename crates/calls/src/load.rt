@@ -45,7 +45,7 @@ fn join(graph: &mut [u64], a: usize, b: usize)
 }
 
 // Each edge joins both ways.
-fn load_graph(edges: &[u8], graph: &mut [u64])
+pub(crate) fn load_graph(edges: &[u8], graph: &mut [u64])
     requires { ⌜ (length (now graph) ≡ tableWords) × (all (λ v. ltb v capacity) (now edges) ≡ true) ⌝ }
     ensures { λ _. ⌜ ((u v : ℕ) → setAt (now (graph .exit)) u v ≡ hasEdge (now (edges .entry)) u v) ⌝ }
 {

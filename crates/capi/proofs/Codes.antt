@@ -1,12 +1,13 @@
 -- What the one number tells a program in C: an answer exactly where it is below 2^32, and else the refusal's number, a and b.
-use Prim.Native.Nat.{ℕ, _≤_, _<_}
+use Prim.Native.Nat.{ℕ, zero, suc, _≤_, _<_}
 use mathlib.Core.Path.{_≡_, refl}
-use mathlib.Core.Bool.{Bool, true, false}
+use mathlib.Core.Bool.{Bool, true, false, false≢true}
 use mathlib.Core.Option.{Option, none, some}
-use mathlib.Core.List.{List, []}
+use mathlib.Core.List.{List, [], _∷_}
 use mathlib.Core.Logic.{_↔_}
 use native.Mathlib.Omega.{arith}
 use lib.ListN.{length}
+use Rattle.nodes.specs.Lists.{has}
 use Rattle.answers.specs.Answer.{Refusal, Answer, gives, refuses, asks, _>>_}
 use Rattle.answers.proofs.Answer.{never}
 use Rattle.solver.specs.Solver as Solver
@@ -15,10 +16,13 @@ use Rattle.records.specs.Splice.{fitsIn}
 use Rattle.records.specs.Encoding.{Bytes}
 use Rattle.records.specs.Writing.{mostOutput}
 use Rattle.records.specs.JobFile.{JobFile}
+use Rattle.records.specs.JobLists.{JobLists, writtenJob}
 use Rattle.records.proofs.Records.{written-length}
 use Rattle.records.proofs.Encoding.{job-asked}
-use Rattle.demands.specs.Calls.{put, findAsks, findOutcome, findCall, verifyAsks, verifyOutcome, verifyCall}
+use Rattle.records.proofs.JobLists.{written-job-length}
+use Rattle.demands.specs.Calls.{put, findAsks, findOutcome, findCall, verifyAsks, outcome, verifyCall, writeJobAsks, writeJobCall}
 use Rattle.demands.proofs.Demand.{found-fits, asked-find}
+use Rattle.demands.proofs.JobWriter.{write-job-asked, write-job-refuses}
 use Rattle.capi.specs.Codes.{numberUnit, answerCode, coded, counted, codedBits, Tells, TellsWhy}
 use Rattle.demands.proofs.Refusals.{Numbered, AllNumbered, given, asks-then, find-numbered, verify-numbered}
 
@@ -50,9 +54,24 @@ verify-fits : (file out : List ℕ) → Fits (Bytes file) (verifyCall file out .
 unfolding verifyCall AllNumbered
 verify-fits file out = by (verifyAsks file) (verify-numbered file)
   where
-    by : (a : Answer Bool) → AllNumbered (Bytes file) a → Fits (Bytes file) (verifyOutcome a out .answer)
+    by : (a : Answer Bool) → AllNumbered (Bytes file) a → Fits (Bytes file) (outcome a (written kindAccepted []) out .answer)
     by (gives b) t = put-fits (Bytes file) [] (written kindAccepted []) out (omega (arith, written-length kindAccepted []))
     by (refuses r) t = numbered-fits (Bytes file) r t
+
+write-job-fits : (l : JobLists) (out : List ℕ) → Fits Unit (writeJobCall l out .answer)
+unfolding has writeJobCall
+write-job-fits l out = by (writeJobAsks l) refl
+  where
+    -- no question has number 0
+    from-one : (q : ℕ) → has (3 ∷ 4 ∷ 5 ∷ 7 ∷ 21 ∷ []) q ≡ true → 1 ≤ q
+    from-one zero e = absurd (false≢true e)
+    from-one (suc q) e = omega arith
+
+    by : (a : Answer Bool) → writeJobAsks l ≡ a → Fits Unit (outcome a (writtenJob l) out .answer)
+    by (gives b) e = put-fits Unit [] (writtenJob l) out (written-job-length l (write-job-asked l b e .0))
+    by (refuses r) e =
+        let (same, number) = write-job-refuses l r e in
+        rw same (from-one (r .number) number, omega arith, λ x. omega arith)
 
 solve-numbered : (matrix out : List ℕ) (rows cols sides side : ℕ) → AllNumbered Unit (Solver.solveAsks matrix out rows cols sides side)
 unfolding Solver.solveAsks
@@ -90,6 +109,12 @@ verify-code file out =
     let a = verifyCall file out .answer in
     let h = verify-fits file out in
     (tells (Bytes file) a h, tells-why (Bytes file) a h)
+
+pub write-job-code : (l : JobLists) (out : List ℕ) → let o = writeJobCall l out in Tells (o .answer) (coded o .code) × TellsWhy (o .answer) (coded o .code)
+write-job-code l out =
+    let a = writeJobCall l out .answer in
+    let h = write-job-fits l out in
+    (tells Unit a h, tells-why Unit a h tt)
 
 pub solve-code : (matrix out : List ℕ) (rows cols sides side : ℕ) → let o = Solver.solveCall matrix out rows cols sides side in
     Tells (counted (o .answer)) (codedBits o .code) × TellsWhy (counted (o .answer)) (codedBits o .code)

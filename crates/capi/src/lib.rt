@@ -3,13 +3,15 @@ ghost use mathlib.Core.Path.{_≡_};
 ghost use mathlib.Core.List.{[]};
 ghost use Rattle.solver.specs.Solver.{MatrixAfter, solvedOf, solveAsks, solveCall};
 ghost use Rattle.answers.specs.Refusals.{refusalOf};
-ghost use Rattle.demands.specs.Calls.{findCall, verifyCall};
+ghost use Rattle.records.specs.JobLists.{given};
+ghost use Rattle.demands.specs.Calls.{findCall, verifyCall, writeJobCall};
 ghost use Rattle.calls.specs.Replies.{replyOf};
 ghost use Rattle.capi.specs.Codes.{refusalCode, answerCode, coded, counted, codedBits};
 use answers::Refusal;
 use calls::Reply;
 use calls::find::find;
 use calls::verify::verify;
+use calls::write::write_job;
 use solver::gf2_linalg::Solved;
 use solver::gf2_linalg::solve_in_place;
 
@@ -58,6 +60,23 @@ pub extern "C" fn bolz_verify(file: &[u8], out: &mut [u8]) -> u64
     ensures { λ r. ⌜ record { code = r; work = []; out = now (out .exit) } ≡ coded (verifyCall (now (file .entry)) (now (out .entry))) ⌝ }
 {
     reply_code(verify(file, out))
+}
+
+// The job writer: the count of bytes written, or the refusal.
+#[no_mangle]
+pub extern "C" fn bolz_write_job(
+    n: usize,
+    mode: usize,
+    edges: &[u8],
+    inputs: &[u8],
+    outputs: &[u8],
+    measurements: &[u8],
+    out: &mut [u8],
+) -> u64
+    ensures { λ r. ⌜ record { code = r; work = []; out = now (out .exit) }
+        ≡ coded (writeJobCall (given n mode (now (edges .entry)) (now (inputs .entry)) (now (outputs .entry)) (now (measurements .entry))) (now (out .entry))) ⌝ }
+{
+    reply_code(write_job(n, mode, edges, inputs, outputs, measurements, out))
 }
 
 // The solver: 1 for solvable, 0 for not, or the refusal.

@@ -3,3 +3,4 @@ pub mod Refusals
 pub mod Demand
 pub mod Solutions
 pub mod Cases
+pub mod JobWriter

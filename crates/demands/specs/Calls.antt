@@ -1,4 +1,4 @@
--- The calls of finder and verifier, for every argument: the answer and what each lent buffer then holds.
+-- The calls of finder, verifier and job writer, for every argument: the answer and what each lent buffer then holds.
 use Prim.Native.Nat.{ℕ}
 use mathlib.Core.Bool.{Bool, true, cond, _||_}
 use mathlib.Core.Option.{Option, none, some}
@@ -16,6 +16,7 @@ use Rattle.records.specs.Records.{written, kindAccepted}
 use Rattle.records.specs.Splice.{putAnswer, putFront}
 use Rattle.records.specs.Writing.{flowBytes}
 use Rattle.records.specs.JobFile.{JobFile, readJob, jobOf, workingOf, modePlanes, modePauli}
+use Rattle.records.specs.JobLists.{JobLists, listsAsk, givenOnce, writtenJob}
 use Rattle.records.specs.FlowFile.{readFlow, flowOf, nothingLeft, oneMember}
 use Rattle.verdicts.specs.Verdict.{verify}
 
@@ -57,6 +58,12 @@ verifyAsks file = do
   oneMember (f .mode) (g .sets)
   verdict (verify (jobOf f) (flowOf g) (modeOf f))
 
+-- the job writer's: those of each list (3, 4, 5, 7), and then whether each edge and node was given once (21)
+unfoldable pub writeJobAsks : JobLists → Answer Bool
+writeJobAsks l = do
+  listsAsk l
+  asks 21 (givenOnce l)
+
 -- ---- the lent buffers
 -- the answer is the number of bytes written
 pub record Outcome : Type 0 where
@@ -76,10 +83,13 @@ findOutcome (gives f) work out = put (zeros (length work)) (foundBytes f) out
 unfoldable pub findCall : (file work out : List ℕ) → Outcome
 findCall file work out = findOutcome (findAsks file work) work out
 
--- the verifier has no work buffer
-abbrev pub verifyOutcome : Answer Bool → List ℕ → Outcome
-verifyOutcome (refuses r) out = record { answer = refuses r; work = []; out = out }
-verifyOutcome (gives b) out = put [] (written kindAccepted []) out
+-- a call without a work buffer
+abbrev pub outcome : Answer Bool → (result out : List ℕ) → Outcome
+outcome (refuses r) result out = record { answer = refuses r; work = []; out = out }
+outcome (gives b) result out = put [] result out
 
 unfoldable pub verifyCall : (file out : List ℕ) → Outcome
-verifyCall file out = verifyOutcome (verifyAsks file) out
+verifyCall file out = outcome (verifyAsks file) (written kindAccepted []) out
+
+unfoldable pub writeJobCall : JobLists → (out : List ℕ) → Outcome
+writeJobCall l out = outcome (writeJobAsks l) (writtenJob l) out

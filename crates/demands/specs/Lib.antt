@@ -1,5 +1,6 @@
 pub mod Calls
 pub mod Cases
 pub mod Demand
+pub mod JobWriter
 pub mod Programs
 pub mod Solutions

@@ -22,7 +22,7 @@ use Rattle.records.specs.Writing.{mostOutput}
 use Rattle.answers.proofs.Answer.{give-inj, never}
 use Rattle.records.proofs.Records.{written-length}
 use Rattle.records.proofs.Encoding.{job-asked}
-use Rattle.demands.specs.Calls.{foundBytes, Outcome, put, findAsks, findOutcome, findCall, verifyAsks, verifyOutcome, verifyCall}
+use Rattle.demands.specs.Calls.{foundBytes, Outcome, put, findAsks, findOutcome, findCall, verifyAsks, outcome, verifyCall}
 use Rattle.demands.specs.Programs.{judgedBytes, refusalBytes, findOutput, findProgram, verifyOutput, verifyProgram}
 use Rattle.demands.proofs.Demand.{found-fits, asked-find}
 use Rattle.demands.proofs.Refusals.{AllNumbered, find-numbered}
@@ -156,7 +156,7 @@ module _ (input out o work : List ℕ) where
   unfolding verifyCall verifyProgram
   verify-gives k e = by (verifyAsks (take judgedBytes input)) e
     where
-      by : (x : Answer Bool) → _≡_ {A = Outcome} (record { answer = gives k; work = work; out = o }) (verifyOutcome x out) → _≡_ {A = Printed} (record { refused = none; count = k; out = o }) (printed (refusalIn x) (verifyOutput x) out)
+      by : (x : Answer Bool) → _≡_ {A = Outcome} (record { answer = gives k; work = work; out = o }) (outcome x (written kindAccepted []) out) → _≡_ {A = Printed} (record { refused = none; count = k; out = o }) (printed (refusalIn x) (verifyOutput x) out)
       by (gives b) e = put-gives [] (written kindAccepted []) out o work k e
       by (refuses r) e = absurd (never (sym (ap (λ (x : Outcome). x .answer) e)))
 
@@ -166,7 +166,7 @@ module _ (input out o work : List ℕ) where
   unfolding verifyCall verifyProgram
   verify-refuses r e = by (verifyAsks (take judgedBytes input)) e
     where
-      by : (x : Answer Bool) → _≡_ {A = Outcome} (record { answer = refuses r; work = work; out = o }) (verifyOutcome x out) → printed (some r) (refusalBytes r) o ≡ printed (refusalIn x) (verifyOutput x) out
+      by : (x : Answer Bool) → _≡_ {A = Outcome} (record { answer = refuses r; work = work; out = o }) (outcome x (written kindAccepted []) out) → printed (some r) (refusalBytes r) o ≡ printed (refusalIn x) (verifyOutput x) out
       by (gives b) e =
           let (long, same, plain) = put-refuses [] (written kindAccepted []) out o work r e in
           let longer : length out < length (refusalBytes r) = omega (arith, long, refusal-length r, written-length kindAccepted []) in

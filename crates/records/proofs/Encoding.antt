@@ -12,7 +12,7 @@ use Rattle.nodes.proofs.Logic.{and-out}
 use Rattle.nodes.specs.Lists.{has, all}
 use Rattle.answers.specs.Answer.{Refusal, Answer, gives, refuses, _>>=_}
 use Rattle.answers.proofs.Answer.{give-inj, never, bind-out}
-use Rattle.records.specs.Records.{allYes, written, kindOpening, kindEdges, kindInputs, kindOutputs, kindMeasurements, kindLayers, kindSets, eachAsks}
+use Rattle.records.specs.Records.{allYes, kindOpening, kindEdges, kindInputs, kindOutputs, kindMeasurements, kindLayers, kindSets, eachAsks}
 use Rattle.records.specs.Format.{Front, front, PayloadFormat, plain, recordOf}
 use Rattle.records.specs.JobFile.{JobFile, mostNodes, openingAllowed, edgesAsks, nodesAsks, measurementsAsks, opening, JobValue, job, jobFile, jobValue, readJob}
 use Rattle.records.specs.FlowFile.{FlowFile, entriesOf, listed, allEntries, entryBelow, entriesRise, entryBytes, sets, FlowValue, flow, flowFile, flowValue, readFlow}
@@ -146,6 +146,10 @@ pub job-exact : (s : List ℕ) (f : JobFile) → Bytes s
 job-exact s f h =
     let (there, back) = exact-iff job (job-lawful .exact) s (jobValue f) (f .after) h in
     (λ e. there (job-decoded s f e), λ x. job-reads s f (back x))
+
+-- a valid job is read back from its bytes
+pub job-decodes : (f : JobFile) → ValidJob f → readJob (jobBytes f ++ f .after) ≡ gives f
+job-decodes f v = job-reads (jobBytes f ++ f .after) f (job-lawful .exact .decodes (jobValue f) (f .after) (valid-in f v) refl)
 
 -- what is behind a job of bytes is bytes
 pub job-after : (s : List ℕ) (f : JobFile) → Bytes s → readJob s ≡ gives f → Bytes (f .after)

@@ -173,7 +173,7 @@ edge-sym (a ∷ []) u v = refl
 edge-sym (a ∷ b ∷ l) u v = ap₂ _||_ (or-comm (eqb a u && eqb b v) (eqb a v && eqb b u)) (edge-sym l u v)
 
 -- a hasEdge pair is one of the list's, one way or the other
-edge-out : (a b : ℕ) (l : List ℕ) (u v : ℕ) → T (hasEdge (a ∷ b ∷ l) u v) → ((a ≡ u) × (b ≡ v)) ⊎ (((a ≡ v) × (b ≡ u)) ⊎ T (hasEdge l u v))
+pub edge-out : (a b : ℕ) (l : List ℕ) (u v : ℕ) → T (hasEdge (a ∷ b ∷ l) u v) → ((a ≡ u) × (b ≡ v)) ⊎ (((a ≡ v) × (b ≡ u)) ⊎ T (hasEdge l u v))
 unfolding hasEdge
 edge-out a b l u v t = by (or-out (eqb a u && eqb b v || eqb a v && eqb b u) (hasEdge l u v) t)
   where

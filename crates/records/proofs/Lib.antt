@@ -2,6 +2,10 @@ pub mod Encoding
 pub mod FlowFile
 pub mod Format
 pub mod JobFile
+pub mod JobLists
+pub mod NodeLists
+pub mod PairKeys
+pub mod PairLists
 pub mod ReadingEntries
 pub mod ReadingFiles
 pub mod ReadingHead
@@ -12,4 +16,5 @@ pub mod Records
 pub mod Splice
 pub mod Views
 pub mod Writing
+pub mod WritingJobs
 pub mod WritingLoops

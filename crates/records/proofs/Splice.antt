@@ -75,7 +75,8 @@ splice-cons at x b l m h p = ap (splice (at + 1) b) p ∙ splice-splice at (x �
 pub three-length : (a b c : List ℕ) → length (a ++ (b ++ c)) ≡ length a + length b + length c
 three-length a b c = omega (arith, length-append a (b ++ c), length-append b c)
 
-pub three-put : (a b c l m n o : List ℕ) → length a + length b + length c ≤ length l → m ≡ splice 0 a l → n ≡ splice (length a) b m → o ≡ splice (length a + length b) c n → o ≡ splice 0 (a ++ (b ++ c)) l
-three-put a b c l m n o h p q r =
-    r ∙ splice-next 0 (length a + length b) (a ++ b) c l n (omega (arith, length-append a b)) (omega arith) (q ∙ splice-next 0 (length a) a b l m (omega arith) (omega arith) p)
-    ∙ ap (λ (x : List ℕ). splice 0 x l) (append-assoc a b c)
+pub three-put : (at j k : ℕ) (a b c l m n o : List ℕ) → j ≡ at + length a → k ≡ j + length b → k + length c ≤ length l
+    → m ≡ splice at a l → n ≡ splice j b m → o ≡ splice k c n → o ≡ splice at (a ++ (b ++ c)) l
+three-put at j k a b c l m n o d e h p q r =
+    r ∙ splice-next at k (a ++ b) c l n (omega (arith, length-append a b)) h (q ∙ splice-next at j a b l m d (omega arith) p)
+    ∙ ap (λ (x : List ℕ). splice at x l) (append-assoc a b c)

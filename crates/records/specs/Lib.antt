@@ -2,6 +2,7 @@ pub mod Encoding
 pub mod FlowFile
 pub mod Format
 pub mod JobFile
+pub mod JobLists
 pub mod Records
 pub mod Splice
 pub mod Views

@@ -5,12 +5,13 @@ use mathlib.Core.Bool.{Bool, true, false, cond}
 use mathlib.Core.Option.{Option, none, some}
 use mathlib.Core.List.{List, _++_}
 use lib.ListN.{length, getD, take, drop}
+use Rattle.nodes.specs.Row.{count}
 use Rattle.nodes.specs.Lists.{has}
 use Rattle.answers.specs.Answer.{Answer, gives, refuses, _>>=_}
 use Rattle.answers.specs.Refusals.{refusalOf}
 use Rattle.records.specs.Records.{carries, lengthField, Part, allYes, checked, headBytes, eachAsks}
 use Rattle.records.specs.Format.{Front, front, plain, recordOf, optional}
-use Rattle.records.specs.JobFile.{JobFile, mostNodes, openingAsks, edgesAsks, nodesAsks, measurementsAsks}
+use Rattle.records.specs.JobFile.{JobFile, mostNodes, nodesBelow, openingAsks, edgesAsks, nodesAsks, measurementsAsks}
 use Rattle.records.specs.FlowFile.{FlowFile, entriesOf, listed, setsAsks}
 use Rattle.records.specs.declared.common.Place.{Place}
 use Rattle.records.specs.declared.common.JobPlaces.{JobPlaces}
@@ -67,6 +68,10 @@ Granted s (Nodes n) = Unit
 Granted s (Measurements n mode outputs) = (n ≤ mostNodes) × (allYes (nodesAsks n (bytesAt outputs s)) ≡ true)
 Granted s (Each width n) = Unit
 Granted s (Sets n) = Unit
+
+-- the outputs are nodes below n, so many of them
+abbrev pub Outputs : (n : ℕ) (outputs : List ℕ) (k : ℕ) → Type 0
+Outputs n outputs k = (nodesBelow n outputs ≡ true) × (count n (has outputs) ≡ k)
 
 -- ---- one record
 abbrev pub partAt : List ℕ → Place → Part

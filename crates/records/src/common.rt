@@ -9,6 +9,9 @@ use nodes::utils::CAPACITY;
 // The bytes of a record's length and kind.
 pub const HEAD_BYTES: usize = 6;
 
+// The bytes of the opening: number of nodes and mode.
+pub(crate) const OPENING_BYTES: usize = 2;
+
 // The bytes of an entry's node and count.
 pub const ENTRY_HEAD_BYTES: usize = 2;
 

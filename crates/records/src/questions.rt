@@ -7,10 +7,10 @@ ghost use lib.ListN.{length, getD};
 ghost use Rattle.nodes.specs.Options.{isSome};
 ghost use Rattle.nodes.specs.Lists.{has, all};
 ghost use Rattle.nodes.specs.Row.{count};
-ghost use Rattle.records.specs.Records.{allYes, eachAsks};
+ghost use Rattle.records.specs.Records.{eachAsks};
 ghost use Rattle.records.specs.JobFile.{mostNodes, rises, pairsRise, highestOf, allAllowed, openingAllowed, openingAsks, edgesAsks, nodesAsks, measurementsAsks};
 ghost use Rattle.records.specs.FlowFile.{entriesOf, listed, allEntries, entryBelow, entriesRise, setsAsks};
-ghost use Rattle.records.specs.Views.{checkedOf, asksOf, Granted};
+ghost use Rattle.records.specs.Views.{checkedOf, asksOf, Outputs, Granted};
 use crate::common::ENTRY_HEAD_BYTES;
 use crate::common::MODE_CAUSAL;
 use crate::common::MODE_PAULI;
@@ -25,7 +25,7 @@ use flows::PLANE_XY;
 use flows::PLANE_XZ;
 
 // What the questions of a payload answer.
-pub(crate) enum Checked {
+pub enum Checked {
     Passed,
     Refused(Refusal),
 }
@@ -44,7 +44,7 @@ pub(crate) enum Questions {
 // ---- One question, asked of the whole payload.
 
 // Is each node below n? Asked of the greatest: a loop that always runs to its end takes many bytes at a time.
-fn below(nodes: &[u8], n: usize) -> bool
+pub(crate) fn below(nodes: &[u8], n: usize) -> bool
     ensures { λ r. ⌜ r ≡ all (λ v. ltb v n) (now (nodes .entry)) ⌝ }
 {
     if n == 0 {
@@ -146,17 +146,17 @@ fn zero_at(bytes: &[u8], nodes: &[u8]) -> bool
 }
 
 // Is each measurement byte allowed? None may be above the mode's highest, and the zeros are those of the outputs:
-// as many, and one at each.
-fn all_allowed(measurements: &[u8], mode: u8, outputs: &[u8]) -> bool
+// as many as there are distinct outputs, and one at each.
+fn all_allowed(measurements: &[u8], mode: u8, outputs: &[u8], distinct: usize) -> bool
     requires { ⌜ length (now measurements) ≤ mostNodes ⌝ }
-    requires { ⌜ allYes (nodesAsks (length (now measurements)) (now outputs)) ≡ true ⌝ }
+    requires { ⌜ Outputs (length (now measurements)) (now outputs) distinct ⌝ }
     ensures { λ r. ⌜ r ≡ allAllowed mode (has (now (outputs .entry))) 0 (now (measurements .entry)) ⌝ }
 {
     let past = number(highest_of(mode)) + 1;
     if !below(measurements, past) {
         return false;
     }
-    if zeros(measurements) != outputs.len() {
+    if zeros(measurements) != distinct {
         return false;
     }
     zero_at(measurements, outputs)
@@ -256,16 +256,16 @@ pub fn one_member(sets: &[u8]) -> bool
 // ---- The questions of each kind, in order.
 
 // Are the number of nodes and the mode allowed?
-fn opening_allowed(n: usize, mode: u8) -> bool
+pub(crate) fn opening_allowed(n: usize, mode: usize) -> bool
     ensures { λ r. ⌜ r ≡ openingAllowed n mode ⌝ }
 {
     if n > MOST_NODES {
         return false;
     }
-    if mode < MODE_CAUSAL {
+    if mode < number(MODE_CAUSAL) {
         return false;
     }
-    mode <= MODE_PAULI
+    mode <= number(MODE_PAULI)
 }
 
 fn ask_opening(opening: &[u8]) -> Checked
@@ -274,7 +274,7 @@ fn ask_opening(opening: &[u8]) -> Checked
     if opening.len() != 2 {
         return Checked::Refused(Refusal::WRONG_LENGTH);
     }
-    if !opening_allowed(number(opening[0]), opening[1]) {
+    if !opening_allowed(number(opening[0]), number(opening[1])) {
         return Checked::Refused(Refusal::WRONG_OPENING);
     }
     Checked::Passed
@@ -307,14 +307,21 @@ fn ask_nodes(nodes: &[u8], n: usize) -> Checked
     Checked::Passed
 }
 
-fn ask_measurements(measurements: &[u8], n: usize, mode: u8, outputs: &[u8]) -> Checked
-    requires { ⌜ (n ≤ mostNodes) × (allYes (nodesAsks n (now outputs)) ≡ true) ⌝ }
+// Of the outputs so many are distinct: in a file all, in an editor's list, where a node may stand twice, perhaps fewer.
+pub(crate) fn ask_measurements(
+    measurements: &[u8],
+    n: usize,
+    mode: u8,
+    outputs: &[u8],
+    distinct: usize,
+) -> Checked
+    requires { ⌜ (n ≤ mostNodes) × Outputs n (now outputs) distinct ⌝ }
     ensures { λ r. ⌜ checkedOf r ≡ measurementsAsks n mode (has (now (outputs .entry))) (now (measurements .entry)) ⌝ }
 {
     if measurements.len() != n {
         return Checked::Refused(Refusal::WRONG_LENGTH);
     }
-    if !all_allowed(measurements, mode, outputs) {
+    if !all_allowed(measurements, mode, outputs, distinct) {
         return Checked::Refused(Refusal::WRONG_MEASUREMENT);
     }
     Checked::Passed
@@ -367,7 +374,8 @@ pub(crate) fn ask(file: &[u8], questions: Questions, bytes: &[u8]) -> Checked
         Questions::Edges(n) => ask_edges(bytes, n),
         Questions::Nodes(n) => ask_nodes(bytes, n),
         Questions::Measurements(n, mode, outputs) => {
-            ask_measurements(bytes, n, mode, payload(file, outputs))
+            let listed = payload(file, outputs);
+            ask_measurements(bytes, n, mode, listed, listed.len())
         }
         Questions::Each(width, n) => ask_each(bytes, width, n),
         Questions::Sets(n) => ask_sets(bytes, n),

@@ -1,20 +1,28 @@
 // Records written into a lent buffer, one after the other.
 ghost use mathlib.Core.Path.{_≡_};
-ghost use mathlib.Core.List.{[], _∷_};
-ghost use Prim.Native.Nat.{_+_, _/_, _%_, _<_, _≤_};
+ghost use mathlib.Core.List.{[], _∷_, _++_};
+ghost use Prim.Native.Nat.{_+_, _*_, _/_, _%_, _<_, _≤_};
 ghost use lib.Dec.{leb};
 ghost use lib.ListN.{length};
 ghost use Rattle.nodes.specs.Row.{members, count};
 ghost use Rattle.nodes.specs.NodeSet.{member, capacity};
 ghost use Rattle.nodes.specs.SetTable.{setAt};
-ghost use Rattle.records.specs.Records.{headBytes, headOf, written, kindLayers, kindSets};
+ghost use Rattle.records.specs.Records.{headBytes, headOf, written, kindEdges, kindInputs, kindOutputs, kindMeasurements, kindLayers, kindSets};
+ghost use Rattle.records.specs.Encoding.{jobBytes};
+ghost use Rattle.records.specs.JobLists.{pairsWith, pairsAmong, jobWith};
 ghost use Rattle.records.specs.Writing.{layerBytes, setBytes, flowRecords};
 ghost use Rattle.records.specs.Splice.{splice, putFront, putAnswer, putOf};
 ghost use Rattle.records.specs.Views.{keptAround};
 use crate::common::ENTRY_HEAD_BYTES;
 use crate::common::HEAD_BYTES;
+use crate::common::KIND_EDGES;
+use crate::common::KIND_INPUTS;
 use crate::common::KIND_LAYERS;
+use crate::common::KIND_MEASUREMENTS;
+use crate::common::KIND_OPENING;
+use crate::common::KIND_OUTPUTS;
 use crate::common::KIND_SETS;
+use crate::common::OPENING_BYTES;
 use crate::common::Place;
 use crate::common::payload;
 use nodes::utils::NodeSet;
@@ -155,6 +163,87 @@ fn put_sets_record(out: &mut [u8], at: usize, len: usize, sets: &[u64], nodes: N
     put_entries(out, at + HEAD_BYTES, sets, nodes);
 }
 
+// ---- The edges of a job: each node with those of its neighbours that are above it, ascending.
+
+// Node a with each member, ascending; the place behind them.
+fn put_pairs(out: &mut [u8], at: usize, a: usize, s: NodeSet) -> usize
+    requires { ⌜ (a < capacity) × (at + 2 * count capacity (member s) ≤ length (now out)) ⌝ }
+    ensures { λ _. ⌜ now (out .exit) ≡ splice at (pairsWith a (members capacity (member s))) (now (out .entry)) ⌝ }
+    ensures { λ r. ⌜ r ≡ at + 2 * count capacity (member s) ⌝ }
+{
+    let mut left = s;
+    let mut p = at;
+    while !left.is_empty() {
+        put_byte(out, p, a as u8);
+        put_byte(out, p + 1, left.lowest() as u8);
+        left = left.without_lowest();
+        p += 2;
+    }
+    p
+}
+
+fn put_edges(out: &mut [u8], at: usize, graph: &[u64], nodes: NodeSet)
+    requires { ⌜ at + length (pairsAmong (setAt (now graph)) (members capacity (member nodes))) ≤ length (now out) ⌝ }
+    ensures { λ _. ⌜ now (out .exit) ≡ splice at (pairsAmong (setAt (now (graph .entry))) (members capacity (member nodes))) (now (out .entry)) ⌝ }
+{
+    let mut left = nodes;
+    let mut p = at;
+    while !left.is_empty() {
+        let a = left.lowest();
+        left = left.without_lowest();
+        p = put_pairs(out, p, a, set_at(graph, a).intersection(left));
+    }
+}
+
+// The bytes that the edges among these nodes take.
+pub fn edges_len(graph: &[u64], nodes: NodeSet) -> usize
+    ensures { λ r. ⌜ r ≡ length (pairsAmong (setAt (now (graph .entry))) (members capacity (member nodes))) ⌝ }
+{
+    let mut left = nodes;
+    let mut len = 0;
+    while !left.is_empty() {
+        let a = left.lowest();
+        left = left.without_lowest();
+        len += 2 * set_at(graph, a).intersection(left).count();
+    }
+    len
+}
+
+fn put_edges_record(out: &mut [u8], at: usize, len: usize, graph: &[u64], nodes: NodeSet)
+    requires { ⌜ len ≡ length (pairsAmong (setAt (now graph)) (members capacity (member nodes))) ⌝ }
+    requires { ⌜ at + headBytes + len ≤ length (now out) ⌝ }
+    ensures { λ _. ⌜ now (out .exit) ≡ splice at (written kindEdges (pairsAmong (setAt (now (graph .entry))) (members capacity (member nodes)))) (now (out .entry)) ⌝ }
+{
+    put_head(out, at, len, KIND_EDGES);
+    put_edges(out, at + HEAD_BYTES, graph, nodes);
+}
+
+// ---- Inputs, outputs and measurements.
+
+fn put_nodes_record(out: &mut [u8], at: usize, kind: u16, s: NodeSet) -> usize
+    requires { ⌜ at + headBytes + count capacity (member s) ≤ length (now out) ⌝ }
+    ensures { λ _. ⌜ now (out .exit) ≡ splice at (written kind (members capacity (member s))) (now (out .entry)) ⌝ }
+    ensures { λ r. ⌜ r ≡ at + headBytes + count capacity (member s) ⌝ }
+{
+    put_head(out, at, s.count(), kind);
+    put_members(out, at + HEAD_BYTES, s)
+}
+
+fn put_last_records(
+    out: &mut [u8],
+    at: usize,
+    inputs: NodeSet,
+    outputs: NodeSet,
+    measurements: &[u8],
+)
+    requires { ⌜ at + 3 * headBytes + count capacity (member inputs) + count capacity (member outputs) + length (now measurements) ≤ length (now out) ⌝ }
+    ensures { λ _. ⌜ now (out .exit) ≡ splice at (written kindInputs (members capacity (member inputs)) ++ (written kindOutputs (members capacity (member outputs)) ++ written kindMeasurements (now (measurements .entry)))) (now (out .entry)) ⌝ }
+{
+    let second = put_nodes_record(out, at, KIND_INPUTS, inputs);
+    let third = put_nodes_record(out, second, KIND_OUTPUTS, outputs);
+    put_record(out, third, KIND_MEASUREMENTS, measurements);
+}
+
 // ---- At the front of the buffer, where there is room for all of it.
 
 // Is there room for three lengths together?
@@ -196,6 +285,39 @@ pub fn write_flow(out: &mut [u8], layers: &[u16], sets: &[u64], nodes: NodeSet) 
     put_layers_record(out, layers);
     put_sets_record(out, HEAD_BYTES + n, len, sets, nodes);
     Put::Bytes(2 * HEAD_BYTES + n + len)
+}
+
+// A job file: the edges among the nodes, inputs and outputs ascending.
+pub fn write_job(
+    out: &mut [u8],
+    n: u8,
+    mode: u8,
+    graph: &[u64],
+    nodes: NodeSet,
+    inputs: NodeSet,
+    outputs: NodeSet,
+    measurements: &[u8],
+) -> Put
+    ensures { λ r. ⌜ putOf r ≡ putAnswer (jobBytes (jobWith n mode (pairsAmong (setAt (now (graph .entry))) (members capacity (member nodes))) (members capacity (member inputs)) (members capacity (member outputs)) (now (measurements .entry)))) (now (out .entry)) ⌝ }
+    ensures { λ _. ⌜ now (out .exit) ≡ putFront (jobBytes (jobWith n mode (pairsAmong (setAt (now (graph .entry))) (members capacity (member nodes))) (members capacity (member inputs)) (members capacity (member outputs)) (now (measurements .entry)))) (now (out .entry)) ⌝ }
+{
+    let edges = edges_len(graph, nodes);
+    let others = 5 * HEAD_BYTES + OPENING_BYTES + inputs.count() + outputs.count();
+    if !room_for(out.len(), others, edges, measurements.len()) {
+        return Put::TooLong;
+    }
+    let opening = [n, mode];
+    let second = HEAD_BYTES + OPENING_BYTES;
+    put_record(out, 0, KIND_OPENING, &opening);
+    put_edges_record(out, second, edges, graph, nodes);
+    put_last_records(
+        out,
+        second + HEAD_BYTES + edges,
+        inputs,
+        outputs,
+        measurements,
+    );
+    Put::Bytes(others + edges + measurements.len())
 }
 
 // New bytes between two parts of a file that are kept byte for byte.

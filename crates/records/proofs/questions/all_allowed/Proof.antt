@@ -7,20 +7,18 @@ use lib.ListN.{length}
 use Rattle.nodes.specs.Row.{count}
 use Rattle.nodes.specs.Lists.{has, all}
 use Rattle.records.specs.JobFile.{highestOf, allAllowed}
-use Rattle.records.proofs.JobFile.{nodes-out}
 use Rattle.records.proofs.ReadingMeasurements.{zeroAt, allowed-tests}
 use borrow.Author.Needs.{needs}
 use Rattle.records.proofs.questions.all_allowed.Statement.{statement}
 use Rattle.records.proofs.questions.all_allowed.Tie as tie
 
--- the question by the three tests that the code makes, since the outputs have passed theirs
+-- the question by the three tests that the code makes
 tests : (s : tie.Start) → let l = s .args .measurements .now in let outs = s .args .outputs .now in
-    allAllowed (s .args .mode) (has outs) 0 l ≡ all (λ v. ltb v (highestOf (s .args .mode) + 1)) l && (eqb (count (length l) (zeroAt l)) (length outs) && all (zeroAt l) outs)
+    allAllowed (s .args .mode) (has outs) 0 l ≡ all (λ v. ltb v (highestOf (s .args .mode) + 1)) l && (eqb (count (length l) (zeroAt l)) (s .args .distinct) && all (zeroAt l) outs)
 tests s =
     let l = s .args .measurements .now in
     let outs = s .args .outputs .now in
-    let (a, r) = nodes-out (length l) outs (s .pre .1) in
-    allowed-tests l outs a r (s .args .mode)
+    allowed-tests l outs (s .args .distinct) (s .pre .1 .0) (s .pre .1 .1) (s .args .mode)
 
 returns : tie.Need-returns
 returns c =
@@ -36,10 +34,10 @@ returns-2 c =
     let l = s .args .measurements .now in
     let outs = s .args .outputs .now in
     let low : all (λ v. ltb v (highestOf (s .args .mode) + 1)) l ≡ true = rw (c .before .before .before .before .number .ensures .0, c .before .before .before .before .before .highest-of .ensures) at (sym (c .before .before .before .below .ensures) ∙ not-false _ (c .before .before .if1 .left)) in
-    sym (tests s ∙ rw (low, ne-eqb (count (length l) (zeroAt l)) (length outs) (rw (c .before .zeros .ensures) at (c .if2 .taken))))
+    sym (tests s ∙ rw (low, ne-eqb (count (length l) (zeroAt l)) (s .args .distinct) (rw (c .before .zeros .ensures) at (c .if2 .taken))))
 
 zero-at-requires : tie.Need-zero-at-requires
-zero-at-requires c κs = nodes-out (length (c .before .before .before .before .before .before .before .before .args .measurements .now)) (c .before .before .before .before .before .before .before .before .args .outputs .now) (c .before .before .before .before .before .before .before .before .pre .1) .0
+zero-at-requires c κs = c .before .before .before .before .before .before .before .before .pre .1 .0
 
 returns-3 : tie.Need-returns-3
 returns-3 c =
@@ -47,7 +45,7 @@ returns-3 c =
     let l = s .args .measurements .now in
     let outs = s .args .outputs .now in
     let low : all (λ v. ltb v (highestOf (s .args .mode) + 1)) l ≡ true = rw (c .before .before .before .before .before .number .ensures .0, c .before .before .before .before .before .before .highest-of .ensures) at (sym (c .before .before .before .before .below .ensures) ∙ not-false _ (c .before .before .before .if1 .left)) in
-    c .zero-at .ensures ∙ sym (tests s ∙ rw (low, eq-eqb (count (length l) (zeroAt l)) (length outs) (rw (c .before .before .zeros .ensures) at (c .before .if2 .left))))
+    c .zero-at .ensures ∙ sym (tests s ∙ rw (low, eq-eqb (count (length l) (zeroAt l)) (s .args .distinct) (rw (c .before .before .zeros .ensures) at (c .before .if2 .left))))
 
 pub all-allowed-spec : {M : Type 1} → statement M
 all-allowed-spec =

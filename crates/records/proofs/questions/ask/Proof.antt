@@ -1,9 +1,14 @@
 use borrow.Author.Needs.{needs}
+use Rattle.records.proofs.JobFile.{nodes-out}
+use Rattle.records.proofs.NodeLists.{has-count}
 use Rattle.records.proofs.questions.ask.Statement.{statement}
 use Rattle.records.proofs.questions.ask.Tie as tie
 
 ask-measurements-requires : tie.Need-ask-measurements-requires
-ask-measurements-requires c κs = let h = rw (c .before .before .questions3 .given .1) at (c .before .before .before .before .before .before .pre) in rw (c .payload .ensures) h
+ask-measurements-requires c κs =
+    let (few, asked) = rw (c .before .before .questions3 .given .1, ← c .payload .ensures) at (c .before .before .before .before .before .before .pre) in
+    let (a, r) = nodes-out _ _ asked in
+    (few, (a, has-count _ 0 _ a r))
 
 returns : tie.Need-returns
 returns c = rw (c .before .enum-told .given .1) (c .ask-opening .ensures)

@@ -1,5 +1,5 @@
 use Prim.Native.Nat.{ℕ, _+_, _≤_}
-use mathlib.Core.Path.{sym, ap, _∙_}
+use mathlib.Core.Path.{refl, sym, ap, _∙_}
 use native.Mathlib.Omega.{arith}
 use borrow.Author.Tests.{leb-true, leb-false, not-true, not-false}
 use lib.ListN.{length}
@@ -50,7 +50,7 @@ returns-2 c =
     let y = bytesAt (a .last) (a .file .now) in
     let room = roomy (c .before .before .before .before .before .before .before .before .before .before .before .before) in
     put-fits (keptAround (a .file .now) (a .first) (a .bytes .now) (a .last)) (a .out .now) (o .last .0) (length (f .result .now) + length (a .bytes .now) + length (g .result .now)) (omega (arith, three-length x (a .bytes .now) y, ap length (f .ensures), ap length (g .ensures))) (omega (arith, room))
-    (three-put x (a .bytes .now) y (a .out .now) (m .last .0) (n .last .0) (o .last .0) (omega (arith, room, ap length (f .ensures), ap length (g .ensures))) (rw (← f .ensures) (m .ensures)) (rw (← f .ensures) (n .ensures)) (rw (← f .ensures, ← g .ensures) (o .ensures)))
+    (three-put 0 (length x) (length x + length (a .bytes .now)) x (a .bytes .now) y (a .out .now) (m .last .0) (n .last .0) (o .last .0) (omega arith) refl (omega (arith, room, ap length (f .ensures), ap length (g .ensures))) (rw (← f .ensures) (m .ensures)) (rw (← f .ensures) (n .ensures)) (rw (← f .ensures, ← g .ensures) (o .ensures)))
 
 pub write-between-spec : {M : Type 1} → statement M
 write-between-spec =

@@ -1,0 +1,76 @@
+// The job writer: an editor's lists, in any order, become the one file of the job that they mean.
+ghost use mathlib.Core.Path.{_≡_};
+ghost use mathlib.Core.Bool.{true};
+ghost use mathlib.Core.List.{[]};
+ghost use Rattle.answers.specs.Answer.{gives};
+ghost use Rattle.records.specs.JobLists.{given, listsAsk};
+ghost use Rattle.demands.specs.Calls.{writeJobCall};
+ghost use Rattle.calls.specs.Replies.{replyOf};
+use crate::Reply;
+use crate::answered;
+use crate::load::load_graph;
+use answers::Refusal;
+use nodes::utils::NodeSet;
+use nodes::utils::TABLE_WORDS;
+use records::lists::ask_lists;
+use records::questions::Checked;
+use records::reader::set_of;
+use records::writer;
+use records::writer::edges_len;
+
+// After the questions of each list: a loop or an edge twice leaves fewer edges in the graph than the list has, a node twice fewer
+// nodes in its set (21).
+fn write_asked(
+    n: usize,
+    mode: usize,
+    edges: &[u8],
+    inputs: &[u8],
+    outputs: &[u8],
+    measurements: &[u8],
+    out: &mut [u8],
+) -> Reply
+    requires { ⌜ listsAsk (given n mode (now edges) (now inputs) (now outputs) (now measurements)) ≡ gives true ⌝ }
+    ensures { λ r. ⌜ record { answer = replyOf r; work = []; out = now (out .exit) } ≡ writeJobCall (given n mode (now (edges .entry)) (now (inputs .entry)) (now (outputs .entry)) (now (measurements .entry))) (now (out .entry)) ⌝ }
+{
+    let nodes = NodeSet::below(n);
+    let mut graph = [0u64; TABLE_WORDS];
+    load_graph(edges, &mut graph);
+    if edges_len(&graph, nodes) != edges.len() {
+        return Reply::Refused(Refusal::GIVEN_TWICE);
+    }
+    let ins = set_of(inputs);
+    if ins.count() != inputs.len() {
+        return Reply::Refused(Refusal::GIVEN_TWICE);
+    }
+    let outs = set_of(outputs);
+    if outs.count() != outputs.len() {
+        return Reply::Refused(Refusal::GIVEN_TWICE);
+    }
+    answered(writer::write_job(
+        out,
+        n as u8,
+        mode as u8,
+        &graph,
+        nodes,
+        ins,
+        outs,
+        measurements,
+    ))
+}
+
+pub fn write_job(
+    n: usize,
+    mode: usize,
+    edges: &[u8],
+    inputs: &[u8],
+    outputs: &[u8],
+    measurements: &[u8],
+    out: &mut [u8],
+) -> Reply
+    ensures { λ r. ⌜ record { answer = replyOf r; work = []; out = now (out .exit) } ≡ writeJobCall (given n mode (now (edges .entry)) (now (inputs .entry)) (now (outputs .entry)) (now (measurements .entry))) (now (out .entry)) ⌝ }
+{
+    match ask_lists(n, mode, edges, inputs, outputs, measurements) {
+        Checked::Passed => write_asked(n, mode, edges, inputs, outputs, measurements, out),
+        Checked::Refused(q) => Reply::Refused(q),
+    }
+}

@@ -1,0 +1,102 @@
+-- Request 2026-01 proved: what the job writer writes reads back as the job that its lists mean, one job has one file, and its refusals.
+use Prim.Native.Nat.{ℕ}
+use mathlib.Core.Path.{_≡_, refl, sym, ap, _∙_, subst}
+use mathlib.Core.Bool.{Bool, true, false}
+use mathlib.Core.List.{List, [], _∷_, _++_, append-nil}
+use lib.ListN.{length, take}
+use lib.Dec.{eqb}
+use Rattle.nodes.specs.Lists.{has}
+use Rattle.answers.specs.Answer.{Refusal, Answer, gives, refuses, refusal, asks, _>>_}
+use Rattle.answers.proofs.Answer.{give-inj, never, asks-yes}
+use Rattle.records.specs.JobFile.{JobFile, openingAllowed, wholePairs, nodesBelow, allAllowed, measurementsAsks, readJob}
+use Rattle.records.specs.JobLists.{JobLists, Meaning, listsOf, listsAsk, givenOnce, meaning, ascending, writtenJob}
+use Rattle.records.specs.Encoding.{Bytes, jobBytes}
+use Rattle.records.proofs.Encoding.{job-exact, job-decodes, job-asked}
+use Rattle.records.proofs.JobLists.{lists-yes, ascending-valid, ascending-means, file-ascending, valid-asks, valid-once}
+use Rattle.demands.specs.Calls.{outcome, writeJobAsks, writeJobCall}
+use Rattle.demands.specs.JobWriter.{JobBytes, Wrote, GivesBack, OneFile, SameBytes, WritesAgain}
+use Rattle.demands.proofs.Demand.{put-fits}
+
+-- ---- what a file holds and what the writer writes
+-- bytes are one job file at most
+same-file : (s t : List ℕ) (f g : JobFile) → JobBytes s f → JobBytes t g → s ≡ t → f ≡ g
+same-file s t f g p q e = give-inj (sym (p .0) ∙ ap readJob e ∙ q .0)
+
+-- a readable file is what is written for its own lists
+own-bytes : (s : List ℕ) (f : JobFile) → Bytes s → JobBytes s f → s ≡ writtenJob (listsOf f)
+own-bytes s f b (reads, ends) =
+    job-exact s f b .0 reads .0 ∙ ap (λ (t : List ℕ). jobBytes f ++ t) ends ∙ append-nil (jobBytes f)
+    ∙ ap jobBytes (sym (file-ascending f (job-asked s f reads) ends))
+
+-- what the writer has asked
+pub write-job-asked : (l : JobLists) (b : Bool) → writeJobAsks l ≡ gives b → (listsAsk l ≡ gives true) × (givenOnce l ≡ true)
+unfolding writeJobAsks
+write-job-asked l b e = by (listsAsk l) refl e
+  where
+    by : (m : Answer Bool) → listsAsk l ≡ m → (m >> asks 21 (givenOnce l)) ≡ gives b → (listsAsk l ≡ gives true) × (givenOnce l ≡ true)
+    by (gives c) p q = (lists-yes l c p, asks-yes 21 (givenOnce l) b q)
+    by (refuses r) p q = absurd (never q)
+
+wrote-out : (l : JobLists) (out : List ℕ) (k : ℕ) (s : List ℕ) → Wrote l out k s → (listsAsk l ≡ gives true) × (givenOnce l ≡ true) × (writtenJob l ≡ s)
+unfolding writeJobCall
+wrote-out l out k s (e, q) = by (writeJobAsks l) refl e q
+  where
+    by : (m : Answer Bool) → writeJobAsks l ≡ m → outcome m (writtenJob l) out .answer ≡ gives k → take k (outcome m (writtenJob l) out .out) ≡ s → (listsAsk l ≡ gives true) × (givenOnce l ≡ true) × (writtenJob l ≡ s)
+    by (refuses r) p e q = absurd (never e)
+    by (gives b) p e q = let (asked, once) = write-job-asked l b p in (asked, once, sym (put-fits [] (writtenJob l) out k e) ∙ q)
+
+-- ---- the request
+pub gives-back : GivesBack
+gives-back l out k s w =
+    let (asked, once, same) = wrote-out l out k s w in
+    let f = ascending (meaning l) in
+    (f, (ap readJob (sym same ∙ sym (append-nil (jobBytes f))) ∙ job-decodes f (ascending-valid l asked), refl), ascending-means l asked once)
+
+pub one-file : OneFile
+one-file s t f g b c p q = (
+  λ e. ap (λ (f : JobFile). meaning (listsOf f)) (same-file s t f g p q e),
+  λ e. own-bytes s f b p ∙ ap (λ (m : Meaning). jobBytes (ascending m)) e ∙ sym (own-bytes t g c q),
+)
+
+pub same-bytes : SameBytes
+same-bytes l m out other j k s t w x =
+    let (f, p, d) = gives-back l out j s w in
+    let (g, q, e) = gives-back m other k t x in (
+      λ h. sym d ∙ ap (λ (f : JobFile). meaning (listsOf f)) (same-file s t f g p q h) ∙ e,
+      λ h. sym (wrote-out l out j s w .2) ∙ ap (λ (m : Meaning). jobBytes (ascending m)) h ∙ wrote-out m other k t x .2,
+    )
+
+pub writes-again : WritesAgain
+unfolding writeJobAsks writeJobCall
+writes-again s f b (reads, ends) out =
+    let v = job-asked s f reads in
+    rw (valid-asks f v, valid-once f v, ← own-bytes s f b (reads, ends))
+
+-- ---- the refusals
+-- with one of these numbers, and no a and b
+abbrev Refused : Refusal → Type 0
+Refused r = (r ≡ refusal (r .number)) × (has (3 ∷ 4 ∷ 5 ∷ 7 ∷ 21 ∷ []) (r .number) ≡ true)
+
+abbrev AllRefused : Answer Bool → Type 0
+AllRefused m = (r : Refusal) → m ≡ refuses r → Refused r
+
+asked : (q : ℕ) (c : Bool) → Refused (refusal q) → AllRefused (asks q c)
+asked q true h r e = absurd (never (sym e))
+asked q false h r e = let same : refusal q ≡ r = cc in subst Refused same h
+
+both-asked : (m k : Answer Bool) → AllRefused m → AllRefused k → AllRefused (m >> k)
+both-asked (gives b) k h g r e = g r e
+both-asked (refuses q) k h g r e = h r e
+
+pub write-job-refuses : (l : JobLists) (r : Refusal) → writeJobAsks l ≡ refuses r → (r ≡ refusal (r .number)) × (has (3 ∷ 4 ∷ 5 ∷ 7 ∷ 21 ∷ []) (r .number) ≡ true)
+unfolding has listsAsk measurementsAsks writeJobAsks
+write-job-refuses l r e =
+    both-asked (listsAsk l) _
+    (both-asked _ _ (asked 4 (openingAllowed (l .n) (l .mode)) (refl, refl))
+    (both-asked _ _ (asked 3 (wholePairs (l .edges)) (refl, refl))
+    (both-asked _ _ (asked 5 (nodesBelow (l .n) (l .edges)) (refl, refl))
+    (both-asked _ _ (asked 5 (nodesBelow (l .n) (l .inputs)) (refl, refl))
+    (both-asked _ _ (asked 5 (nodesBelow (l .n) (l .outputs)) (refl, refl))
+    (both-asked _ _ (asked 3 (eqb (length (l .measurements)) (l .n)) (refl, refl))
+    (asked 7 (allAllowed (l .mode) (has (l .outputs)) 0 (l .measurements)) (refl, refl))))))))
+    (asked 21 (givenOnce l) (refl, refl)) r e

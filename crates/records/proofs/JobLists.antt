@@ -1,0 +1,194 @@
+-- A job from lists in any order: what was asked, and the file that is written for it. It is valid, it means the job of the lists, and a file
+-- is the one that is written for its own lists.
+use Prim.Native.Nat.{ℕ, zero, suc, _+_, _*_, _%_, _≤_}
+use mathlib.Core.Path.{_≡_, refl, sym, ap, _∙_, fun-ext}
+use mathlib.Core.Bool.{Bool, true, _&&_}
+use mathlib.Core.List.{List, [], _++_}
+use native.Mathlib.Omega.{arith}
+use native.Mathlib.Nat.{mul-le-mul}
+use borrow.Author.Tests.{eq-eqb}
+use lib.ListN.{length, length-append}
+use Rattle.nodes.specs.Row.{count, members}
+use Rattle.nodes.specs.Lists.{has}
+use Rattle.nodes.proofs.Logic.{and-out}
+use Rattle.nodes.proofs.Count.{count-le}
+use Rattle.nodes.proofs.Members.{members-length}
+use Rattle.answers.specs.Answer.{gives}
+use Rattle.answers.proofs.Answer.{asks-out}
+use Rattle.records.specs.Records.{headBytes, allYes, written}
+use Rattle.records.specs.JobFile.{JobFile, mostNodes, modeCausal, modePauli, openingAllowed, wholePairs, nodesBelow, rises, allAllowed, measurementsAsks, hasEdge}
+use Rattle.records.specs.JobLists.{JobLists, listsOf, once, edgesOnce, listsAsk, givenOnce, meaning, pairsAmong, ascending, writtenJob}
+use Rattle.records.specs.Encoding.{jobBytes, ValidJob}
+use Rattle.records.specs.Writing.{mostOutput}
+use Rattle.records.proofs.Records.{written-length}
+use Rattle.records.proofs.JobFile.{allowed-out, allowed-in, measurements-out}
+use Rattle.records.proofs.Writing.{members-under, members-rise}
+use Rattle.records.proofs.NodeLists.{members-same, rising-members, has-count, once-count}
+use Rattle.records.proofs.PairKeys.{RisingPairs}
+use Rattle.records.proofs.PairLists.{among-length, graph-rises, graph-same, graph-list, once-loop, edges-count}
+
+-- ---- what is asked of the lists, as facts
+pub record Asked (l : JobLists) : Type 0 where
+  pub few : l .n ≤ mostNodes
+  pub modeFrom : modeCausal ≤ l .mode
+  pub modeTo : l .mode ≤ modePauli
+  pub pairs : wholePairs (l .edges) ≡ true
+  pub edgesBelow : nodesBelow (l .n) (l .edges) ≡ true
+  pub inputsBelow : nodesBelow (l .n) (l .inputs) ≡ true
+  pub outputsBelow : nodesBelow (l .n) (l .outputs) ≡ true
+  pub count : length (l .measurements) ≡ l .n
+  pub allowed : allAllowed (l .mode) (has (l .outputs)) 0 (l .measurements) ≡ true
+
+asked-out : (l : JobLists) (b : Bool) → listsAsk l ≡ gives b → Asked l
+unfolding listsAsk
+asked-out l b e =
+    let (o, e1) = asks-out 4 (openingAllowed (l .n) (l .mode)) _ b e in
+    let (w, e2) = asks-out 3 (wholePairs (l .edges)) _ b e1 in
+    let (g, e3) = asks-out 5 (nodesBelow (l .n) (l .edges)) _ b e2 in
+    let (i, e4) = asks-out 5 (nodesBelow (l .n) (l .inputs)) _ b e3 in
+    let (u, e5) = asks-out 5 (nodesBelow (l .n) (l .outputs)) _ b e4 in
+    let (o1, o2, o3) = allowed-out (l .n) (l .mode) o in
+    let (m1, m2) = measurements-out (l .n) (l .mode) (has (l .outputs)) (l .measurements) (ap allYes e5) in
+    record { few = o1; modeFrom = o2; modeTo = o3; pairs = w; edgesBelow = g; inputsBelow = i; outputsBelow = u; count = m1; allowed = m2 }
+
+asked-in : (l : JobLists) → Asked l → listsAsk l ≡ gives true
+unfolding listsAsk measurementsAsks
+asked-in l a =
+    rw (
+      allowed-in (l .n) (l .mode) (a .few) (a .modeFrom) (a .modeTo),
+      a .pairs,
+      a .edgesBelow,
+      a .inputsBelow,
+      a .outputsBelow,
+      eq-eqb (length (l .measurements)) (l .n) (a .count),
+      a .allowed,
+    )
+
+pub lists-asked : (l : JobLists) → listsAsk l ≡ gives true → Asked l
+lists-asked l e = asked-out l true e
+
+-- what the questions give is always yes
+pub lists-yes : (l : JobLists) (b : Bool) → listsAsk l ≡ gives b → listsAsk l ≡ gives true
+lists-yes l b e = asked-in l (asked-out l b e)
+
+-- ---- how long the written file is
+record-length : (kind : ℕ) (p rest : List ℕ) → length (written kind p ++ rest) ≡ headBytes + length p + length rest
+record-length kind p rest = omega (arith, length-append (written kind p) rest, written-length kind p)
+
+pub job-length : (f : JobFile) → length (jobBytes f) ≡ 5 * headBytes + 2 + length (f .edges) + length (f .inputs) + length (f .outputs) + length (f .measurements)
+job-length f = rw (record-length, record-length, record-length, record-length, written-length) (omega arith)
+
+-- there are n nodes below n, and so many pairs among them at most
+nodes-length : (n : ℕ) → length (members n (λ u. true)) ≡ n
+unfolding count
+nodes-length n = members-length n (λ u. true) ∙ counted n
+  where
+    counted : (n : ℕ) → count n (λ u. true) ≡ n
+    counted zero = refl
+    counted (suc n) = ap suc (counted n)
+
+nodes-pairs : (n : ℕ) (e : ℕ → ℕ → Bool) → length (pairsAmong e (members n (λ u. true))) + n ≤ n * n
+nodes-pairs n e = rw (nodes-length n) at (among-length e (members n (λ u. true)))
+
+members-few : (n : ℕ) (s : ℕ → Bool) → length (members n s) ≤ n
+members-few n s = rw (members-length n s) (count-le n s)
+
+pub written-job-length : (l : JobLists) → listsAsk l ≡ gives true → length (writtenJob l) ≤ mostOutput
+written-job-length l e =
+    let a = lists-asked l e in
+    let square : l .n * l .n ≤ mostNodes * mostNodes = mul-le-mul {n₁ = l .n} {m₁ = l .n} {n₂ = mostNodes} {m₂ = mostNodes} (a .few) (a .few) in
+    omega (
+      arith,
+      job-length (ascending (meaning l)),
+      a .few,
+      a .count,
+      square,
+      nodes-pairs (l .n) (hasEdge (l .edges)),
+      members-few (l .n) (has (l .inputs)),
+      members-few (l .n) (has (l .outputs)),
+    )
+
+-- ---- the written file
+module _ (l : JobLists) (e : listsAsk l ≡ gives true) where
+  asked : Asked l
+  asked = lists-asked l e
+
+  small : l .n ≤ 256
+  small = omega (arith, asked .few)
+
+  same-nodes : (k : List ℕ) → nodesBelow (l .n) k ≡ true → has (members (l .n) (has k)) ≡ has k
+  same-nodes k b = fun-ext (members-same (l .n) k b)
+
+  pub ascending-valid : ValidJob (ascending (meaning l))
+  ascending-valid =
+      let p = graph-rises (l .n) small (hasEdge (l .edges)) in
+      record {
+        few = asked .few;
+        modeFrom = asked .modeFrom;
+        modeTo = asked .modeTo;
+        pairs = p .whole;
+        edgesBelow = p .below;
+        edgesRise = p .rise;
+        inputsBelow = members-under (l .n) (has (l .inputs));
+        inputsRise = members-rise (l .n) (has (l .inputs));
+        outputsBelow = members-under (l .n) (has (l .outputs));
+        outputsRise = members-rise (l .n) (has (l .outputs));
+        count = asked .count;
+        allowed = rw (same-nodes (l .outputs) (asked .outputsBelow)) (asked .allowed);
+      }
+
+  same-edges : edgesOnce (l .edges) ≡ true → hasEdge (pairsAmong (hasEdge (l .edges)) (members (l .n) (λ u. true))) ≡ hasEdge (l .edges)
+  same-edges o = fun-ext (λ u. fun-ext (graph-same (l .n) small (l .edges) (asked .edgesBelow) (once-loop (l .edges) o) u))
+
+  pub ascending-means : givenOnce l ≡ true → meaning (listsOf (ascending (meaning l))) ≡ meaning l
+  ascending-means o =
+      let (p, q) = and-out (edgesOnce (l .edges) && once (l .inputs)) (once (l .outputs)) o in
+      let (r, t) = and-out (edgesOnce (l .edges)) (once (l .inputs)) p in
+      rw (same-edges r, same-nodes (l .inputs) (asked .inputsBelow), same-nodes (l .outputs) (asked .outputsBelow))
+
+-- ---- a valid file
+module _ (f : JobFile) (v : ValidJob f) where
+  edges-rise : RisingPairs (f .n) (f .edges)
+  edges-rise = record { whole = v .pairs; below = v .edgesBelow; rise = v .edgesRise }
+
+  one-byte : f .n ≤ 256
+  one-byte = omega (arith, v .few)
+
+  -- it is the one that is written for its own lists
+  pub file-ascending : f .after ≡ [] → ascending (meaning (listsOf f)) ≡ f
+  file-ascending e =
+      rw (
+        graph-list (f .n) one-byte (f .edges) edges-rise,
+        rising-members (f .n) (f .inputs) (v .inputsBelow) (v .inputsRise),
+        rising-members (f .n) (f .outputs) (v .outputsBelow) (v .outputsRise),
+        ← e,
+      )
+
+  whole : wholePairs (f .edges) ≡ true
+  whole = eq-eqb (length (f .edges) % 2) 0 (v .pairs)
+
+  -- its lists pass the questions, and give nothing twice
+  pub valid-asks : listsAsk (listsOf f) ≡ gives true
+  valid-asks =
+      asked-in (listsOf f) (record {
+        few = v .few;
+        modeFrom = v .modeFrom;
+        modeTo = v .modeTo;
+        pairs = whole;
+        edgesBelow = v .edgesBelow;
+        inputsBelow = v .inputsBelow;
+        outputsBelow = v .outputsBelow;
+        count = v .count;
+        allowed = v .allowed;
+      })
+
+  once-nodes : (k : List ℕ) → nodesBelow (f .n) k ≡ true → rises 0 k ≡ true → once k ≡ true
+  once-nodes k b r = sym (once-count (f .n) k b) ∙ eq-eqb (count (f .n) (has k)) (length k) (has-count (f .n) 0 k b r)
+
+  pub valid-once : givenOnce (listsOf f) ≡ true
+  valid-once = rw (edges, once-nodes (f .inputs) (v .inputsBelow) (v .inputsRise), once-nodes (f .outputs) (v .outputsBelow) (v .outputsRise))
+    where
+      edges : edgesOnce (f .edges) ≡ true
+      edges =
+          sym (edges-count (f .n) (f .edges) one-byte whole (v .edgesBelow))
+          ∙ eq-eqb _ _ (ap length (graph-list (f .n) one-byte (f .edges) edges-rise))
