@@ -14,7 +14,7 @@ abbrev pub questions : List (ℕ × String)
 questions =
     (1, "the next record is missing or of another kind")
     ∷ (2, "the payload of a record is cut off")
-    ∷ (3, "a record's length does not suit its kind")
+    ∷ (3, "the length of a record or list does not suit its kind")
     ∷ (4, "the number of nodes or the mode is not allowed")
     ∷ (5, "a node is not below the number of nodes")
     ∷ (6, "nodes or edges are not strictly ascending")
@@ -32,6 +32,7 @@ questions =
     ∷ (18, "node B is not later than node A, or in mode 1 not its neighbour")
     ∷ (19, "node A's set does not suit its or a Y measurement")
     ∷ (20, "the result does not fit the lent buffer")
+    ∷ (21, "a loop, or an edge or node given twice")
     ∷ []
 
 abbrev pub unknown : String
