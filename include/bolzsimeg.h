@@ -4,8 +4,8 @@
    - A pointer and its length name that many bytes that may be read, or for a buffer that is not const, read and written. With length 0 the
      pointer may be null.
    - The buffers of one call do not overlap.
-   - A call needs stack: about 16 kB for bolz_find, 5 kB for bolz_verify, less than 1 kB for bolz_solve (measured; `bash examples/c/run` measures
-     again and compares with the sizes below).
+   - A call needs stack: about 16 kB for bolz_find, 5 kB for bolz_verify, 2 kB for bolz_write_job, less than 1 kB for bolz_solve (measured; `bash
+     examples/c/run` measures again and compares with the sizes below).
 
    What a call leaves. A refusal leaves every buffer as it was, but RESULT_TOO_LONG (20) leaves the finder's work buffer all zero. An answer leaves
    the result at the front of the result buffer, the bytes behind it as they were, and the finder's work buffer all zero. No call allocates, and
@@ -24,7 +24,7 @@ extern "C" {
 typedef char bolz_size_t_has_64_bits[sizeof(size_t) == 8 ? 1 : -1];
 
 /* Grows with each change of a file's format, of a size or of a refusal. */
-#define BOLZ_VERSION 1
+#define BOLZ_VERSION 2
 
 #define BOLZ_MOST_NODES 128
 #define BOLZ_ROW_BYTES 16      /* a row of the work matrix, and the solver's out bits, lowest bit first */
@@ -34,6 +34,7 @@ typedef char bolz_size_t_has_64_bits[sizeof(size_t) == 8 ? 1 : -1];
 /* The stack that a call needs, in bytes, measured with some room. */
 #define BOLZ_FIND_STACK 20480
 #define BOLZ_VERIFY_STACK 8192
+#define BOLZ_WRITE_JOB_STACK 4096
 #define BOLZ_SOLVE_STACK 1024
 
 /* Refusals, numbered as the questions that they answer with 'no'. */
@@ -57,7 +58,8 @@ enum bolz_refusal {
     BOLZ_INVALID_MEASUREMENT_SPEC = 17,
     BOLZ_INCONSISTENT_FLOW_ORDER = 18,
     BOLZ_INCONSISTENT_FLOW_PLANE = 19,
-    BOLZ_RESULT_TOO_LONG = 20
+    BOLZ_RESULT_TOO_LONG = 20,
+    BOLZ_GIVEN_TWICE = 21
 };
 
 /* A result is a refusal if its number is not 0: number * 2^32 + a * 2^16 + b. */
@@ -71,7 +73,7 @@ static inline const char *bolz_words(unsigned number)
     switch (number) {
     case BOLZ_NO_RECORD: return "the next record is missing or of another kind";
     case BOLZ_CUT_PAYLOAD: return "the payload of a record is cut off";
-    case BOLZ_WRONG_LENGTH: return "a record's length does not suit its kind";
+    case BOLZ_WRONG_LENGTH: return "the length of a record or list does not suit its kind";
     case BOLZ_WRONG_OPENING: return "the number of nodes or the mode is not allowed";
     case BOLZ_NODE_TOO_LARGE: return "a node is not below the number of nodes";
     case BOLZ_NOT_ASCENDING: return "nodes or edges are not strictly ascending";
@@ -89,6 +91,7 @@ static inline const char *bolz_words(unsigned number)
     case BOLZ_INCONSISTENT_FLOW_ORDER: return "node B is not later than node A, or in mode 1 not its neighbour";
     case BOLZ_INCONSISTENT_FLOW_PLANE: return "node A's set does not suit its or a Y measurement";
     case BOLZ_RESULT_TOO_LONG: return "the result does not fit the lent buffer";
+    case BOLZ_GIVEN_TWICE: return "a loop, or an edge or node given twice";
     default: return "unknown question";
     }
 }
@@ -98,6 +101,13 @@ uint64_t bolz_find(const uint8_t *file, size_t file_len, uint8_t *work, size_t w
 
 /* The verifier: a job file followed by a flow file in, 0014 ('accepted') out. The count of bytes written, or a refusal. */
 uint64_t bolz_verify(const uint8_t *file, size_t file_len, uint8_t *out, size_t out_len);
+
+/* The job writer: the lists of an editor in, the job file out, each list in it ascending; the same job in another order gives the same bytes.
+   n is the number of nodes. Edges are pairs of nodes, either end first, in any order; inputs and outputs are nodes in any order; measurements are a byte for
+   each node, 0 at outputs, as in the file. The count of bytes written, or a refusal. */
+uint64_t bolz_write_job(size_t n, size_t mode, const uint8_t *edges, size_t edges_len, const uint8_t *inputs, size_t inputs_len,
+                        const uint8_t *outputs, size_t outputs_len, const uint8_t *measurements, size_t measurements_len,
+                        uint8_t *out, size_t out_len);
 
 /* The solver: matrix of rows times 16 bytes, cols coefficients and then `sides` right sides in each row; it is eliminated in place.
    1: right side `side` has a solution, which is in `bits`; 0: it has none, and `bits` are as they were; or a refusal. */

@@ -55,6 +55,13 @@ static uint64_t solve(size_t matrix_len, size_t bits_len, size_t cols, size_t si
     return bolz_solve(matrix, matrix_len, bits, bits_len, 1, cols, 1, side);
 }
 
+/* The lists of an editor, as hexadecimal digits. */
+static uint64_t written(size_t n, size_t mode, const char *edges, const char *inputs, const char *outputs, const char *measured, size_t out_len)
+{
+    static uint8_t e[8], i[8], o[8], m[8];
+    return bolz_write_job(n, mode, e, bytes_of(edges, e), i, bytes_of(inputs, i), o, bytes_of(outputs, o), m, bytes_of(measured, m), out, out_len);
+}
+
 static void want(const char *what, uint64_t result, unsigned number)
 {
     if (BOLZ_NUMBER(result) == number)
@@ -88,6 +95,24 @@ static void refusals(void)
     want("16 bytes", find(JOB, w, 16), BOLZ_RESULT_TOO_LONG);
 }
 
+static void refused_lists(void)
+{
+    size_t o = BOLZ_MOST_OUTPUT;
+    want("mode 258", written(2, 258, "0100", "00", "01", "0100", o), BOLZ_WRONG_OPENING);
+    want("half an edge", written(2, 2, "010001", "00", "01", "0100", o), BOLZ_WRONG_LENGTH);
+    want("a measurement too few", written(2, 2, "0100", "00", "01", "01", o), BOLZ_WRONG_LENGTH);
+    want("edge to node 2 of 2", written(2, 2, "0200", "00", "01", "0100", o), BOLZ_NODE_TOO_LARGE);
+    want("input 2 of 2", written(2, 2, "0100", "02", "01", "0100", o), BOLZ_NODE_TOO_LARGE);
+    want("output 2 of 2", written(2, 2, "0100", "00", "02", "0100", o), BOLZ_NODE_TOO_LARGE);
+    want("a listed output in XY", written(2, 2, "0100", "00", "01", "0101", o), BOLZ_WRONG_MEASUREMENT);
+    want("a loop", written(2, 2, "0101", "00", "01", "0100", o), BOLZ_GIVEN_TWICE);
+    want("an edge twice", written(2, 2, "01000001", "00", "01", "0100", o), BOLZ_GIVEN_TWICE);
+    want("an input twice", written(2, 2, "0100", "0000", "01", "0100", o), BOLZ_GIVEN_TWICE);
+    want("an output twice", written(2, 2, "0100", "00", "0101", "0100", o), BOLZ_GIVEN_TWICE);
+    want("38 bytes", written(2, 2, "0100", "00", "01", "0100", 38), 0);
+    want("37 bytes", written(2, 2, "0100", "00", "01", "0100", 37), BOLZ_RESULT_TOO_LONG);
+}
+
 /* n nodes, all of them outputs, and no edge. */
 static uint64_t find_nodes(unsigned n)
 {
@@ -105,11 +130,28 @@ static uint64_t find_nodes(unsigned n)
     return bolz_find(file, at + 6 + n, work, BOLZ_WORK_BYTES, out, sizeof out);
 }
 
+/* n nodes, all of them inputs and outputs, each joined to each, the last ones first: the longest job file of n nodes. */
+static uint64_t written_nodes(unsigned n)
+{
+    static uint8_t edges[(BOLZ_MOST_NODES + 1) * BOLZ_MOST_NODES], nodes[BOLZ_MOST_NODES + 1], measured[BOLZ_MOST_NODES + 1];
+    size_t at = 0;
+    for (unsigned a = n; a-- > 0;) {
+        nodes[n - 1 - a] = (uint8_t)a;
+        for (unsigned b = a; b-- > 0; at += 2) {
+            edges[at] = (uint8_t)a;
+            edges[at + 1] = (uint8_t)b;
+        }
+    }
+    return bolz_write_job(n, 2, edges, at, nodes, n, nodes, n, measured, n, out, sizeof out);
+}
+
 static void sizes(void)
 {
     size_t o = BOLZ_MOST_OUTPUT, r = BOLZ_ROW_BYTES;
     want("the most nodes", find_nodes(BOLZ_MOST_NODES), 0);
     want("one node more", find_nodes(BOLZ_MOST_NODES + 1), BOLZ_WRONG_OPENING);
+    want("the longest job", written_nodes(BOLZ_MOST_NODES), 0);
+    want("a job of one node more", written_nodes(BOLZ_MOST_NODES + 1), BOLZ_WRONG_OPENING);
     want("the work buffer", find(JOB, BOLZ_WORK_BYTES, o), 0);
     want("a byte less", find(JOB, BOLZ_WORK_BYTES - 1, o), BOLZ_WRONG_SHAPE);
     want("a byte more", find(JOB, BOLZ_WORK_BYTES + 1, o), BOLZ_WRONG_SHAPE);
@@ -124,6 +166,9 @@ static void null_pointers(void)
 {
     want("nothing to find", bolz_find(NULL, 0, NULL, 0, NULL, 0), BOLZ_NO_RECORD);
     want("nothing to verify", bolz_verify(NULL, 0, NULL, 0), BOLZ_NO_RECORD);
+    want("nothing to write", bolz_write_job(0, 0, NULL, 0, NULL, 0, NULL, 0, NULL, 0, NULL, 0), BOLZ_WRONG_OPENING);
+    want("no room", bolz_write_job(0, 1, NULL, 0, NULL, 0, NULL, 0, NULL, 0, NULL, 0), BOLZ_RESULT_TOO_LONG);
+    want("no node", bolz_write_job(0, 1, NULL, 0, NULL, 0, NULL, 0, NULL, 0, out, sizeof out), 0);
     want("nothing to solve", bolz_solve(NULL, 0, NULL, 0, 0, 0, 0, 0), BOLZ_WRONG_SHAPE);
 }
 
@@ -135,6 +180,7 @@ static char *stack;
 static void *idle(void *nothing) { return nothing; }
 static void *in_find(void *file) { find(file, BOLZ_WORK_BYTES, sizeof out); return NULL; }
 static void *in_verify(void *file) { verify(file); return NULL; }
+static void *in_write(void *file) { written_nodes(BOLZ_MOST_NODES); return file; }
 static void *in_solve(void *file) { solve(BOLZ_ROW_BYTES, BOLZ_ROW_BYTES, 1, 0); return file; }
 
 static long used(void *(*call)(void *), void *file)
@@ -186,11 +232,13 @@ int main(int count, char **arguments)
         return 0;
     }
     refusals();
+    refused_lists();
     sizes();
     null_pointers();
     stack = mmap(NULL, STACK, PROT_READ | PROT_WRITE, MAP_PRIVATE | MAP_ANONYMOUS, -1, 0);
     stack_of("bolz_find", in_find, JOB, PAULI REST, NULL, BOLZ_FIND_STACK);
     stack_of("bolz_verify", in_verify, JOB FLOW, PAULI REST FLOW, CAUSAL REST FLOW, BOLZ_VERIFY_STACK);
+    stack_of("bolz_write_job", in_write, NULL, NULL, NULL, BOLZ_WRITE_JOB_STACK);
     stack_of("bolz_solve", in_solve, NULL, NULL, NULL, BOLZ_SOLVE_STACK);
     puts(wrong ? "the header and the library differ" : "the header and the library agree");
     return wrong;

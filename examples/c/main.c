@@ -1,4 +1,4 @@
-/* The three calls from C: a flow for two joined nodes, its verdict, a wrong flow's refusal, and two equations. */
+/* The four calls from C: a flow for two joined nodes, its verdict, a wrong flow's refusal; a job written from lists, and its flow; two equations. */
 #include <stdio.h>
 #include <string.h>
 
@@ -25,14 +25,39 @@ static void tell(const char *call, uint64_t result)
         printf("%s: refused %u (a = %u, b = %u): %s\n", call, number, BOLZ_A(result), BOLZ_B(result), bolz_words(number));
 }
 
+static void print_bytes(const uint8_t *bytes, uint64_t count)
+{
+    for (uint64_t i = 0; i < count; i++)
+        printf("%02x%s", bytes[i], i + 1 == count ? "\n" : " ");
+}
+
+/* The path 0-1-2 with input 0 and output 2, measured in XY, as an editor holds it. */
+static int from_lists(void)
+{
+    static const uint8_t edges[] = {2, 1, 0, 1, 1, 0};
+    static const uint8_t inputs[] = {0}, outputs[] = {2}, measurements[] = {1, 1, 0};
+    uint8_t path[64];
+    tell("write with an edge twice", bolz_write_job(3, 2, edges, 6, inputs, 1, outputs, 1, measurements, 3, path, sizeof path));
+    uint64_t written = bolz_write_job(3, 2, edges, 4, inputs, 1, outputs, 1, measurements, 3, path, sizeof path);
+    tell("write", written);
+    if (BOLZ_NUMBER(written) != 0)
+        return 1;
+    print_bytes(path, written);
+    uint64_t found = bolz_find(path, (size_t)written, work, sizeof work, flow, sizeof flow);
+    tell("find", found);
+    if (BOLZ_NUMBER(found) != 0)
+        return 1;
+    print_bytes(flow, found);
+    return 0;
+}
+
 int main(void)
 {
     uint64_t found = bolz_find(job, sizeof job, work, sizeof work, flow, sizeof flow);
     tell("find", found);
     if (BOLZ_NUMBER(found) != 0)
         return 1; /* refused: nothing was written, and found is no count */
-    for (uint64_t i = 0; i < found; i++)
-        printf("%02x%s", flow[i], i + 1 == found ? "\n" : " ");
+    print_bytes(flow, found);
 
     uint8_t both[sizeof job + sizeof flow];
     memcpy(both, job, sizeof job);
@@ -42,6 +67,9 @@ int main(void)
 
     both[sizeof job + 7] = 1; /* the output's layer */
     tell("verify a wrong flow", bolz_verify(both, sizeof job + found, verdict, sizeof verdict));
+
+    if (from_lists() != 0)
+        return 1;
 
     /* y = 1 and x + y = 0, each row with its right side behind two columns */
     uint8_t matrix[2 * BOLZ_ROW_BYTES] = {0};
