@@ -2,10 +2,12 @@
 """Makes the data of crate replay, stdin and what the program should print: python3 oracle/replay.py SAMPLE crates/replay
 
 First stand cases A to N of document 01 and its edges, each claim by its name. SAMPLE is what oracle/export wrote: jobs and flows with the
-original's answers. Behind them stands a table, made here from document 01 alone as the cases are, that reaches every refusal at each record where it
-can occur, on both sides of its boundary; and one entry that is wrong on purpose.
+original's answers. Behind them stands a table, made here from documents 01 and 02 alone as the cases are, that reaches every refusal at each record or
+list where it can occur, on both sides of its boundary; and one entry that is wrong on purpose.
 An entry: kind, number, a, b, then two bytes each, lowest first: length of work buffer, of result buffer, of name, of query, of result; then
-name, query and result. Number 0 is an answer. Kinds: f finder, v verifier, s solver, r the original's verdict (18 stands for 18 or 19)."""
+name, query and result. Number 0 is an answer. Kinds: f finder, v verifier, s solver, w job writer, r the original's verdict (18 stands for 18 or 19)."""
+import itertools
+import random
 import struct
 import sys
 
@@ -85,6 +87,7 @@ def cases():
     own = flow([1, 0], (0, [0]))
     alone = job(1, PLANES, measured=[YZ])
     yield from found("A", edge, edge_flow)
+    yield entry("w", lists(2, PLANES, [1, 0], [0], [1], [XY, 0]), edge, name="A written")
     yield from found("B", job(0, PLANES), flow([]))
     yield from not_found("C", alone, flow([1], (0, [0])))
     yield from found("D", isolated(PLANES, YZ), own)
@@ -346,12 +349,153 @@ def solver():
     yield solve(1, 1, 1, WRAPS, row(0, 1), 12)
 
 
+# ---- The job writer, request 2026-01 of document 02: 3, 4, 5 and 7 list by list, then 21, then 20.
+
+# The path of three nodes as an editor may hold it.
+EDITED = {"n": 3, "mode": PLANES, "edges": [2, 1, 0, 1], "inputs": [0], "outputs": [2], "measured": [XY, XY, 0]}
+
+
+def lists(n, mode, edges=(), inputs=(), outputs=(), measured=()):
+    """A query: n and mode, eight bytes each, the lengths of the lists, and the lists."""
+    parts = [bytes(part) for part in (edges, inputs, outputs, measured)]
+    return struct.pack("<QQHHHH", n, mode, *map(len, parts)) + b"".join(parts)
+
+
+def ascending(n, mode, edges=(), inputs=(), outputs=(), measured=()):
+    """The one file of the job: each list ascending, the smaller end of an edge first."""
+    pairs = sorted(tuple(sorted(edges[at:at + 2])) for at in range(0, len(edges), 2))
+    return job(n, mode, pairs, sorted(inputs), sorted(outputs), measured)
+
+
+def edited(number, out=OUT, **changes):
+    """The lists of the path, some of them others: refused by this number, or written where it is 0."""
+    given = {**EDITED, **changes}
+    return entry("w", lists(**given), b"" if number else ascending(**given), number, out=out)
+
+
+def complete(n):
+    """Each node joined to each, the last ones first."""
+    return [end for a in reversed(range(n)) for b in reversed(range(a)) for end in (a, b)]
+
+
+def openings():
+    """4, of numbers of any size: none counts by its lowest byte alone."""
+    for n in (129, 130, 255, 256, 256 + 3, 65536 + 3, 2**32 + 3, 2**63 + 3, 2**64 - 1):
+        yield edited(4, n=n)
+    for mode, number in [(0, 4), (CAUSAL, 0), (PLANES, 0), (PAULI, 0), (4, 4), (255, 4)]:
+        yield edited(number, mode=mode)
+    for mode in (256, 256 + 1, 65536 + 2, 2**32 + 2, 2**63 + 3, 2**64 - 1):
+        yield edited(4, mode=mode)
+    nothing = {"edges": [], "inputs": [], "outputs": [], "measured": []}
+    for n, number in [(0, 0), (129, 4), (2**64 - 1, 4)]:
+        yield edited(number, n=n, **nothing)
+    for changes, number in [({"edges": [0, 0]}, 5), ({"inputs": [0]}, 5), ({"outputs": [0]}, 5), ({"measured": [0]}, 3)]:
+        yield edited(number, n=0, **{**nothing, **changes})
+    big = list(reversed(range(128)))
+    yield edited(0, n=128, edges=[127, 0], inputs=big, outputs=big, measured=[0] * 128)
+    yield edited(4, n=129, edges=[127, 0], inputs=big, outputs=[128] + big, measured=[0] * 129)
+
+
+def nodes_of_lists():
+    """3 and 5 of edges, 5 of inputs and of outputs."""
+    for edges, number in [([], 0), ([0], 3), ([2, 1, 0], 3), ([0, 1, 1, 2, 2], 3), ([2, 0], 0), ([3, 0], 5), ([0, 3], 5), ([3, 3], 5),
+                          ([0, 2, 1, 3], 5), ([3, 1, 2, 0], 5), ([255, 0], 5), ([0, 1, 2, 128], 5)]:
+        yield edited(number, edges=edges)
+    for inputs, number in [([], 0), ([2], 0), ([3], 5), ([2, 0, 1], 0), ([0, 1, 3], 5), ([3, 1, 0], 5), ([255], 5), ([128], 5)]:
+        yield edited(number, inputs=inputs)
+    for outputs, number in [([3], 5), ([2, 3], 5), ([3, 2], 5), ([255, 2], 5), ([2, 128], 5)]:
+        yield edited(number, outputs=outputs)
+    yield edited(0, outputs=[], measured=[XY, XY, XY])
+    yield edited(0, inputs=[2, 1, 0], outputs=[2, 1, 0], measured=[0, 0, 0])
+
+
+def measurements():
+    """3 and 7: a byte for each node, 0 exactly at the outputs, and else at most the highest of the mode."""
+    for measured in ([], [XY, XY], [XY, XY, 0, 0], [XY, XY, 0, XY]):
+        yield edited(3, measured=measured)
+    for mode, highest in [(CAUSAL, XY), (PLANES, XZ), (PAULI, Z)]:
+        for byte in range(XY, highest + 1):
+            yield edited(0, mode=mode, measured=[XY, byte, 0])
+        for byte in (highest + 1, 255):
+            yield edited(7, mode=mode, measured=[byte, XY, 0])
+            yield edited(7, mode=mode, measured=[XY, byte, 0])
+    for measured in ([0, XY, 0], [XY, 0, 0], [XY, XY, XY], [XY, 0, XY], [XY, XY, 255], [0, 0, 0]):
+        yield edited(7, measured=measured)
+    for outputs, measured, number in [([2, 0], [0, XY, 0], 0), ([2, 0], [0, 0, XY], 7), ([], [XY, XY, 0], 7), ([0], [XY, XY, 0], 7)]:
+        yield edited(number, outputs=outputs, measured=measured)
+    # the outputs as they are given: one that stands there twice is one output
+    for measured, number in [([XY, XY, 0], 21), ([XY, 0, 0], 7), ([0, XY, 0], 7), ([XY, XY, XY], 7)]:
+        yield edited(number, outputs=[2, 2], measured=measured)
+
+
+def given_twice():
+    """21: a loop, an edge twice in either direction, an input or an output twice, wherever they stand."""
+    for edges in ([1, 1], [0, 0], [2, 2], [0, 1, 1, 1], [2, 2, 0, 1], [0, 1, 0, 1], [0, 1, 1, 0], [1, 0, 0, 1], [1, 0, 1, 0], [0, 1, 2, 1, 0, 2, 1, 0]):
+        yield edited(21, edges=edges)
+    for inputs in ([0, 0], [2, 2], [0, 1, 0], [2, 1, 0, 2], [1, 0, 0], [0] * 256):
+        yield edited(21, inputs=inputs)
+    for outputs, measured in [([2, 2], [XY, XY, 0]), ([2, 0, 2], [0, XY, 0]), ([0, 1, 2, 0], [0, 0, 0]), ([2] * 256, [XY, XY, 0])]:
+        yield edited(21, outputs=outputs, measured=measured)
+    yield edited(0, edges=[2, 0, 1, 2, 1, 0], inputs=[2, 0], outputs=[2, 0], measured=[0, XY, 0])
+    long = {"n": 16, "inputs": [15, 0], "outputs": [15, 0], "measured": [0] + [XY] * 14 + [0]}
+    edges = complete(16)
+    yield edited(0, edges=edges, **long)
+    for again in ([15, 14], [14, 15], [1, 0], [0, 1], [7, 7]):
+        yield edited(21, edges=edges + again, **long)
+    # the first edge, 15-14, gives its place to another one of the list, or to a loop; or it is turned round
+    for first, number in [([1, 0], 21), ([0, 1], 21), ([7, 7], 21), ([14, 15], 0)]:
+        yield edited(number, edges=first + edges[2:], **long)
+    big = list(reversed(range(128)))
+    for inputs, outputs in [(big + [127], big), (big, [0] + big), (big[1:] + [0], big)]:
+        yield edited(21, n=128, edges=[], inputs=inputs, outputs=outputs, measured=[0] * 128)
+
+
+def room():
+    """20: the result fits exactly, or is a byte too long; the longest file, of 128 nodes each joined to each, has 16,672 bytes."""
+    for out, number in [(42, 0), (41, 0), (40, 20), (6, 20), (0, 20)]:
+        yield edited(number, out=out)
+    for out, number in [(32, 0), (31, 20), (0, 20)]:
+        yield edited(number, out=out, n=0, edges=[], inputs=[], outputs=[], measured=[])
+    big = list(reversed(range(128)))
+    for out, number in [(16672, 0), (16671, 20)]:
+        yield edited(number, out=out, n=128, edges=complete(128), inputs=big, outputs=big, measured=[0] * 128)
+
+
+# Each adds to the path's lists what gets this number, in the order of the questions.
+FAULTS = [(4, "mode", 2), (3, "edges", [0]), (5, "edges", [0, 3]), (5, "inputs", [3]), (5, "outputs", [3]), (3, "measured", [0]), (7, "outputs", [1]),
+          (21, "edges", [1, 2]), (21, "inputs", [0]), (21, "outputs", [2]), (20, "out", -1)]
+
+
+def precedence():
+    """Each fault alone, and of two the earlier one is told."""
+    for faults in [*itertools.combinations(FAULTS, 1), *itertools.combinations(FAULTS, 2)]:
+        given = {**EDITED, "out": 41}
+        for _, key, more in faults:
+            given[key] = given[key] + more
+        yield edited(faults[0][0], **given)
+
+
+def random_jobs():
+    """Jobs made with every list ascending, and then given in another order."""
+    draw = random.Random(2026).random
+    for _ in range(30):
+        n, mode = 1 + int(draw() * 20), 1 + int(draw() * 3)
+        share = draw()
+        outputs = [u for u in range(n) if draw() < share]
+        inputs = [u for u in range(n) if draw() < 0.3]
+        edges = [(a, b) for a in range(n) for b in range(a + 1, n) if draw() < share]
+        measured = [0 if u in outputs else 1 + int(draw() * {CAUSAL: XY, PLANES: XZ, PAULI: Z}[mode]) for u in range(n)]
+        mixed = [sorted(part, key=lambda _: draw()) for part in (edges, inputs, outputs)]
+        ends = [end for edge in mixed[0] for end in (edge if draw() < 0.5 else edge[::-1])]
+        yield entry("w", lists(n, mode, ends, mixed[1], mixed[2], measured), job(n, mode, edges, inputs, outputs, measured))
+
+
 def expected(entries, wrong):
     """What the program prints: the entries with a name, the wrong entry, and how many of each number are as stored."""
     names = [e[14:14 + struct.unpack_from("<H", e, 8)[0]].decode() for e in entries]
     lines = [f"{name}: as document 01 says" for name in names if name]
     lines.append(f"entry {wrong}: DIFFERENT")
-    for number in range(21):
+    for number in range(22):
         count = sum(e[1] == number for at, e in enumerate(entries) if at != wrong)
         lines.append(f"number {number}: {count} as stored")
     lines.append(f"entries: {len(entries)}")
@@ -366,7 +510,8 @@ def main():
     # wrong on purpose: case A with its node in layer 2
     wrong = len(entries)
     entries.append(entry("f", job(2, PLANES, [(0, 1)], [0], [1], [XY, 0]), flow([2, 0], (0, [1]))))
-    for part in (heads, payloads, flows, finder, verifier, solver):
+    writer = (openings, nodes_of_lists, measurements, given_twice, room, precedence, random_jobs)
+    for part in (heads, payloads, flows, finder, verifier, solver) + writer:
         entries.extend(part())
     with open(f"{folder}/stdin", "wb") as file:
         file.write(b"".join(entries))

@@ -16,8 +16,8 @@ const STANDARD_OUTPUT: i32 = 1;
 // No file of entries is longer.
 const MOST_DATA: usize = 262144;
 
-// Document 01's numbers, and 0 for an answer.
-const NUMBERS: usize = 21;
+// The numbers of all questions, and 0 for an answer.
+const NUMBERS: usize = 22;
 
 fn print(words: &[u8]) {
     io::write_all(STANDARD_OUTPUT, words);

@@ -1,4 +1,5 @@
 // The call of one entry on filled buffers: is its answer, and is each byte that it leaves, as stored?
+ghost use Prim.Native.Nat.{_≤_};
 use crate::entry::byte;
 use crate::entry::kind;
 use crate::entry::number;
@@ -8,6 +9,7 @@ use crate::entry::work_len;
 use capi::bolz_find;
 use capi::bolz_solve;
 use capi::bolz_verify;
+use capi::bolz_write_job;
 use compare::holds;
 
 const FIND: u8 = 102; // f
@@ -15,6 +17,8 @@ const FIND: u8 = 102; // f
 const VERIFY: u8 = 118; // v
 
 const SOLVE: u8 = 115; // s
+
+const WRITE: u8 = 119; // w
 
 // r: the original's verdict. Its choice between 18 and 19 varies, and its nodes do: 18 is stored for either.
 const ORIGINAL: u8 = 114;
@@ -40,6 +44,9 @@ const MOST_OUT: usize = 16800;
 
 // Rows, columns, right sides and the right side that is asked for, two bytes each, stand before the matrix.
 const SHAPE_BYTES: usize = 8;
+
+// n and mode, eight bytes each, and the lengths of the four lists, two bytes each, stand before the lists.
+const LISTS_HEAD_BYTES: usize = 24;
 
 // A size that two bytes cannot hold, and that adding one to it would wrap.
 const WRAPS: usize = 18446744073709551615;
@@ -156,6 +163,55 @@ fn solve_as_stored(
         && (number(head) == 0 || holds(matrix, given, FILL))
 }
 
+fn four_bytes(a: u8, b: u8, c: u8, d: u8) -> usize
+    ensures { λ r. ⌜ r ≤ 4294967295 ⌝ }
+{
+    two_bytes(a, b) + 65536 * two_bytes(c, d)
+}
+
+// A number of any size: eight bytes, lowest first.
+fn eight_bytes(bytes: &[u8]) -> usize {
+    four_bytes(
+        byte(bytes, 0),
+        byte(bytes, 1),
+        byte(bytes, 2),
+        byte(bytes, 3),
+    )
+        + 4294967296
+            * four_bytes(
+                byte(bytes, 4),
+                byte(bytes, 5),
+                byte(bytes, 6),
+                byte(bytes, 7),
+            )
+}
+
+// The file of the stored lists, or a refusal.
+fn write_as_stored(head: &[u8], query: &[u8], result: &[u8], outs: &mut [u8]) -> bool {
+    let len = query.len();
+    let out_len = out_len(head);
+    if len < LISTS_HEAD_BYTES || out_len > outs.len() {
+        return false;
+    }
+    let inputs = LISTS_HEAD_BYTES + two_bytes(query[16], query[17]);
+    let outputs = inputs + two_bytes(query[18], query[19]);
+    let measurements = outputs + two_bytes(query[20], query[21]);
+    let end = measurements + two_bytes(query[22], query[23]);
+    if end != len {
+        return false;
+    }
+    let got = bolz_write_job(
+        eight_bytes(&query[0..8]),
+        eight_bytes(&query[8..16]),
+        &query[LISTS_HEAD_BYTES..inputs],
+        &query[inputs..outputs],
+        &query[outputs..measurements],
+        &query[measurements..end],
+        &mut outs[0..out_len],
+    );
+    got == stored(head, result.len()) && holds(outs, result, FILL)
+}
+
 pub(crate) fn as_stored(head: &[u8], query: &[u8], result: &[u8]) -> bool {
     let mut works = [FILL; MOST_WORK];
     let mut outs = [FILL; MOST_OUT];
@@ -163,6 +219,7 @@ pub(crate) fn as_stored(head: &[u8], query: &[u8], result: &[u8]) -> bool {
         FIND => find_as_stored(head, query, result, &mut works, &mut outs),
         VERIFY => verify_as_stored(head, query, result, &mut outs),
         SOLVE => solve_as_stored(head, query, result, &mut works, &mut outs),
+        WRITE => write_as_stored(head, query, result, &mut outs),
         ORIGINAL => verdict_as_stored(head, query, &mut outs),
         _ => false,
     }
