@@ -405,6 +405,10 @@ def nodes_of_lists():
         yield edited(number, inputs=inputs)
     for outputs, number in [([3], 5), ([2, 3], 5), ([3, 2], 5), ([255, 2], 5), ([2, 128], 5)]:
         yield edited(number, outputs=outputs)
+    full = {"n": 128, "edges": [127, 0], "inputs": [127], "outputs": [127], "measured": [XY] * 127 + [0]}
+    yield edited(0, **full)
+    for key in ("edges", "inputs", "outputs"):
+        yield edited(5, **{**full, key: full[key] + [128] * len(full[key])})
     yield edited(0, outputs=[], measured=[XY, XY, XY])
     yield edited(0, inputs=[2, 1, 0], outputs=[2, 1, 0], measured=[0, 0, 0])
 
@@ -461,9 +465,9 @@ def room():
         yield edited(number, out=out, n=128, edges=complete(128), inputs=big, outputs=big, measured=[0] * 128)
 
 
-# Each adds to the path's lists what gets this number, in the order of the questions.
+# Each adds to the path's lists what gets this number, in the order of the questions; for 21 so much that the list's length alone tells.
 FAULTS = [(4, "mode", 2), (3, "edges", [0]), (5, "edges", [0, 3]), (5, "inputs", [3]), (5, "outputs", [3]), (3, "measured", [0]), (7, "outputs", [1]),
-          (21, "edges", [1, 2]), (21, "inputs", [0]), (21, "outputs", [2]), (20, "out", -1)]
+          (21, "edges", [1, 2] * 2), (21, "inputs", [0] * 3), (21, "outputs", [2] * 3), (20, "out", -1)]
 
 
 def precedence():
