@@ -1,6 +1,7 @@
 // Stored answers, run again on the library through its entries for C. Standard input holds entries one after another, each a
 // call and what it should answer and leave: cases A to N of document 01 and its edges, by name; the original's answers; each refusal at
-// its boundary. oracle/README.md says how they were made. One entry is wrong on purpose: a run that does not report it compares nothing.
+// its boundary; jobs written from lists. oracle/README.md says how they were made. One entry is wrong on purpose: a run that does not
+// report it compares nothing.
 mod entry; // entry.rt: what the head of an entry says
 mod run; // run.rt: the call of one entry, compared
 
