@@ -14,12 +14,12 @@ use Rattle.nodes.proofs.Members.{members-ext, members-past}
 use Rattle.answers.specs.Answer.{Refusal, gives, refuses, refusal}
 use Rattle.records.specs.JobFile.{nodesBelow, hasEdge}
 use Rattle.records.specs.Encoding.{jobBytes}
-use Rattle.records.specs.JobLists.{JobLists, once, edgesOnce, listsAsk, givenOnce, pairsAmong, jobWith, writtenJob}
+use Rattle.records.specs.JobLists.{JobLists, once, edgesOnce, listsAsk, givenOnce, pairsAmong, jobWith}
 use Rattle.records.proofs.NodeLists.{once-count}
 use Rattle.records.proofs.PairLists.{edges-count}
 use Rattle.records.proofs.JobLists.{lists-asked}
 use Rattle.records.proofs.WritingJobs.{set-members, set-count}
-use Rattle.demands.specs.Calls.{Outcome, put, writeJobAsks, writeJobCall}
+use Rattle.demands.specs.Calls.{Outcome, put, writtenJob, writeJobAsks, writeJobCall}
 
 -- ---- the call, by what is answered
 module _ (l : JobLists) (out : List ℕ) where

@@ -16,11 +16,11 @@ use Rattle.records.specs.Splice.{fitsIn}
 use Rattle.records.specs.Encoding.{Bytes}
 use Rattle.records.specs.Writing.{mostOutput}
 use Rattle.records.specs.JobFile.{JobFile}
-use Rattle.records.specs.JobLists.{JobLists, writtenJob}
+use Rattle.records.specs.JobLists.{JobLists}
 use Rattle.records.proofs.Records.{written-length}
 use Rattle.records.proofs.Encoding.{job-asked}
-use Rattle.records.proofs.JobLists.{written-job-length}
-use Rattle.demands.specs.Calls.{put, findAsks, findOutcome, findCall, verifyAsks, outcome, verifyCall, writeJobAsks, writeJobCall}
+use Rattle.records.proofs.JobLists.{ascending-length}
+use Rattle.demands.specs.Calls.{put, findAsks, findOutcome, findCall, verifyAsks, outcome, verifyCall, writtenJob, writeJobAsks, writeJobCall}
 use Rattle.demands.proofs.Demand.{found-fits, asked-find}
 use Rattle.demands.proofs.JobWriter.{write-job-asked, write-job-refuses}
 use Rattle.capi.specs.Codes.{numberUnit, answerCode, coded, counted, codedBits, Tells, TellsWhy}
@@ -68,7 +68,7 @@ write-job-fits l out = by (writeJobAsks l) refl
     from-one (suc q) e = omega arith
 
     by : (a : Answer Bool) → writeJobAsks l ≡ a → Fits Unit (outcome a (writtenJob l) out .answer)
-    by (gives b) e = put-fits Unit [] (writtenJob l) out (written-job-length l (write-job-asked l b e .0))
+    by (gives b) e = put-fits Unit [] (writtenJob l) out (ascending-length l (write-job-asked l b e .0))
     by (refuses r) e =
         let (same, number) = write-job-refuses l r e in
         rw same (from-one (r .number) number, omega arith, λ x. omega arith)

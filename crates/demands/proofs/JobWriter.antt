@@ -9,22 +9,22 @@ use Rattle.nodes.specs.Lists.{has}
 use Rattle.answers.specs.Answer.{Refusal, Answer, gives, refuses, refusal, asks, _>>_}
 use Rattle.answers.proofs.Answer.{give-inj, never, asks-yes}
 use Rattle.records.specs.JobFile.{JobFile, openingAllowed, wholePairs, nodesBelow, allAllowed, measurementsAsks, readJob}
-use Rattle.records.specs.JobLists.{JobLists, Meaning, listsOf, listsAsk, givenOnce, meaning, ascending, writtenJob}
+use Rattle.records.specs.JobLists.{JobLists, Meaning, listsOf, listsAsk, givenOnce, meaning, ascending}
 use Rattle.records.specs.Encoding.{Bytes, jobBytes}
 use Rattle.records.proofs.Encoding.{job-exact, job-decodes, job-asked}
-use Rattle.records.proofs.JobLists.{lists-yes, ascending-valid, ascending-means, file-ascending, valid-asks, valid-once}
-use Rattle.demands.specs.Calls.{outcome, writeJobAsks, writeJobCall}
+use Rattle.records.proofs.JobLists.{lists-yes, ascending-valid, ascending-means, file-ascending, valid-asks, valid-once, valid-bytes}
+use Rattle.demands.specs.Calls.{outcome, writtenJob, writeJobAsks, writeJobCall}
 use Rattle.demands.specs.JobWriter.{JobBytes, Wrote, GivesBack, OneFile, SameBytes, WritesAgain}
 use Rattle.demands.proofs.Demand.{put-fits}
 
 -- ---- what a file holds and what the writer writes
 -- bytes are one job file at most
 same-file : (s t : List ℕ) (f g : JobFile) → JobBytes s f → JobBytes t g → s ≡ t → f ≡ g
-same-file s t f g p q e = give-inj (sym (p .0) ∙ ap readJob e ∙ q .0)
+same-file s t f g p q e = give-inj (sym (p .1) ∙ ap readJob e ∙ q .1)
 
 -- a readable file is what is written for its own lists
-own-bytes : (s : List ℕ) (f : JobFile) → Bytes s → JobBytes s f → s ≡ writtenJob (listsOf f)
-own-bytes s f b (reads, ends) =
+own-bytes : (s : List ℕ) (f : JobFile) → JobBytes s f → s ≡ writtenJob (listsOf f)
+own-bytes s f (b, reads, ends) =
     job-exact s f b .0 reads .0 ∙ ap (λ (t : List ℕ). jobBytes f ++ t) ends ∙ append-nil (jobBytes f)
     ∙ ap jobBytes (sym (file-ascending f (job-asked s f reads) ends))
 
@@ -50,12 +50,13 @@ pub gives-back : GivesBack
 gives-back l out k s w =
     let (asked, once, same) = wrote-out l out k s w in
     let f = ascending (meaning l) in
-    (f, (ap readJob (sym same ∙ sym (append-nil (jobBytes f))) ∙ job-decodes f (ascending-valid l asked), refl), ascending-means l asked once)
+    let valid = ascending-valid l asked in
+    (f, (subst Bytes same (valid-bytes f valid), ap readJob (sym same ∙ sym (append-nil (jobBytes f))) ∙ job-decodes f valid, refl), ascending-means l asked once)
 
 pub one-file : OneFile
-one-file s t f g b c p q = (
+one-file s t f g p q = (
   λ e. ap (λ (f : JobFile). meaning (listsOf f)) (same-file s t f g p q e),
-  λ e. own-bytes s f b p ∙ ap (λ (m : Meaning). jobBytes (ascending m)) e ∙ sym (own-bytes t g c q),
+  λ e. own-bytes s f p ∙ ap (λ (m : Meaning). jobBytes (ascending m)) e ∙ sym (own-bytes t g q),
 )
 
 pub same-bytes : SameBytes
@@ -68,9 +69,9 @@ same-bytes l m out other j k s t w x =
 
 pub writes-again : WritesAgain
 unfolding writeJobAsks writeJobCall
-writes-again s f b (reads, ends) out =
-    let v = job-asked s f reads in
-    rw (valid-asks f v, valid-once f v, ← own-bytes s f b (reads, ends))
+writes-again s f p out =
+    let v = job-asked s f (p .1) in
+    rw (valid-asks f v, valid-once f v, ← own-bytes s f p)
 
 -- ---- the refusals
 -- with one of these numbers, and no a and b

@@ -16,7 +16,8 @@ use Rattle.records.specs.Records.{written, kindAccepted}
 use Rattle.records.specs.Splice.{putAnswer, putFront}
 use Rattle.records.specs.Writing.{flowBytes}
 use Rattle.records.specs.JobFile.{JobFile, readJob, jobOf, workingOf, modePlanes, modePauli}
-use Rattle.records.specs.JobLists.{JobLists, listsAsk, givenOnce, writtenJob}
+use Rattle.records.specs.Encoding.{jobBytes}
+use Rattle.records.specs.JobLists.{JobLists, listsAsk, givenOnce, meaning, ascending}
 use Rattle.records.specs.FlowFile.{readFlow, flowOf, nothingLeft, oneMember}
 use Rattle.verdicts.specs.Verdict.{verify}
 
@@ -36,6 +37,11 @@ foundBytes f = flowBytes (jobOf f) (search (modeOf f) (jobOf f))
 abbrev pub hasSearch : ℕ → Bool
 hasSearch mode = eqb mode modePlanes || eqb mode modePauli
 
+-- ---- what the job writer writes: the job that the lists mean, every list ascending
+abbrev pub writtenJob : JobLists → List ℕ
+writtenJob l = jobBytes (ascending (meaning l))
+
+-- ---- the questions
 -- the finder's questions before its search: is nothing left (8), is the mode 2 or 3 (10), is the work buffer right (11)
 unfoldable pub findAsks : List ℕ → List ℕ → Answer JobFile
 findAsks file work = do

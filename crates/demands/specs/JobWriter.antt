@@ -12,7 +12,7 @@ use Rattle.demands.specs.Calls.{put, writeJobCall}
 
 -- the bytes are a job file, and nothing else
 abbrev pub JobBytes : List ℕ → JobFile → Type 0
-JobBytes bytes f = (readJob bytes ≡ gives f) × (f .after ≡ [])
+JobBytes bytes f = Bytes bytes × (readJob bytes ≡ gives f) × (f .after ≡ [])
 
 -- the bytes that the writer wrote: the first `k` of the result buffer
 abbrev pub Wrote : JobLists → (out : List ℕ) → (k : ℕ) → List ℕ → Type 0
@@ -24,7 +24,7 @@ GivesBack = (l : JobLists) (out : List ℕ) (k : ℕ) (s : List ℕ) → Wrote l
 
 -- two readable files are the same bytes just where they mean the same job
 abbrev pub OneFile : Type 0
-OneFile = (s t : List ℕ) (f g : JobFile) → Bytes s → Bytes t → JobBytes s f → JobBytes t g → (s ≡ t ↔ meaning (listsOf f) ≡ meaning (listsOf g))
+OneFile = (s t : List ℕ) (f g : JobFile) → JobBytes s f → JobBytes t g → (s ≡ t ↔ meaning (listsOf f) ≡ meaning (listsOf g))
 
 -- two sets of lists give the same bytes just where they mean the same job
 abbrev pub SameBytes : Type 0
@@ -32,4 +32,4 @@ SameBytes = (l m : JobLists) (out other : List ℕ) (j k : ℕ) (s t : List ℕ)
 
 -- every readable job file is what the writer writes for its own lists, wherever it fits
 abbrev pub WritesAgain : Type 0
-WritesAgain = (s : List ℕ) (f : JobFile) → Bytes s → JobBytes s f → (out : List ℕ) → writeJobCall (listsOf f) out ≡ put [] s out
+WritesAgain = (s : List ℕ) (f : JobFile) → JobBytes s f → (out : List ℕ) → writeJobCall (listsOf f) out ≡ put [] s out

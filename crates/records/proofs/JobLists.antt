@@ -1,30 +1,32 @@
 -- A job from lists in any order: what was asked, and the file that is written for it. It is valid, it means the job of the lists, and a file
 -- is the one that is written for its own lists.
-use Prim.Native.Nat.{ℕ, zero, suc, _+_, _*_, _%_, _≤_}
+use Prim.Native.Nat.{ℕ, zero, suc, _+_, _*_, _%_, _≤_, _<_}
 use mathlib.Core.Path.{_≡_, refl, sym, ap, _∙_, fun-ext}
-use mathlib.Core.Bool.{Bool, true, _&&_}
-use mathlib.Core.List.{List, [], _++_}
+use mathlib.Core.Bool.{Bool, true, false, cond, _&&_}
+use mathlib.Core.List.{List, [], _∷_, _++_}
 use native.Mathlib.Omega.{arith}
 use native.Mathlib.Nat.{mul-le-mul}
-use borrow.Author.Tests.{eq-eqb}
+use borrow.Author.Tests.{lt-ltb, eq-eqb}
+use lib.Dec.{eqb, ltb}
 use lib.ListN.{length, length-append}
 use Rattle.nodes.specs.Row.{count, members}
-use Rattle.nodes.specs.Lists.{has}
+use Rattle.nodes.specs.Lists.{has, all}
 use Rattle.nodes.proofs.Logic.{and-out}
 use Rattle.nodes.proofs.Count.{count-le}
 use Rattle.nodes.proofs.Members.{members-length}
 use Rattle.answers.specs.Answer.{gives}
 use Rattle.answers.proofs.Answer.{asks-out}
-use Rattle.records.specs.Records.{headBytes, allYes, written}
-use Rattle.records.specs.JobFile.{JobFile, mostNodes, modeCausal, modePauli, openingAllowed, wholePairs, nodesBelow, rises, allAllowed, measurementsAsks, hasEdge}
-use Rattle.records.specs.JobLists.{JobLists, listsOf, once, edgesOnce, listsAsk, givenOnce, meaning, pairsAmong, ascending, writtenJob}
-use Rattle.records.specs.Encoding.{jobBytes, ValidJob}
+use Rattle.flows.specs.Job.{planeXY, planeXZ, pauliZ}
+use Rattle.records.specs.Records.{headBytes, allYes, written, kindOpening, kindEdges, kindInputs, kindOutputs, kindMeasurements}
+use Rattle.records.specs.JobFile.{JobFile, mostNodes, modeCausal, modePlanes, modePauli, highestOf, openingAllowed, wholePairs, nodesBelow, rises, allAllowed, measurementsAsks, hasEdge}
+use Rattle.records.specs.JobLists.{JobLists, listsOf, once, edgesOnce, listsAsk, givenOnce, meaning, pairsAmong, ascending}
+use Rattle.records.specs.Encoding.{Bytes, jobBytes, ValidJob}
 use Rattle.records.specs.Writing.{mostOutput}
-use Rattle.records.proofs.Records.{written-length}
-use Rattle.records.proofs.JobFile.{allowed-out, allowed-in, measurements-out}
+use Rattle.records.proofs.Records.{all-append, written-length, written-bytes}
+use Rattle.records.proofs.JobFile.{allowed-out, allowed-in, measurements-out, allowed-below}
 use Rattle.records.proofs.Writing.{members-under, members-rise}
 use Rattle.records.proofs.NodeLists.{members-same, rising-members, has-count, once-count}
-use Rattle.records.proofs.PairKeys.{RisingPairs}
+use Rattle.records.proofs.PairKeys.{RisingPairs, bytes}
 use Rattle.records.proofs.PairLists.{among-length, graph-rises, graph-same, graph-list, once-loop, edges-count}
 
 -- ---- what is asked of the lists, as facts
@@ -93,8 +95,8 @@ nodes-pairs n e = rw (nodes-length n) at (among-length e (members n (λ u. true)
 members-few : (n : ℕ) (s : ℕ → Bool) → length (members n s) ≤ n
 members-few n s = rw (members-length n s) (count-le n s)
 
-pub written-job-length : (l : JobLists) → listsAsk l ≡ gives true → length (writtenJob l) ≤ mostOutput
-written-job-length l e =
+pub ascending-length : (l : JobLists) → listsAsk l ≡ gives true → length (jobBytes (ascending (meaning l))) ≤ mostOutput
+ascending-length l e =
     let a = lists-asked l e in
     let square : l .n * l .n ≤ mostNodes * mostNodes = mul-le-mul {n₁ = l .n} {m₁ = l .n} {n₂ = mostNodes} {m₂ = mostNodes} (a .few) (a .few) in
     omega (
@@ -147,6 +149,15 @@ module _ (l : JobLists) (e : listsAsk l ≡ gives true) where
       rw (same-edges r, same-nodes (l .inputs) (asked .inputsBelow), same-nodes (l .outputs) (asked .outputsBelow))
 
 -- ---- a valid file
+record-bytes : (kind : ℕ) (p rest : List ℕ) → kind < 65536 → Bytes p → Bytes rest → Bytes (written kind p ++ rest)
+record-bytes kind p rest h b r = all-append (λ b. ltb b 256) (written kind p) rest (written-bytes kind p h b) r
+
+-- no measurement is more than a byte
+few-measurements : (c d : Bool) → cond c planeXY (cond d planeXZ pauliZ) + 1 ≤ 256
+few-measurements true d = omega arith
+few-measurements false true = omega arith
+few-measurements false false = omega arith
+
 module _ (f : JobFile) (v : ValidJob f) where
   edges-rise : RisingPairs (f .n) (f .edges)
   edges-rise = record { whole = v .pairs; below = v .edgesBelow; rise = v .edgesRise }
@@ -192,3 +203,14 @@ module _ (f : JobFile) (v : ValidJob f) where
       edges =
           sym (edges-count (f .n) (f .edges) one-byte whole (v .edgesBelow))
           ∙ eq-eqb _ _ (ap length (graph-list (f .n) one-byte (f .edges) edges-rise))
+
+  -- it is bytes
+  pub valid-bytes : Bytes (jobBytes f)
+  unfolding all
+  valid-bytes =
+      record-bytes kindOpening (f .n ∷ f .mode ∷ []) _ (omega arith) (rw (lt-ltb (f .n) 256 (omega (arith, v .few)), lt-ltb (f .mode) 256 (omega (arith, v .modeTo))))
+      (record-bytes kindEdges (f .edges) _ (omega arith) (bytes (f .n) one-byte (f .edges) (v .edgesBelow))
+      (record-bytes kindInputs (f .inputs) _ (omega arith) (bytes (f .n) one-byte (f .inputs) (v .inputsBelow))
+      (record-bytes kindOutputs (f .outputs) _ (omega arith) (bytes (f .n) one-byte (f .outputs) (v .outputsBelow))
+      (written-bytes kindMeasurements (f .measurements) (omega arith)
+      (bytes (highestOf (f .mode) + 1) (few-measurements (eqb (f .mode) modeCausal) (eqb (f .mode) modePlanes)) (f .measurements) (allowed-below (f .mode) (has (f .outputs)) 0 (f .measurements) (v .allowed)))))))

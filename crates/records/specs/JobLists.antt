@@ -1,5 +1,5 @@
 -- A job as an editor holds it: edges in any order, either end first, inputs and outputs in any order. What is asked of the lists, the job that
--- they mean, and the one file that is written for it.
+-- they mean, and the job with every list ascending.
 use Prim.Native.Nat.{ℕ}
 use mathlib.Core.Bool.{Bool, true, cond, not, _&&_}
 use mathlib.Core.List.{List, [], _∷_, _++_}
@@ -8,7 +8,6 @@ use Rattle.nodes.specs.Row.{members}
 use Rattle.nodes.specs.Lists.{has}
 use Rattle.answers.specs.Answer.{Answer, asks, _>>_}
 use Rattle.records.specs.JobFile.{JobFile, openingAllowed, wholePairs, nodesBelow, measurementsAsks, hasEdge}
-use Rattle.records.specs.Encoding.{jobBytes}
 
 pub record JobLists : Type 0 where
   pub n : ℕ
@@ -63,7 +62,7 @@ pub record Meaning : Type 0 where
 abbrev pub meaning : JobLists → Meaning
 meaning l = record { n = l .n; mode = l .mode; edge = hasEdge (l .edges); input = has (l .inputs); output = has (l .outputs); measurements = l .measurements }
 
--- ---- its file: every list ascending
+-- ---- that job with every list ascending
 -- those of the list that are in s
 unfoldable pub keep : (ℕ → Bool) → List ℕ → List ℕ
 keep s [] = []
@@ -86,6 +85,3 @@ jobWith n mode edges inputs outputs measurements = record { n = n; mode = mode; 
 abbrev pub ascending : Meaning → JobFile
 ascending m = let nodes = members (m .n) in
     jobWith (m .n) (m .mode) (pairsAmong (m .edge) (nodes (λ u. true))) (nodes (m .input)) (nodes (m .output)) (m .measurements)
-
-abbrev pub writtenJob : JobLists → List ℕ
-writtenJob l = jobBytes (ascending (meaning l))

@@ -6,8 +6,9 @@ use native.Mathlib.Omega.{arith}
 use borrow.Author.Needs.{needs}
 use Rattle.nodes.specs.NodeSet.{member}
 use Rattle.records.specs.Splice.{putFront, putAnswer}
-use Rattle.records.specs.JobLists.{JobLists, given, once, edgesOnce, givenOnce, writtenJob}
+use Rattle.records.specs.JobLists.{JobLists, given, once, edgesOnce, givenOnce}
 use Rattle.records.proofs.JobLists.{Asked, lists-asked}
+use Rattle.demands.specs.Calls.{writtenJob}
 use Rattle.calls.proofs.Finding.{put-is}
 use Rattle.calls.proofs.LoadingEdges.{edges-fit}
 use Rattle.calls.proofs.Writing.{write-twice, write-goes, nodes-once, nodes-twice, nodes-listed, edges-once, edges-twice, edges-listed, lists-written}
