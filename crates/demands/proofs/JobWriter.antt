@@ -17,18 +17,7 @@ use Rattle.demands.specs.Calls.{outcome, writtenJob, writeJobAsks, write
 use Rattle.demands.specs.JobWriter.{JobBytes, Wrote, GivesBack, OneFile, SameBytes, WritesAgain}
 use Rattle.demands.proofs.Demand.{put-fits}
 
--- ---- what a file holds and what the writer writes
--- bytes are one job file at most
-same-file : (s t : List ℕ) (f g : JobFile) → JobBytes s f → JobBytes t g → s ≡ t → f ≡ g
-same-file s t f g p q e = give-inj (sym (p .1) ∙ ap readJob e ∙ q .1)
-
--- a readable file is what is written for its own lists
-own-bytes : (s : List ℕ) (f : JobFile) → JobBytes s f → s ≡ writtenJob (listsOf f)
-own-bytes s f (b, reads, ends) =
-    job-exact s f b .0 reads .0 ∙ ap (λ (t : List ℕ). jobBytes f ++ t) ends ∙ append-nil (jobBytes f)
-    ∙ ap jobBytes (sym (file-ascending f (job-asked s f reads) ends))
-
--- what the writer has asked
+-- ---- what the writer has asked and written
 pub write-job-asked : (l : JobLists) (b : Bool) → writeJobAsks l ≡ gives b → (listsAsk l ≡ gives true) × (givenOnce l ≡ true)
 unfolding writeJobAsks
 write-job-asked l b e = by (listsAsk l) refl e
@@ -45,13 +34,24 @@ wrote-out l out k s (e, q) = by (writeJobAsks l) refl e q
     by (refuses r) p e q = absurd (never e)
     by (gives b) p e q = let (asked, once) = write-job-asked l b p in (asked, once, sym (put-fits [] (writtenJob l) out k e) ∙ q)
 
--- ---- the request
+-- ---- what it writes reads back
 pub gives-back : GivesBack
 gives-back l out k s w =
     let (asked, once, same) = wrote-out l out k s w in
     let f = ascending (meaning l) in
     let valid = ascending-valid l asked in
     (f, (subst Bytes same (valid-bytes f valid), ap readJob (sym same ∙ sym (append-nil (jobBytes f))) ∙ job-decodes f valid, refl), ascending-means l asked once)
+
+-- ---- one job, one file
+-- bytes are one job file at most
+same-file : (s t : List ℕ) (f g : JobFile) → JobBytes s f → JobBytes t g → s ≡ t → f ≡ g
+same-file s t f g p q e = give-inj (sym (p .1) ∙ ap readJob e ∙ q .1)
+
+-- a readable file is what is written for its own lists
+own-bytes : (s : List ℕ) (f : JobFile) → JobBytes s f → s ≡ writtenJob (listsOf f)
+own-bytes s f (b, reads, ends) =
+    job-exact s f b .0 reads .0 ∙ ap (λ (t : List ℕ). jobBytes f ++ t) ends ∙ append-nil (jobBytes f)
+    ∙ ap jobBytes (sym (file-ascending f (job-asked s f reads) ends))
 
 pub one-file : OneFile
 one-file s t f g p q = (
