@@ -1,4 +1,5 @@
-//! The proved library against the original, in one process. With a call, a file and a number: ours alone, so many times.
+//! The proved library against the original, in one process. With a call, a file and a number: ours alone, so many times; with a folder: files
+//! for that.
 
 mod families;
 mod find;
@@ -9,6 +10,7 @@ mod timing;
 mod verify;
 
 use harness::ours::Answer;
+use std::path::Path;
 use std::process::ExitCode;
 use std::{env, fs};
 
@@ -33,8 +35,10 @@ fn main() -> ExitCode {
         [] => print_tables(),
         ["find", file, repeats] => print_last(repeat::find, file, repeats),
         ["verify", file, repeats] => print_last(repeat::verify, file, repeats),
+        ["write", file, repeats] => print_last(repeat::write_job, file, repeats),
+        ["files", folder] => repeat::put_files(Path::new(folder)).expect("the files can be written"),
         _ => {
-            eprintln!("usage: bench [find FILE REPEATS | verify FILE REPEATS]");
+            eprintln!("usage: bench [find FILE REPEATS | verify FILE REPEATS | write FILE REPEATS | files FOLDER]");
             return ExitCode::from(2);
         }
     }

@@ -1,7 +1,11 @@
 //! Our side alone, again and again on the same bytes: for tools that count instructions.
 
+use crate::families::FAMILIES;
+use harness::jobs::payloads;
 use harness::ours::{self, Answer, OUT_BYTES, WORK_BYTES};
 use std::hint::black_box;
+use std::path::Path;
+use std::{fs, io};
 
 /// The answer of the last of so many calls of the finder on a job file.
 pub fn find(file: &[u8], repeats: usize) -> Option<Answer> {
@@ -13,4 +17,33 @@ pub fn find(file: &[u8], repeats: usize) -> Option<Answer> {
 pub fn verify(file: &[u8], repeats: usize) -> Option<Answer> {
     let mut out = vec![0; OUT_BYTES];
     (0..repeats).map(|_| ours::verify(black_box(file), &mut out)).last()
+}
+
+/// The same of the job writer, on the lists of a job file: edges, inputs and outputs from the last to the first, the greater end first.
+pub fn write_job(file: &[u8], repeats: usize) -> Option<Answer> {
+    let [opening, sorted @ .., measurements] = &payloads(file)[..] else { return None };
+    let [edges, inputs, outputs] = sorted else { return None };
+    let [edges, inputs, outputs] = [edges, inputs, outputs].map(|list| list.iter().rev().copied().collect::<Vec<u8>>());
+    let (n, mode) = (opening[0].into(), opening[1].into());
+    let mut out = vec![0; OUT_BYTES];
+    let mut write = || ours::write_job(n, mode, black_box([&edges, &inputs, &outputs, measurements]), &mut out);
+    let last = (0..repeats).map(|_| write()).last()?;
+    assert_eq!(&out[..file.len()], file, "the file is not written again");
+    Some(last)
+}
+
+/// The first job of each family at 16 and at 128 nodes, and behind it, in a file of its own, the flow that is found.
+pub fn put_files(folder: &Path) -> io::Result<()> {
+    let (mut work, mut out) = (vec![0; WORK_BYTES], vec![0; OUT_BYTES]);
+    for (family, n) in FAMILIES.iter().flat_map(|family| [(family, 16), (family, 128)]) {
+        let name = format!("{n} {}", family.name);
+        let mut file = (family.jobs)(n)[0].bytes();
+        fs::write(folder.join(format!("{name}.job")), &file)?;
+        let Answer::Value(count) = ours::find(&file, &mut work, &mut out) else { continue };
+        if out[4] == 0x11 {
+            file.extend(&out[..count]);
+            fs::write(folder.join(format!("{name}.flow")), &file)?;
+        }
+    }
+    Ok(())
 }

@@ -3,7 +3,7 @@
    For the caller to see to, since no proof reaches beyond the calls:
    - A pointer and its length name that many bytes that may be read, or for a buffer that is not const, read and written. With length 0 the
      pointer may be null.
-   - The buffers of one call do not overlap.
+   - A buffer that is not const overlaps no other buffer of the same call.
    - A call needs stack: about 16 kB for bolz_find, 5 kB for bolz_verify, 2 kB for bolz_write_job, less than 1 kB for bolz_solve (measured; `bash
      examples/c/run` measures again and compares with the sizes below).
 

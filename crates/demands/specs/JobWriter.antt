@@ -30,6 +30,6 @@ OneFile = (s t : List ℕ) (f g : JobFile) → JobBytes s f → JobBytes t g →
 abbrev pub SameBytes : Type 0
 SameBytes = (l m : JobLists) (out other : List ℕ) (j k : ℕ) (s t : List ℕ) → Wrote l out j s → Wrote m other k t → (s ≡ t ↔ meaning l ≡ meaning m)
 
--- every readable job file is what the writer writes for its own lists, wherever it fits
+-- every readable job file is what the writer writes for its own lists, into any buffer that it fits
 abbrev pub WritesAgain : Type 0
 WritesAgain = (s : List ℕ) (f : JobFile) → JobBytes s f → (out : List ℕ) → writeJobCall (listsOf f) out ≡ put [] s out

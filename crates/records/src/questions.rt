@@ -24,7 +24,7 @@ use flows::PAULI_Z;
 use flows::PLANE_XY;
 use flows::PLANE_XZ;
 
-// What the questions of a payload answer.
+// What the questions of a payload or of lists answer.
 pub enum Checked {
     Passed,
     Refused(Refusal),

@@ -7,6 +7,20 @@ pub const OUT_BYTES: usize = 16780;
 unsafe extern "C" {
     fn bolz_find(file: *const u8, len: usize, work: *mut u8, work_len: usize, out: *mut u8, out_len: usize) -> u64;
     fn bolz_verify(file: *const u8, len: usize, out: *mut u8, out_len: usize) -> u64;
+    fn bolz_write_job(
+        n: usize,
+        mode: usize,
+        edges: *const u8,
+        edges_len: usize,
+        inputs: *const u8,
+        inputs_len: usize,
+        outputs: *const u8,
+        outputs_len: usize,
+        measurements: *const u8,
+        measurements_len: usize,
+        out: *mut u8,
+        out_len: usize,
+    ) -> u64;
     fn bolz_solve(
         matrix: *mut u8,
         matrix_len: usize,
@@ -43,6 +57,13 @@ pub fn find(file: &[u8], work: &mut [u8], out: &mut [u8]) -> Answer {
 pub fn verify(file: &[u8], out: &mut [u8]) -> Answer {
     // SAFETY: each pointer goes with its slice's length.
     decoded(unsafe { bolz_verify(file.as_ptr(), file.len(), out.as_mut_ptr(), out.len()) })
+}
+
+/// The lists are edges, inputs, outputs and measurements.
+pub fn write_job(n: usize, mode: usize, lists: [&[u8]; 4], out: &mut [u8]) -> Answer {
+    let [e, i, o, m] = lists.map(|list| (list.as_ptr(), list.len()));
+    // SAFETY: each pointer goes with its slice's length.
+    decoded(unsafe { bolz_write_job(n, mode, e.0, e.1, i.0, i.1, o.0, o.1, m.0, m.1, out.as_mut_ptr(), out.len()) })
 }
 
 pub fn solve(matrix: &mut [u8], bits: &mut [u8], rows: usize, cols: usize, sides: usize, side: usize) -> Answer {
