@@ -35,7 +35,7 @@ keys [] = []
 keys (a ∷ []) = []
 keys (a ∷ b ∷ l) = cond (eqb a b) (keys l) (key a b ∷ keys l)
 
--- a number is the key of a, b, which is no loop, just where a, b joins the two parts of the number, the less one first
+-- a number is the key of a, b, which is no loop, just where a, b joins the two parts of the number, the lesser first
 key-is : (a b k : ℕ) → a < 256 → b < 256 → not (eqb a b) && eqb (key a b) k ≡ ltb (k / 256) (k % 256) && hasEdge (a ∷ b ∷ []) (k / 256) (k % 256)
 unfolding hasEdge
 key-is a b k g h =
