@@ -40,16 +40,16 @@ gives-back l out k s w =
     let (asked, once, same) = wrote-out l out k s w in
     let f = ascending (meaning l) in
     let valid = ascending-valid l asked in
-    (f, (subst Bytes same (valid-bytes f valid), ap readJob (sym same ∙ sym (append-nil (jobBytes f))) ∙ job-decodes f valid, refl), ascending-means l asked once)
+    (f, (ap readJob (sym same ∙ sym (append-nil (jobBytes f))) ∙ job-decodes f valid, refl, subst Bytes same (valid-bytes f valid)), ascending-means l asked once)
 
 -- ---- one job, one file
 -- bytes are one job file at most
 same-file : (s t : List ℕ) (f g : JobFile) → JobBytes s f → JobBytes t g → s ≡ t → f ≡ g
-same-file s t f g p q e = give-inj (sym (p .1) ∙ ap readJob e ∙ q .1)
+same-file s t f g p q e = give-inj (sym (p .0) ∙ ap readJob e ∙ q .0)
 
 -- a readable file is what is written for its own lists
 own-bytes : (s : List ℕ) (f : JobFile) → JobBytes s f → s ≡ writtenJob (listsOf f)
-own-bytes s f (b, reads, ends) =
+own-bytes s f (reads, ends, b) =
     job-exact s f b .0 reads .0 ∙ ap (λ (t : List ℕ). jobBytes f ++ t) ends ∙ append-nil (jobBytes f)
     ∙ ap jobBytes (sym (file-ascending f (job-asked s f reads) ends))
 
@@ -70,7 +70,7 @@ same-bytes l m out other j k s t w x =
 pub writes-again : WritesAgain
 unfolding writeJobAsks writeJobCall
 writes-again s f p out =
-    let v = job-asked s f (p .1) in
+    let v = job-asked s f (p .0) in
     rw (valid-asks f v, valid-once f v, ← own-bytes s f p)
 
 -- ---- the refusals

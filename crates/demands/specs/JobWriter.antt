@@ -12,7 +12,7 @@ use Rattle.demands.specs.Calls.{put, writeJobCall}
 
 -- the bytes are a job file, and nothing else
 abbrev pub JobBytes : List ℕ → JobFile → Type 0
-JobBytes bytes f = Bytes bytes × (readJob bytes ≡ gives f) × (f .after ≡ [])
+JobBytes bytes f = (readJob bytes ≡ gives f) × (f .after ≡ []) × Bytes bytes
 
 -- the bytes that the writer wrote: the first `k` of the result buffer
 abbrev pub Wrote : JobLists → (out : List ℕ) → (k : ℕ) → List ℕ → Type 0

@@ -149,8 +149,9 @@ module _ (l : JobLists) (e : listsAsk l ≡ gives true) where
       rw (same-edges r, same-nodes (l .inputs) (asked .inputsBelow), same-nodes (l .outputs) (asked .outputsBelow))
 
 -- ---- a valid file
-record-bytes : (kind : ℕ) (p rest : List ℕ) → kind < 65536 → Bytes p → Bytes rest → Bytes (written kind p ++ rest)
-record-bytes kind p rest h b r = all-append (λ b. ltb b 256) (written kind p) rest (written-bytes kind p h b) r
+-- a record of bytes before bytes
+bytes-before : (kind : ℕ) (p rest : List ℕ) → kind < 65536 → Bytes p → Bytes rest → Bytes (written kind p ++ rest)
+bytes-before kind p rest h b r = all-append (λ b. ltb b 256) (written kind p) rest (written-bytes kind p h b) r
 
 -- no measurement is more than a byte
 few-measurements : (c d : Bool) → cond c planeXY (cond d planeXZ pauliZ) + 1 ≤ 256
@@ -208,9 +209,9 @@ module _ (f : JobFile) (v : ValidJob f) where
   pub valid-bytes : Bytes (jobBytes f)
   unfolding all
   valid-bytes =
-      record-bytes kindOpening (f .n ∷ f .mode ∷ []) _ (omega arith) (rw (lt-ltb (f .n) 256 (omega (arith, v .few)), lt-ltb (f .mode) 256 (omega (arith, v .modeTo))))
-      (record-bytes kindEdges (f .edges) _ (omega arith) (bytes (f .n) one-byte (f .edges) (v .edgesBelow))
-      (record-bytes kindInputs (f .inputs) _ (omega arith) (bytes (f .n) one-byte (f .inputs) (v .inputsBelow))
-      (record-bytes kindOutputs (f .outputs) _ (omega arith) (bytes (f .n) one-byte (f .outputs) (v .outputsBelow))
+      bytes-before kindOpening (f .n ∷ f .mode ∷ []) _ (omega arith) (rw (lt-ltb (f .n) 256 (omega (arith, v .few)), lt-ltb (f .mode) 256 (omega (arith, v .modeTo))))
+      (bytes-before kindEdges (f .edges) _ (omega arith) (bytes (f .n) one-byte (f .edges) (v .edgesBelow))
+      (bytes-before kindInputs (f .inputs) _ (omega arith) (bytes (f .n) one-byte (f .inputs) (v .inputsBelow))
+      (bytes-before kindOutputs (f .outputs) _ (omega arith) (bytes (f .n) one-byte (f .outputs) (v .outputsBelow))
       (written-bytes kindMeasurements (f .measurements) (omega arith)
       (bytes (highestOf (f .mode) + 1) (few-measurements (eqb (f .mode) modeCausal) (eqb (f .mode) modePlanes)) (f .measurements) (allowed-below (f .mode) (has (f .outputs)) 0 (f .measurements) (v .allowed)))))))
