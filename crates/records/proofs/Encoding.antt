@@ -1,26 +1,28 @@
 -- The formats of jobs and flows are exact: what is written reads back, and of bytes nothing else is read.
 use Prim.Native.Nat.{ℕ, _+_, _*_, _≤_, _<_, zero-le}
 use mathlib.Core.Path.{_≡_, refl, sym, ap, _∙_}
-use mathlib.Core.Bool.{Bool, true}
+use mathlib.Core.Bool.{Bool, true, false, cond, Bool·beq}
 use mathlib.Core.Logic.{_↔_}
 use mathlib.Core.List.{List, [], _∷_, _++_}
 use native.Mathlib.Omega.{arith}
 use native.Mathlib.Nat.{mul-le-mul}
-use lib.Dec.{ltb}
+use borrow.Author.Tests.{eqb-true, eq-eqb}
+use lib.Dec.{ltb, eqb}
 use lib.ListN.{length, getD}
 use Rattle.nodes.proofs.Logic.{and-out}
 use Rattle.nodes.specs.Lists.{has, all}
 use Rattle.answers.specs.Answer.{Refusal, Answer, gives, refuses, _>>=_}
 use Rattle.answers.proofs.Answer.{give-inj, never, bind-out}
-use Rattle.records.specs.Records.{allYes, kindOpening, kindEdges, kindInputs, kindOutputs, kindMeasurements, kindLayers, kindSets, eachAsks}
+use Rattle.records.specs.Records.{allYes, written, kindOpening, kindEdges, kindInputs, kindOutputs, kindMeasurements, kindLayers, kindWideLayers, kindSets}
 use Rattle.records.specs.Format.{Front, front, PayloadFormat, plain, recordOf}
 use Rattle.records.specs.JobFile.{JobFile, mostNodes, openingAllowed, edgesAsks, nodesAsks, measurementsAsks, opening, JobValue, job, jobFile, jobValue, readJob}
-use Rattle.records.specs.FlowFile.{FlowFile, entriesOf, listed, allEntries, entryBelow, entriesRise, entryBytes, sets, FlowValue, flow, flowFile, flowValue, readFlow}
-use Rattle.records.specs.Encoding.{Bytes, jobBytes, ValidJob, ValidFlow}
-use Rattle.records.proofs.Records.{all-left, all-right, length-out}
+use Rattle.records.specs.FlowFile.{FlowFile, Layers, layerWidth, layerBytes, layerNumbers, layersAs, layers, entriesOf, listed, allEntries, entryBelow, entriesRise, entryBytes, sets, FlowValue, flow, flowFile, flowValue, readFlow}
+use Rattle.records.specs.Encoding.{Bytes, jobBytes, ValidJob, flowFileBytes, ValidFlow}
+use Rattle.records.proofs.Records.{all-left, all-right, length-out, length-in}
 use Rattle.records.proofs.JobFile.{allowed-out, allowed-in, opening-out, opening-in, edges-out, edges-in, nodes-out, nodes-in, measurements-out, measurements-in, rises-length, pairs-length}
 use Rattle.records.proofs.FlowFile.{entries-back, entries-encode, sets-out, sets-in, entries-few, entry-bytes-length}
-use Rattle.records.proofs.Format.{PayloadExact, Appends, Lawful, exact-iff, payload-bytes, record-appends, plain-exact, record-then-appends, record-lawful, _then-lawful_}
+use Rattle.records.proofs.Layers.{inPair, beq-self, beq-same, width-few, bytes-length, numbers-length, numbers-back, bytes-back, numbers-small}
+use Rattle.records.proofs.Format.{PayloadExact, Appends, Closed, Lawful, exact-iff, payload-bytes, record-appends, record-closed, record-starts, record-differs, plain-exact, then-closed, choice-closed, record-then-appends, record-lawful, _then-lawful_, choice-lawful}
 use Rattle.records.proofs.ReadingRefusals.{ReadingRefusal, numbered, Numbered, opening-numbered, edges-numbered, nodes-numbered, measurements-numbered, each-numbered, sets-numbered}
 
 -- ---- the payloads
@@ -40,10 +42,6 @@ opening-exact = record {
 -- a record is lawful where its payload is exact and its questions are numbered
 lawful : {A : Type 0} (kind : ℕ) (p : PayloadFormat A) → PayloadExact p → ((l : List ℕ) → Numbered (p .questions l)) → Lawful ReadingRefusal (recordOf kind p)
 lawful kind p x more = record-lawful ReadingRefusal kind p (numbered 1 refl) (numbered 2 refl) x more
-
--- so many bytes for each node
-each-lawful : (kind width n : ℕ) → width * n < 4294967296 → Lawful ReadingRefusal (recordOf kind (plain (eachAsks width n)))
-each-lawful kind width n h = lawful kind (plain (eachAsks width n)) (plain-exact (eachAsks width n) (λ p e. rw (length-out width n p e) h)) (each-numbered width n)
 
 -- nodes have numbers of one byte
 module _ (n : ℕ) (small : n ≤ 256) where
@@ -76,6 +74,30 @@ module _ (n : ℕ) (small : n ≤ 256) where
         (sets-in n es a b, ap listed (entries-back es), omega arith);
     out = λ l h e. sym (entries-encode l (listed (entriesOf l)) (sets-out n l e .0));
   }
+
+  layers-exact : (wide : Bool) → PayloadExact (layersAs wide n)
+  layers-exact wide = record {
+    valid = λ l e. rw (beq-self wide, eq-eqb (length (layerNumbers wide l)) n (numbers-length wide n l (length-out (layerWidth wide) n l e)));
+    into = λ a v.
+        let (k, c) = and-out (Bool·beq (a .wide) wide) (eqb (length (a .numbers)) n) v in
+        let long : length (layerBytes wide (a .numbers)) ≡ layerWidth wide * n = bytes-length wide (a .numbers) ∙ ap (λ (m : ℕ). layerWidth wide * m) (eqb-true (length (a .numbers)) n c) in
+        (length-in (layerWidth wide) n (layerBytes wide (a .numbers)) long, same a (beq-same (a .wide) wide k), rw long (width-few wide n (omega arith)));
+    out = λ l h e. bytes-back wide n l h (length-out (layerWidth wide) n l e);
+  }
+    where
+      same : (a : Layers) → a .wide ≡ wide → layersAs wide n .value (layerBytes wide (a .numbers)) ≡ a
+      same a e = rw (numbers-back wide (a .numbers), ← e)
+
+  layers-lawful : Lawful ReadingRefusal (layers n)
+  layers-lawful =
+      choice-lawful (record {
+        starts = record-starts kindWideLayers (layersAs true n);
+        differs = record-differs kindWideLayers kindLayers (layersAs false n) (λ e. omega arith);
+        seconds = λ l v. beq-same (l .wide) true (and-out (Bool·beq (l .wide) true) _ v .0);
+        firsts = λ l v. beq-same (l .wide) false (and-out (Bool·beq (l .wide) false) _ v .0);
+      })
+      (lawful kindLayers (layersAs false n) (layers-exact false) (each-numbered 1 n))
+      (lawful kindWideLayers (layersAs true n) (layers-exact true) (each-numbered 2 n))
 
 -- ---- what is made of a value that was read
 made-gives : {A F : Type 0} (m : Answer (Front A)) (make : Front A → F) (back : F → Front A) (x : F) → ((p : Front A) → back (make p) ≡ p) → (m >>= λ p. gives (make p)) ≡ gives x → m ≡ gives (back x)
@@ -173,7 +195,7 @@ job-append s g f e = job-reads (s ++ g) (behind f g) (job-appends .appends s (jo
 -- ---- a flow
 flow-lawful : (n : ℕ) → n ≤ mostNodes → Lawful ReadingRefusal (flow n)
 flow-lawful n h =
-    each-lawful kindLayers 1 n (omega arith) then-lawful λ l v.
+    layers-lawful n (omega arith) then-lawful λ l v.
     lawful kindSets (sets n) (sets-exact n (omega arith)) (sets-numbered n)
 
 flow-decoded : (n : ℕ) (s : List ℕ) (g : FlowFile) → readFlow n s ≡ gives g → flow n .decode s ≡ gives (front (flowValue g) (g .after))
@@ -186,9 +208,20 @@ flow-reads n s g e = ap (λ (m : Answer (Front FlowValue)). m >>= λ p. gives (f
 
 flow-valid-out : (n : ℕ) (g : FlowFile) → flow n .valid (flowValue g) ≡ true → ValidFlow n g
 flow-valid-out n g v =
-    let (l, w) = and-out (allYes (eachAsks 1 n (g .layers))) _ v in
+    let (l, w) = and-out (layers n .valid (flowValue g .0)) _ v in
     let (a, b) = and-out (allEntries (entryBelow n) (g .sets)) (entriesRise 0 (g .sets)) w in
-    record { count = omega (arith, length-out 1 n (g .layers) l); below = a; rise = b }
+    record { count = counted (g .wide) l; below = a; rise = b }
+  where
+    counted : (wide : Bool) → cond wide (layersAs true n .valid (flowValue g .0)) (layersAs false n .valid (flowValue g .0)) ≡ true → length (g .layers) ≡ n
+    counted true v = eqb-true (length (g .layers)) n (and-out (Bool·beq (g .wide) true) _ v .1)
+    counted false v = eqb-true (length (g .layers)) n (and-out (Bool·beq (g .wide) false) _ v .1)
+
+flow-valid-in : (n : ℕ) (g : FlowFile) → ValidFlow n g → flow n .valid (flowValue g) ≡ true
+flow-valid-in n g v = rw (counted (g .wide) refl, v .below, v .rise)
+  where
+    counted : (wide : Bool) → g .wide ≡ wide → cond wide (layersAs true n .valid (flowValue g .0)) (layersAs false n .valid (flowValue g .0)) ≡ true
+    counted true e = rw (e, eq-eqb (length (g .layers)) n (v .count))
+    counted false e = rw (e, eq-eqb (length (g .layers)) n (v .count))
 
 pub flow-exact : (n : ℕ) (s : List ℕ) (g : FlowFile) → n ≤ mostNodes → Bytes s
     → (readFlow n s ≡ gives g ↔ (s ≡ flow n .encode (flowValue g) ++ g .after) × (flow n .valid (flowValue g) ≡ true) × (flow n .mayFollow (flowValue g) (g .after) ≡ true))
@@ -196,11 +229,17 @@ flow-exact n s g k h =
     let (there, back) = exact-iff (flow n) (flow-lawful n k .exact) s (flowValue g) (g .after) h in
     (λ e. there (flow-decoded n s g e), λ x. flow-reads n s g (back x))
 
--- the layers that were read of bytes are bytes
-pub flow-layers : (n : ℕ) (s : List ℕ) (g : FlowFile) → n ≤ mostNodes → Bytes s → readFlow n s ≡ gives g → Bytes (g .layers)
+-- the layers that were read of bytes are below 65,536
+pub flow-layers : (n : ℕ) (s : List ℕ) (g : FlowFile) → n ≤ mostNodes → Bytes s → readFlow n s ≡ gives g → all inPair (g .layers) ≡ true
 flow-layers n s g k h e =
-    payload-bytes kindLayers (g .layers) _
-    (all-left (λ b. ltb b 256) (flow n .encode (flowValue g)) (g .after) (sym (ap (all (λ b. ltb b 256)) (flow-exact n s g k h .0 e .0)) ∙ h))
+    by (g .wide) (all-left (λ b. ltb b 256) (flow n .encode (flowValue g)) (g .after) (sym (ap (all (λ b. ltb b 256)) (flow-exact n s g k h .0 e .0)) ∙ h))
+  where
+    small : (wide : Bool) → Bytes (layerBytes wide (g .layers)) → all inPair (g .layers) ≡ true
+    small wide b = sym (ap (all inPair) (numbers-back wide (g .layers))) ∙ numbers-small wide (layerBytes wide (g .layers)) b
+
+    by : (wide : Bool) → Bytes (cond wide (written kindWideLayers (layerBytes true (g .layers))) (written kindLayers (layerBytes false (g .layers))) ++ written kindSets (entryBytes (g .sets))) → all inPair (g .layers) ≡ true
+    by true b = small true (payload-bytes kindWideLayers (layerBytes true (g .layers)) _ b)
+    by false b = small false (payload-bytes kindLayers (layerBytes false (g .layers)) _ b)
 
 pub flow-asked : (n : ℕ) (s : List ℕ) (g : FlowFile) → n ≤ mostNodes → readFlow n s ≡ gives g → ValidFlow n g
 flow-asked n s g k e = flow-valid-out n g (flow-lawful n k .exact .sound .valid s (flowValue g) (g .after) (flow-decoded n s g e))
@@ -209,6 +248,10 @@ pub flow-refuses : (n : ℕ) (s : List ℕ) (r : Refusal) → n ≤ mostNodes �
 unfolding readFlow
 flow-refuses n s r k e = flow-lawful n k .refusing .refused s r (made-refuses (flow n .decode s) flowFile r e)
 
--- read back, also where its layers are no bytes
-pub flow-decodes : (n : ℕ) (g : FlowFile) → n ≤ mostNodes → flow n .valid (flowValue g) ≡ true → flow n .mayFollow (flowValue g) (g .after) ≡ true → readFlow n (flow n .encode (flowValue g) ++ g .after) ≡ gives g
-flow-decodes n g h v w = flow-reads n (flow n .encode (flowValue g) ++ g .after) g (flow-lawful n h .exact .decodes (flowValue g) (g .after) v w)
+-- anything may follow it
+flow-closed : (n : ℕ) → Closed (flow n)
+flow-closed n = then-closed (layers n) _ (choice-closed (λ l. l .wide) _ kindWideLayers _ (record-closed kindLayers (layersAs false n)) (record-closed kindWideLayers (layersAs true n))) (λ l. record-closed kindSets (sets n))
+
+-- a valid flow is read back from its bytes, whatever its layers
+pub flow-decodes : (n : ℕ) (g : FlowFile) → n ≤ mostNodes → ValidFlow n g → readFlow n (flowFileBytes g ++ g .after) ≡ gives g
+flow-decodes n g h v = flow-reads n (flowFileBytes g ++ g .after) g (flow-lawful n h .exact .decodes (flowValue g) (g .after) (flow-valid-in n g v) (flow-closed n .closed (flowValue g) (g .after)))

@@ -311,6 +311,13 @@ module _ {A : Type 0} (second : A → Bool) (f : Format A) (kind : ℕ) (g : For
           let b : second a ≡ false = k .firsts a (x .sound .valid s a t e) in
           record { same = rw b (r .same); follows = rw b (r .follows); bytes = r .bytes }
 
+pub choice-closed : {A : Type 0} (second : A → Bool) (f : Format A) (kind : ℕ) (g : Format A) → Closed f → Closed g → Closed (choice second f kind g)
+choice-closed {A = A} second f kind g x y = record { closed = λ a t. by (second a) a t }
+  where
+    by : (b : Bool) (a : A) (t : List ℕ) → cond b (g .mayFollow a t) (f .mayFollow a t) ≡ true
+    by true a t = y .closed a t
+    by false a t = x .closed a t
+
 -- records of two kinds: what is left is left of the bytes, so the value follows from the kind
 module _ {A : Type 0} (second : A → Bool) (first kind : ℕ) (p q : PayloadFormat A) where
   -- neither kind stands there: question 1

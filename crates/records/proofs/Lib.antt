@@ -3,6 +3,7 @@ pub mod FlowFile
 pub mod Format
 pub mod JobFile
 pub mod JobLists
+pub mod Layers
 pub mod NodeLists
 pub mod PairKeys
 pub mod PairLists

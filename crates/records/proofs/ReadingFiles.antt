@@ -1,23 +1,24 @@
 -- For the reader of job and flow files: each from the records that it read one after the other.
 use Prim.Native.Nat.{ℕ, _≤_, zero-le}
 use mathlib.Core.Path.{_≡_, refl, sym, ap, subst, _∙_}
-use mathlib.Core.Bool.{true}
+use mathlib.Core.Bool.{Bool, true, false, cond}
 use mathlib.Core.List.{List, []}
 use lib.ListN.{getD, drop}
 use Rattle.nodes.specs.Lists.{has, all}
 use Rattle.answers.specs.Answer.{Answer, gives, _>>=_}
-use Rattle.records.specs.Records.{allYes, eachAsks, kindOpening, kindEdges, kindInputs, kindOutputs, kindMeasurements, kindLayers, kindSets}
+use Rattle.records.specs.Records.{allYes, eachAsks, kindOpening, kindEdges, kindInputs, kindOutputs, kindMeasurements, kindLayers, kindWideLayers, kindSets}
 use Rattle.records.specs.Format.{Front, front, plain, recordOf}
 use Rattle.records.specs.JobFile.{mostNodes, rises, openingAsks, edgesAsks, nodesAsks, measurementsAsks, Opening, opening, JobValue, job, jobFile, readJob}
-use Rattle.records.specs.FlowFile.{setsAsks, sets, FlowValue, flow, flowFile, readFlow}
-use Rattle.records.specs.Views.{startAt, restOf, placeOf, payloadOf, Next, jobOfRead, jobRead, JobPlaced, flowOfRead, flowRead, FlowPlaced}
+use Rattle.records.specs.FlowFile.{layersAs, layers, setsAsks, sets, FlowValue, flow, flowFile, readFlow}
+use Rattle.records.specs.Views.{startAt, restOf, placeOf, payloadOf, Next, NextChoice, jobOfRead, jobRead, JobPlaced, flowOfRead, flowRead, FlowPlaced}
 use Rattle.records.specs.declared.common.Place.{Place}
 use Rattle.records.specs.declared.common.JobPlaces.{JobPlaces}
 use Rattle.records.specs.declared.common.FlowPlaces.{FlowPlaces}
 use Rattle.records.specs.declared.reader.RecordRead.{RecordRead}
 use Rattle.records.specs.declared.reader.RecordRead.the-variants.{Payload, Refused as NoRecord}
+use Rattle.records.specs.declared.reader.Branch.{Branch}
 use Rattle.records.proofs.JobFile.{allowed-out, opening-out, nodes-in}
-use Rattle.records.proofs.Views.{Took, then-took, WasRead, next-took, next-placed, payload-passed}
+use Rattle.records.proofs.Views.{Took, then-took, WasRead, next-took, next-placed, choice-took, choice-placed, payload-passed}
 
 -- the record that was read, by its place
 last-read : (r : RecordRead) (p : Place) → r ≡ Payload p → WasRead r
@@ -84,23 +85,31 @@ module _ (s : List ℕ) where
         job-promised = (job-steps, job-placed)
 
   -- ---- a flow
-  module _ (at n : ℕ) (l e : RecordRead)
-      (hl : Next s (startAt at) kindLayers (eachAsks 1 n) l)
-      (he : Next s l kindSets (setsAsks n) e)
+  module _ (at n : ℕ) (l : Branch) (e : RecordRead)
+      (hl : NextChoice s (startAt at) kindLayers (eachAsks 1 n) kindWideLayers (eachAsks 2 n) l)
+      (he : Next s (l .read) kindSets (setsAsks n) e)
     where
       abbrev flow-value : FlowValue
-      flow-value = (payloadOf s l, sets n .value (payloadOf s e))
+      flow-value = (layersAs (l .taken) n .value (payloadOf s (l .read)), sets n .value (payloadOf s e))
 
       abbrev flow-last : RecordRead
       flow-last = e
 
       abbrev flow-places : FlowPlaces
-      flow-places = record { layers = placeOf l; sets = placeOf e; end = placeOf flow-last .end }
+      flow-places = record { wide = l .taken; layers = placeOf (l .read); sets = placeOf e; end = placeOf flow-last .end }
+
+      layers-took : Took (layers n) (gives (drop at s)) (layersAs (l .taken) n .value (payloadOf s (l .read))) (restOf s (l .read))
+      layers-took = by (l .taken) (choice-took s (λ l. l .wide) kindLayers kindWideLayers (layersAs false n) (layersAs true n) (startAt at) l (hl .0))
+        where
+          by : (c : Bool) → Took (layers n) (gives (drop at s)) (cond c (layersAs true n .value (payloadOf s (l .read))) (layersAs false n .value (payloadOf s (l .read)))) (restOf s (l .read))
+              → Took (layers n) (gives (drop at s)) (layersAs c n .value (payloadOf s (l .read))) (restOf s (l .read))
+          by true h = h
+          by false h = h
 
       flow-took : Took (flow n) (gives (drop at s)) flow-value (restOf s flow-last)
       flow-took =
-          then-took _ _ (next-took s kindLayers (plain (eachAsks 1 n)) (startAt at) l hl) (
-          next-took s kindSets (sets n) l e he)
+          then-took _ _ layers-took (
+          next-took s kindSets (sets n) (l .read) e he)
 
       flow-steps : flowOfRead s (flowRead flow-last flow-places) ≡ readFlow n (drop at s)
       unfolding readFlow
@@ -116,9 +125,9 @@ module _ (s : List ℕ) where
           by : (r : RecordRead) → flow-last ≡ r → FlowPlaced s at (flowRead r flow-places)
           by (NoRecord q) h = tt
           by (Payload p) h =
-              let (wl, pe, b) = next-placed s _ _ l e he (last-read flow-last p h) in
-              let (ws, pl, _) = next-placed s _ _ (startAt at) l hl wl in
-              (rw (pe, pl) refl, b)
+              let (wl, pe, b) = next-placed s _ _ (l .read) e he (last-read flow-last p h) in
+              let (ws, kl, pl, _) = choice-placed s _ _ _ _ (startAt at) l hl wl in
+              (rw (pe, pl, kl) refl, b)
 
       pub flow-promised : (flowOfRead s (flowRead flow-last flow-places) ≡ readFlow n (drop at s)) × FlowPlaced s at (flowRead flow-last flow-places)
       flow-promised = (flow-steps, flow-placed)

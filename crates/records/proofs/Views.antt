@@ -12,10 +12,10 @@ use Rattle.nodes.specs.Lists.{all}
 use Rattle.answers.specs.Answer.{Refusal, Answer, gives, refuses, _>>=_}
 use Rattle.answers.specs.Refusals.{refusalOf}
 use Rattle.answers.specs.declared.Refusal as Code
-use Rattle.answers.proofs.Answer.{never}
+use Rattle.answers.proofs.Answer.{give-inj, never, bind-out}
 use Rattle.records.specs.Records.{carries, Part, allYes, part, checked}
 use Rattle.records.specs.Format.{Front, front, Format, PayloadFormat, plain, recordOf, decodeThen, _then_, optional, choice}
-use Rattle.records.specs.Views.{bytesAt, InFile, payloadFrom, keptAround, checkedOf, partAt, recordOfRead, RecordAt, restOf, placeOf, payloadOf, Next, startAt, someIf, optionalOfRead, optionalBehind, OptionalAt, NextOptional, marked, choiceOfRead, choiceBehind}
+use Rattle.records.specs.Views.{bytesAt, InFile, payloadFrom, keptAround, checkedOf, partAt, recordOfRead, RecordAt, restOf, placeOf, payloadOf, Next, startAt, someIf, optionalOfRead, optionalBehind, OptionalAt, NextOptional, marked, choiceOfRead, choiceBehind, NextChoice}
 use Rattle.records.specs.declared.common.Place.{Place}
 use Rattle.records.specs.declared.questions.Checked.{Checked}
 use Rattle.records.specs.declared.questions.Checked.the-variants.{Passed, Refused as NotPassed}
@@ -110,6 +110,12 @@ module _ (s : List ℕ) where
       by t true = bind-assoc (checked kind (q .questions) t) (marked true) value
       by t false = bind-assoc (checked first (p .questions) t) (marked false) value
 
+  -- it was the second just where its kind stands there
+  choice-kind : (first kind : ℕ) (questions others : List ℕ → Answer Bool) (t : List ℕ) (taken : Bool) (p u : List ℕ) → (c : Bool)
+      → cond c (checked kind others t >>= marked true) (checked first questions t >>= marked false) ≡ gives (front (taken, p) u) → taken ≡ c
+  choice-kind first kind questions others t taken p u true e = let (r, _, g) = bind-out (checked kind others t) (marked true) _ e in ap (λ (x : Front (Bool × List ℕ)). x .value .0) (sym (give-inj g))
+  choice-kind first kind questions others t taken p u false e = let (r, _, g) = bind-out (checked first questions t) (marked false) _ e in ap (λ (x : Front (Bool × List ℕ)). x .value .0) (sym (give-inj g))
+
   -- a payload that was read has passed its questions; else it is empty
   pub payload-passed : (kind : ℕ) (questions : List ℕ → Answer Bool) (read r : RecordRead) → Next s read kind questions r
       → (C : List ℕ → Type 0) → C [] → ((p : List ℕ) → allYes (questions p) ≡ true → C p) → C (payloadOf s r)
@@ -127,6 +133,17 @@ module _ (s : List ℕ) where
       → WasRead read × (placeOf r ≡ payloadFrom s (placeOf read .end)) × (placeOf r .end ≤ length s)
   next-placed kind questions read (Payload p) h w = (took-read read (Payload p) (next-took kind (plain questions) read (Payload p) h) w, h .1 .0, h .1 .1)
   next-placed kind questions read (NoRecord q) h w = absurd (never (ap (recordOfRead s) w))
+
+  -- the same of two kinds in one place, and which of them was read
+  pub choice-placed : (first kind : ℕ) (questions others : List ℕ → Answer Bool) (read : RecordRead) (b : Branch) → NextChoice s read first questions kind others b → WasRead (b .read)
+      → WasRead read × (b .taken ≡ carries kind (drop (placeOf read .end) s)) × (placeOf (b .read) ≡ payloadFrom s (placeOf read .end)) × (placeOf (b .read) .end ≤ length s)
+  choice-placed first kind questions others read b h w = by read (b .read) (h .0) (h .1) w
+    where
+      by : (read r : RecordRead) → choiceOfRead s (record { taken = b .taken; read = r }) ≡ choiceBehind s read first questions kind others → RecordAt s (placeOf read .end) r → WasRead r
+          → WasRead read × (b .taken ≡ carries kind (drop (placeOf read .end) s)) × (placeOf r ≡ payloadFrom s (placeOf read .end)) × (placeOf r .end ≤ length s)
+      by (Payload x) (Payload p) e l w = (refl, choice-kind first kind questions others (drop (x .end) s) (b .taken) (bytesAt p s) (drop (p .end) s) (carries kind (drop (x .end) s)) (sym e), l .0, l .1)
+      by (NoRecord q) (Payload p) e l w = absurd (never (sym e))
+      by read (NoRecord q) e l w = absurd (never (ap (recordOfRead s) w))
 
   -- an optional record lies there, or an empty place does
   pub optional-placed : (kind : ℕ) (questions : List ℕ → Answer Bool) (read : RecordRead) (b : Branch) → NextOptional s read kind questions b → WasRead (b .read)

@@ -1,5 +1,5 @@
 -- What the finder writes: read back it is the flow that was found; its bytes, its length; and 0013 is no flow file.
-use Prim.Native.Nat.{ℕ, zero, suc, _+_, _*_, _%_, _≤_, _<_, zero-le}
+use Prim.Native.Nat.{ℕ, zero, suc, _+_, _*_, _≤_, _<_, zero-le}
 use mathlib.Core.Path.{_≡_, refl, sym, ap, ap₂, _∙_}
 use mathlib.Core.Bool.{Bool, true, false, cond, not, _&&_, _||_}
 use mathlib.Core.Logic.{_⊎_, inl, inr, _≢_}
@@ -18,15 +18,16 @@ use Rattle.nodes.proofs.Members.{members-snoc}
 use Rattle.flows.specs.Job.{Job}
 use Rattle.flows.specs.Search.{Progress}
 use Rattle.answers.specs.Answer.{gives}
-use Rattle.records.specs.Records.{headBytes, part, checked, written, kindLayers, kindSets, kindNoFlow}
+use Rattle.records.specs.Records.{headBytes, part, checked, written, kindWideLayers, kindSets, kindNoFlow, inTwoBytes}
 use Rattle.nodes.specs.Lists.{has, listOf, all}
 use Rattle.records.specs.Format.{decodeThen}
 use Rattle.records.specs.JobFile.{mostNodes, rises}
 use Rattle.records.specs.FlowFile.{SetEntry, allEntries, entryBelow, entriesRise, entryBytes, FlowFile, readFlow, setIn, entryIn, flowOf}
 use Rattle.records.specs.Encoding.{Bytes, flowFileBytes, flowWith, ValidFlow, entriesFor, foundFlow}
-use Rattle.records.specs.Writing.{layerBytes, flowBytes, mostOutput}
+use Rattle.records.specs.Writing.{flowBytes, mostOutput}
 use Rattle.answers.proofs.Answer.{never}
-use Rattle.records.proofs.Records.{length-in, all-append, all-more, written-bytes}
+use Rattle.records.proofs.Records.{all-append, all-more, written-bytes}
+use Rattle.records.proofs.Layers.{inPair, in-bytes}
 use Rattle.records.proofs.Encoding.{flow-decodes}
 use Rattle.records.proofs.WritingLoops.{two-records, flow-length}
 use Rattle.records.proofs.JobFile.{rises-none, rises-out, rises-in, rises-length}
@@ -145,30 +146,20 @@ entry-bytes low n (e ∷ es) h a b =
 
 -- a valid flow of two records
 module _ (n : ℕ) (layers : List ℕ) (es : List SetEntry) (v : ValidFlow n (flowWith layers es)) where
-  -- bytes, where its layers are
-  flow-file-bytes : n < 256 → Bytes layers → Bytes (flowFileBytes (flowWith layers es))
+  -- bytes, where its layers are below 65,536
+  pub flow-file-bytes : n < 256 → all inPair layers ≡ true → Bytes (flowFileBytes (flowWith layers es))
   flow-file-bytes h a =
       ap (all (λ b. ltb b 256)) (two-records layers es)
-      ∙ all-append (λ b. ltb b 256) (written kindLayers layers) (written kindSets (entryBytes es))
-      (written-bytes kindLayers layers (omega arith) a)
+      ∙ all-append (λ b. ltb b 256) (written kindWideLayers (inTwoBytes layers)) (written kindSets (entryBytes es))
+      (written-bytes kindWideLayers (inTwoBytes layers) (omega arith) (in-bytes layers a))
       (written-bytes kindSets (entryBytes es) (omega arith) (entry-bytes 0 n es h (v .below) (v .rise)))
 
-  flow-file-length : length (flowFileBytes (flowWith layers es)) ≤ 2 * headBytes + n + n * (n + 2)
+  flow-file-length : length (flowFileBytes (flowWith layers es)) ≤ 2 * headBytes + 2 * n + n * (n + 2)
   flow-file-length =
       let few : length es + 0 ≤ n = entries-few 0 n es zero-le (v .below) (v .rise) in
       let long : length (entryBytes es) ≤ length es * (n + 2) = entry-bytes-length 0 n es (v .below) (v .rise) in
       let most : length es * (n + 2) ≤ n * (n + 2) = mul-le-mul {n₁ = length es} {m₁ = n + 2} {n₂ = n} {m₂ = n + 2} (omega arith) (omega arith) in
       omega (arith, v .count, flow-length layers es)
-
--- layers of one byte are written as they are
-pub layers-same : (l : List ℕ) → Bytes l → layerBytes l ≡ l
-unfolding all
-layers-same [] a = refl
-layers-same (x ∷ l) a =
-    let (p, q) = and-out (ltb x 256) (all (λ b. ltb b 256) l) a in
-    let h : x < 256 = ltb-true x 256 p in
-    let e : x % 256 ≡ x = omega arith in
-    rw (e, layers-same l q)
 
 -- ---- the finder's file
 module _ (j : Job) (s : Progress) where
@@ -181,7 +172,7 @@ module _ (j : Job) (s : Progress) where
 
   -- it is read back
   pub found-reads : j .nodes ≤ mostNodes → readFlow (j .nodes) (flowBytes j (some s)) ≡ gives (foundFlow j s)
-  found-reads h = ap (readFlow (j .nodes)) (sym (append-nil (flowFileBytes (foundFlow j s)))) ∙ flow-decodes (j .nodes) (foundFlow j s) h (rw (length-in 1 (j .nodes) (foundFlow j s .layers) (omega (arith, found-valid .count)), found-valid .below, found-valid .rise)) refl
+  found-reads h = ap (readFlow (j .nodes)) (sym (append-nil (flowFileBytes (foundFlow j s)))) ∙ flow-decodes (j .nodes) (foundFlow j s) h found-valid
 
   -- as the flow that was found
   pub found-layer : (u : ℕ) → u < j .nodes → flowOf (foundFlow j s) .layer u ≡ s .layer u
@@ -198,11 +189,11 @@ module _ (j : Job) (s : Progress) where
       ∙ ap₂ _&&_ (members-has (j .nodes) (λ u. not (j .output u)) u ∙ ap (λ (b : Bool). b && not (j .output u)) (ltb-yes u (j .nodes) h))
       (members-has (j .nodes) (s .set u) k ∙ ap (λ (b : Bool). b && s .set u k) (ltb-yes k (j .nodes) l))
 
-  pub found-bytes : j .nodes ≤ mostNodes → ((u : ℕ) → u < j .nodes → s .layer u < 256) → Bytes (flowBytes j (some s))
+  pub found-bytes : j .nodes ≤ mostNodes → ((u : ℕ) → u < j .nodes → s .layer u < 65536) → Bytes (flowBytes j (some s))
   found-bytes h a =
-      flow-file-bytes (j .nodes) _ _ found-valid (omega arith) (list-all (j .nodes) (s .layer) (λ b. ltb b 256) (λ k l. lt-ltb (s .layer k) 256 (a k l)))
+      flow-file-bytes (j .nodes) _ _ found-valid (omega arith) (list-all (j .nodes) (s .layer) inPair (λ k l. lt-ltb (s .layer k) 65536 (a k l)))
 
-  pub found-length : length (flowBytes j (some s)) ≤ 2 * headBytes + j .nodes + j .nodes * (j .nodes + 2)
+  pub found-length : length (flowBytes j (some s)) ≤ 2 * headBytes + 2 * j .nodes + j .nodes * (j .nodes + 2)
   found-length = flow-file-length (j .nodes) _ _ found-valid
 
   pub found-most : j .nodes ≤ mostNodes → length (flowBytes j (some s)) ≤ mostOutput

@@ -1,5 +1,5 @@
 -- For the writer: what is left to write from here on makes the whole.
-use Prim.Native.Nat.{ℕ, suc, _+_, _*_, _-_, _≤_, _<_}
+use Prim.Native.Nat.{ℕ, suc, _+_, _*_, _-_, _/_, _%_, _≤_, _<_}
 use mathlib.Core.Path.{_≡_, refl, sym, ap, ap₂, _∙_}
 use mathlib.Core.Bool.{Bool}
 use Rattle.answers.specs.Answer.{gives, refuses, refusal}
@@ -16,13 +16,14 @@ use Rattle.nodes.specs.NodeSet.{capacity}
 use Rattle.nodes.proofs.Count.{count-empty, count-le}
 use Rattle.nodes.proofs.Members.{members-length, lowest-some}
 use Rattle.nodes.proofs.Remove.{removed, count-lowest, members-cons}
-use Rattle.records.specs.Records.{headBytes, headOf, written, kindLayers, kindSets}
+use Rattle.records.specs.Records.{headBytes, headOf, written, kindWideLayers, kindSets, inTwoBytes}
 use Rattle.records.specs.FlowFile.{SetEntry, entryBytes}
 use Rattle.records.specs.Encoding.{flowFileBytes, flowWith, entriesFor}
 use Rattle.records.specs.Writing.{setBytes}
 use Rattle.records.specs.Splice.{splice, putFront, putAnswer}
 use Rattle.records.proofs.Records.{written-length}
-use Rattle.records.proofs.Splice.{splice-next, splice-more, splice-cons, splice-splice}
+use Rattle.records.proofs.Layers.{in-length, in-append, in-one}
+use Rattle.records.proofs.Splice.{splice-none, splice-next, splice-more, splice-cons, splice-splice}
 
 -- ---- a payload, byte by byte
 pub bytes-more : (at i : ℕ) (b l m : List ℕ) → i < length b → at + length b ≤ length l → m ≡ splice at (take i b) l → splice (at + i) (getD b i 0 ∷ []) m ≡ splice at (take (i + 1) b) l
@@ -31,6 +32,27 @@ bytes-more at i b l m h r e =
   where
     place : at + i ≡ at + length (take i b)
     place = omega (arith, length-take-le i b (omega arith))
+
+    next : suc i ≡ i + 1
+    next = omega arith
+
+-- ---- the layers, number by number
+pub layers-none : (at : ℕ) (layers l : List ℕ) → splice at (inTwoBytes (take 0 layers)) l ≡ l
+unfolding inTwoBytes
+layers-none at layers l = splice-none at l
+
+pub layers-more : (at i : ℕ) (layers l m : List ℕ) → i < length layers → getD layers i 0 < 65536 → at + 2 * length layers ≤ length l → m ≡ splice at (inTwoBytes (take i layers)) l
+    → splice (at + 2 * i) (getD layers i 0 % 256 ∷ getD layers i 0 / 256 % 256 ∷ []) m ≡ splice at (inTwoBytes (take (i + 1) layers)) l
+layers-more at i layers l m h small room e =
+    ap (λ (b : List ℕ). splice (at + 2 * i) b m) two
+    ∙ splice-next at (at + 2 * i) (inTwoBytes (take i layers)) (inTwoBytes (x ∷ [])) l m (omega (arith, in-length (take i layers), length-take-le i layers (omega arith))) (omega (arith, in-length (x ∷ []))) e
+    ∙ ap (λ (b : List ℕ). splice at b l) (sym (in-append (take i layers) (x ∷ [])) ∙ ap inTwoBytes (sym (take-suc layers i 0 h) ∙ ap (λ (k : ℕ). take k layers) next))
+  where
+    x : ℕ
+    x = getD layers i 0
+
+    two : x % 256 ∷ x / 256 % 256 ∷ [] ≡ inTwoBytes (x ∷ [])
+    two = let high : x / 256 % 256 ≡ x / 256 = omega (arith, small) in ap (λ (k : ℕ). x % 256 ∷ k ∷ []) high ∙ sym (in-one x)
 
     next : suc i ≡ i + 1
     next = omega arith
@@ -114,18 +136,21 @@ unfolding written
 record-put at q kind p l m e h r = splice-next at q (headOf (length p) kind) p l m e h r
 
 -- the two records of a flow file
-pub two-records : (layers : List ℕ) (es : List SetEntry) → flowFileBytes (flowWith layers es) ≡ written kindLayers layers ++ written kindSets (entryBytes es)
+pub two-records : (layers : List ℕ) (es : List SetEntry) → flowFileBytes (flowWith layers es) ≡ written kindWideLayers (inTwoBytes layers) ++ written kindSets (entryBytes es)
 two-records layers es = refl
 
-pub records-put : (layers : List ℕ) (es : List SetEntry) (l m : List ℕ) (q : ℕ) → q ≡ headBytes + length layers → q + headBytes + length (entryBytes es) ≤ length l → m ≡ splice 0 (written kindLayers layers) l
+layers-length : (layers : List ℕ) → length (written kindWideLayers (inTwoBytes layers)) ≡ headBytes + 2 * length layers
+layers-length layers = omega (arith, written-length kindWideLayers (inTwoBytes layers), in-length layers)
+
+pub records-put : (layers : List ℕ) (es : List SetEntry) (l m : List ℕ) (q : ℕ) → q ≡ headBytes + 2 * length layers → q + headBytes + length (entryBytes es) ≤ length l → m ≡ splice 0 (written kindWideLayers (inTwoBytes layers)) l
     → splice q (written kindSets (entryBytes es)) m ≡ splice 0 (flowFileBytes (flowWith layers es)) l
 records-put layers es l m q e h r =
-    splice-next 0 q (written kindLayers layers) (written kindSets (entryBytes es)) l m (omega (arith, written-length kindLayers layers)) (omega (arith, written-length kindSets (entryBytes es))) r
+    splice-next 0 q (written kindWideLayers (inTwoBytes layers)) (written kindSets (entryBytes es)) l m (omega (arith, layers-length layers)) (omega (arith, written-length kindSets (entryBytes es))) r
     ∙ ap (λ (b : List ℕ). splice 0 b l) (sym (two-records layers es))
 
-pub flow-length : (layers : List ℕ) (es : List SetEntry) → length (flowFileBytes (flowWith layers es)) ≡ 2 * headBytes + length layers + length (entryBytes es)
+pub flow-length : (layers : List ℕ) (es : List SetEntry) → length (flowFileBytes (flowWith layers es)) ≡ 2 * headBytes + 2 * length layers + length (entryBytes es)
 flow-length layers es =
-    omega (arith, ap length (two-records layers es), length-append (written kindLayers layers) (written kindSets (entryBytes es)), written-length kindLayers layers, written-length kindSets (entryBytes es))
+    omega (arith, ap length (two-records layers es), length-append (written kindWideLayers (inTwoBytes layers)) (written kindSets (entryBytes es)), layers-length layers, written-length kindSets (entryBytes es))
 
 -- ---- the front of a buffer
 -- of the room for three lengths, what the first two leave

@@ -41,9 +41,9 @@ pub record ValidJob (f : JobFile) : Type 0 where
 abbrev pub flowFileBytes : FlowFile → List ℕ
 flowFileBytes g = flow (length (g .layers)) .encode (flowValue g)
 
--- a flow of these layers and entries, and of nothing more
+-- a flow of these layers, in the kind that the finder writes, and entries, and of nothing more
 abbrev pub flowWith : List ℕ → List SetEntry → FlowFile
-flowWith layers es = record { layers = layers; sets = es; after = [] }
+flowWith layers es = record { wide = true; layers = layers; sets = es; after = [] }
 
 -- what reading has asked, for n nodes
 pub record ValidFlow (n : ℕ) (g : FlowFile) : Type 0 where

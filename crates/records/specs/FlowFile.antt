@@ -1,14 +1,14 @@
 -- Reading a flow file: the records of layers and of sets, and the questions 8 and 9 that follow.
 use Prim.Native.Nat.{ℕ, zero, suc, _+_}
-use mathlib.Core.Bool.{Bool, true, false, cond, not, _&&_, _||_}
+use mathlib.Core.Bool.{Bool, true, false, cond, not, _&&_, _||_, Bool·beq}
 use mathlib.Core.Option.{Option, none, some}
 use mathlib.Core.List.{List, [], _∷_, _++_}
 use lib.Dec.{eqb, ltb, leb}
 use lib.ListN.{length, getD, take, drop}
 use Rattle.nodes.specs.Options.{isSome}
 use Rattle.answers.specs.Answer.{Answer, gives, asks, _>>=_, _>>_}
-use Rattle.records.specs.Format.{Front, Format, PayloadFormat, plain, recordOf, _then_}
-use Rattle.records.specs.Records.{kindLayers, kindSets, eachAsks}
+use Rattle.records.specs.Format.{Front, Format, PayloadFormat, recordOf, _then_, choice}
+use Rattle.records.specs.Records.{kindLayers, kindWideLayers, kindSets, eachAsks, inTwoBytes, fromTwoBytes}
 use Rattle.nodes.specs.Lists.{has}
 use Rattle.records.specs.JobFile.{nodesBelow, rises, modeCausal}
 
@@ -58,10 +58,39 @@ setsAsks n p = do
   asks 5 (allEntries (entryBelow n) (listed (entriesOf p)))
   asks 6 (entriesRise 0 (listed (entriesOf p)))
 
+-- the layers, as numbers, and whether their kind is the wide one
 pub record FlowFile : Type 0 where
+  pub wide : Bool
   pub layers : List ℕ
   pub sets : List SetEntry
   pub after : List ℕ
+
+-- ---- the layers of the nodes: of kind 0011 a byte each, of the wide kind 0021 two
+-- the numbers, and which kind holds them
+pub record Layers : Type 0 where
+  pub wide : Bool
+  pub numbers : List ℕ
+
+abbrev pub layerWidth : Bool → ℕ
+layerWidth wide = cond wide 2 1
+
+abbrev pub layerBytes : (wide : Bool) → List ℕ → List ℕ
+layerBytes wide numbers = cond wide (inTwoBytes numbers) numbers
+
+abbrev pub layerNumbers : (wide : Bool) → List ℕ → List ℕ
+layerNumbers wide p = cond wide (fromTwoBytes p) p
+
+abbrev pub layersAs : (wide : Bool) (n : ℕ) → PayloadFormat Layers
+layersAs wide n = record {
+  valid = λ l. Bool·beq (l .wide) wide && eqb (length (l .numbers)) n;
+  encode = λ l. layerBytes wide (l .numbers);
+  questions = eachAsks (layerWidth wide) n;
+  value = λ p. record { wide = wide; numbers = layerNumbers wide p };
+}
+
+-- either kind, in one place
+abbrev pub layers : ℕ → Format Layers
+layers n = choice (λ l. l .wide) (recordOf kindLayers (layersAs false n)) kindWideLayers (recordOf kindWideLayers (layersAs true n))
 
 -- ---- a flow: the records of layers and of sets
 -- node, count and members of each entry
@@ -78,18 +107,18 @@ sets n = record {
 }
 
 abbrev pub FlowValue : Type 0
-FlowValue = List ℕ × List SetEntry
+FlowValue = Layers × List SetEntry
 
 abbrev pub flow : ℕ → Format FlowValue
 flow n =
-    recordOf kindLayers (plain (eachAsks 1 n)) then λ layers.
+    layers n then λ l.
     recordOf kindSets (sets n)
 
 abbrev pub flowFile : Front FlowValue → FlowFile
-flowFile p = record { layers = p .value .0; sets = p .value .1; after = p .rest }
+flowFile p = record { wide = p .value .0 .wide; layers = p .value .0 .numbers; sets = p .value .1; after = p .rest }
 
 abbrev pub flowValue : FlowFile → FlowValue
-flowValue g = (g .layers, g .sets)
+flowValue g = (record { wide = g .wide; numbers = g .layers }, g .sets)
 
 unfoldable pub readFlow : ℕ → List ℕ → Answer FlowFile
 readFlow n s = flow n .decode s >>= λ p. gives (flowFile p)

@@ -36,6 +36,9 @@ kindAccepted = 0x0014
 abbrev pub kindRefusal : ℕ
 kindRefusal = 0x001F
 
+abbrev pub kindWideLayers : ℕ
+kindWideLayers = 0x0021
+
 -- the bytes of length and kind
 abbrev pub headBytes : ℕ
 headBytes = 6
@@ -78,6 +81,16 @@ checked kind questions s = do
 -- so many bytes for each of n nodes, and nothing more is asked
 unfoldable pub eachAsks : (width n : ℕ) → List ℕ → Answer Bool
 eachAsks width n p = asks 3 (eqb (length p) (width * n))
+
+-- numbers in two bytes each, lowest first
+unfoldable pub inTwoBytes : List ℕ → List ℕ
+inTwoBytes [] = []
+inTwoBytes (x ∷ l) = x % 256 ∷ x / 256 ∷ inTwoBytes l
+
+unfoldable pub fromTwoBytes : List ℕ → List ℕ
+fromTwoBytes [] = []
+fromTwoBytes (low ∷ []) = []
+fromTwoBytes (low ∷ high ∷ p) = (low + 256 * high) ∷ fromTwoBytes p
 
 -- the six bytes before a payload of that length
 abbrev pub headOf : (len kind : ℕ) → List ℕ

@@ -9,10 +9,10 @@ use Rattle.nodes.specs.Row.{count}
 use Rattle.nodes.specs.Lists.{has}
 use Rattle.answers.specs.Answer.{Answer, gives, refuses, _>>=_}
 use Rattle.answers.specs.Refusals.{refusalOf}
-use Rattle.records.specs.Records.{carries, lengthField, Part, allYes, checked, headBytes, eachAsks}
+use Rattle.records.specs.Records.{carries, lengthField, Part, allYes, checked, headBytes, eachAsks, kindWideLayers}
 use Rattle.records.specs.Format.{Front, front, plain, recordOf, optional}
 use Rattle.records.specs.JobFile.{JobFile, mostNodes, nodesBelow, openingAsks, edgesAsks, nodesAsks, measurementsAsks}
-use Rattle.records.specs.FlowFile.{FlowFile, entriesOf, listed, setsAsks}
+use Rattle.records.specs.FlowFile.{FlowFile, layerNumbers, entriesOf, listed, setsAsks}
 use Rattle.records.specs.declared.common.Place.{Place}
 use Rattle.records.specs.declared.common.JobPlaces.{JobPlaces}
 use Rattle.records.specs.declared.common.JobRead.{JobRead}
@@ -144,6 +144,9 @@ abbrev pub choiceBehind : List ℕ → RecordRead → ℕ → (List ℕ → Answ
 choiceBehind s read first questions second others =
     restOf s read >>= λ t. cond (carries second t) (checked second others t >>= marked true) (checked first questions t >>= marked false)
 
+abbrev pub NextChoice : List ℕ → RecordRead → ℕ → (List ℕ → Answer Bool) → ℕ → (List ℕ → Answer Bool) → Branch → Type 0
+NextChoice s read first questions second others b = (choiceOfRead s b ≡ choiceBehind s read first questions second others) × RecordAt s (placeOf read .end) (b .read)
+
 -- ---- a job
 abbrev pub jobAt : List ℕ → JobPlaces → JobFile
 jobAt s p = record {
@@ -191,7 +194,8 @@ JobPlaced s (NoJob q) = Unit
 -- ---- a flow
 abbrev pub flowAt : List ℕ → FlowPlaces → FlowFile
 flowAt s p = record {
-  layers = bytesAt (p .layers) s;
+  wide = p .wide;
+  layers = layerNumbers (p .wide) (bytesAt (p .layers) s);
   sets = listed (entriesOf (bytesAt (p .sets) s));
   after = drop (p .end) s;
 }
@@ -209,7 +213,7 @@ abbrev pub flowPlaces : List ℕ → (at : ℕ) → FlowPlaces
 flowPlaces s at =
     let layers = payloadFrom s at in
     let sets = payloadFrom s (layers .end) in
-    record { layers = layers; sets = sets; end = sets .end }
+    record { wide = carries kindWideLayers (drop at s); layers = layers; sets = sets; end = sets .end }
 
 abbrev pub FlowPlaced : List ℕ → (at : ℕ) → FlowRead → Type 0
 FlowPlaced s at (Flow p) = (p ≡ flowPlaces s at) × (p .end ≤ length s)

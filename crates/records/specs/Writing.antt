@@ -1,18 +1,14 @@
 -- What the finder writes for what its search found.
-use Prim.Native.Nat.{ℕ, _+_, _*_, _%_}
-use mathlib.Core.Bool.{Bool}
+use Prim.Native.Nat.{ℕ, _+_, _*_}
+use mathlib.Core.Bool.{Bool, true}
 use mathlib.Core.Option.{Option, none, some}
-use mathlib.Core.List.{List, [], map}
+use mathlib.Core.List.{List, []}
 use Rattle.flows.specs.Job.{Job}
 use Rattle.flows.specs.Search.{Progress}
 use Rattle.records.specs.Records.{headBytes, written, kindNoFlow}
 use Rattle.records.specs.JobFile.{mostNodes}
-use Rattle.records.specs.FlowFile.{entryBytes}
+use Rattle.records.specs.FlowFile.{layerWidth, entryBytes}
 use Rattle.records.specs.Encoding.{flowFileBytes, flowWith, entriesFor, foundFlow}
-
--- a byte for each layer: today's record of layers has no more, and the lowest byte is written
-abbrev pub layerBytes : List ℕ → List ℕ
-layerBytes layers = map (λ x. x % 256) layers
 
 -- entries of the nodes in the list
 abbrev pub setBytes : ℕ → (ℕ → ℕ → Bool) → List ℕ → List ℕ
@@ -29,4 +25,4 @@ flowBytes j (some s) = flowFileBytes (foundFlow j s)
 
 -- no file of a flow is longer: the heads of two records, a layer for each node, and entries of node, count and members
 abbrev pub mostOutput : ℕ
-mostOutput = 2 * headBytes + mostNodes + mostNodes * (mostNodes + 2)
+mostOutput = 2 * headBytes + layerWidth true * mostNodes + mostNodes * (mostNodes + 2)

@@ -12,6 +12,9 @@ pub const HEAD_BYTES: usize = 6;
 // The bytes of the opening: number of nodes and mode.
 pub(crate) const OPENING_BYTES: usize = 2;
 
+// The bytes of a layer of the wide kind.
+pub const WIDE_LAYER_BYTES: usize = 2;
+
 // The bytes of an entry's node and count.
 pub const ENTRY_HEAD_BYTES: usize = 2;
 
@@ -34,6 +37,8 @@ pub const KIND_NO_FLOW: u16 = 0x0013;
 pub const KIND_ACCEPTED: u16 = 0x0014;
 
 pub const KIND_REFUSAL: u16 = 0x001F;
+
+pub const KIND_WIDE_LAYERS: u16 = 0x0021;
 
 // As many nodes as a set can have.
 pub const MOST_NODES: usize = CAPACITY;
@@ -66,8 +71,9 @@ pub enum JobRead {
     Refused(Refusal),
 }
 
-// Where the payloads of a flow lie, and where it ends.
+// Where the payloads of a flow lie, whether its layers are of the wide kind, and where it ends.
 pub struct FlowPlaces {
+    pub wide: bool,
     pub layers: Place,
     pub sets: Place,
     pub end: usize,

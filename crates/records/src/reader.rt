@@ -3,13 +3,13 @@ ghost use mathlib.Core.Path.{_≡_};
 ghost use mathlib.Core.Bool.{_&&_};
 ghost use Prim.Native.Nat.{_+_, _<_, _≤_};
 ghost use lib.Dec.{leb};
-ghost use lib.ListN.{length, drop};
+ghost use lib.ListN.{length, getD, drop};
 ghost use Rattle.nodes.specs.NodeSet.{member, highest};
 ghost use Rattle.nodes.specs.Lists.{has};
-ghost use Rattle.records.specs.Records.{carries, lengthField, kindField, headBytes, part, checked};
+ghost use Rattle.records.specs.Records.{carries, lengthField, kindField, headBytes, part, checked, fromTwoBytes};
 ghost use Rattle.records.specs.JobFile.{readJob};
 ghost use Rattle.records.specs.FlowFile.{readFlow};
-ghost use Rattle.records.specs.Views.{asksOf, Granted, recordOfRead, recordBehind, startAt, placeOf, RecordAt, optionalOfRead, optionalBehind, OptionalAt, choiceOfRead, choiceBehind, jobOfRead, jobRead, JobPlaced, flowOfRead, flowRead, FlowPlaced};
+ghost use Rattle.records.specs.Views.{asksOf, Granted, recordOfRead, recordBehind, startAt, placeOf, RecordAt, optionalOfRead, optionalBehind, OptionalAt, choiceOfRead, choiceBehind, jobOfRead, jobRead, JobPlaced, flowAt, flowOfRead, flowRead, FlowPlaced};
 use crate::common::FlowPlaces;
 use crate::common::FlowRead;
 use crate::common::HEAD_BYTES;
@@ -22,7 +22,9 @@ use crate::common::KIND_MEASUREMENTS;
 use crate::common::KIND_OPENING;
 use crate::common::KIND_OUTPUTS;
 use crate::common::KIND_SETS;
+use crate::common::KIND_WIDE_LAYERS;
 use crate::common::Place;
+use crate::common::WIDE_LAYER_BYTES;
 use crate::common::byte_at;
 use crate::common::number;
 use crate::common::payload;
@@ -270,10 +272,19 @@ pub fn read_flow(file: &[u8], at: usize, n: usize) -> FlowRead
     ensures { λ r. ⌜ flowOfRead (now (file .entry)) r ≡ readFlow n (drop at (now (file .entry))) ⌝ }
     ensures { λ r. ⌜ FlowPlaced (now (file .entry)) at r ⌝ }
 {
-    let layers = next(file, start(at), KIND_LAYERS, Questions::Each(1, n));
-    let sets = next(file, layers, KIND_SETS, Questions::Sets(n));
+    let layers = choice(
+        file,
+        start(at),
+        KIND_LAYERS,
+        Questions::Each(1, n),
+        KIND_WIDE_LAYERS,
+        Questions::Each(WIDE_LAYER_BYTES, n),
+    );
+    let first = layers.read;
+    let sets = next(file, first, KIND_SETS, Questions::Sets(n));
     let places = FlowPlaces {
-        layers: place_of(layers),
+        wide: layers.taken,
+        layers: place_of(first),
         sets: place_of(sets),
         end: end_of(sets),
     };
@@ -281,6 +292,40 @@ pub fn read_flow(file: &[u8], at: usize, n: usize) -> FlowRead
 }
 
 // ---- What a payload holds.
+
+// How many layers the flow has.
+pub fn layer_count(file: &[u8], flow: FlowPlaces) -> usize
+    ensures { λ r. ⌜ r ≡ length (flowAt (now (file .entry)) flow .layers) ⌝ }
+{
+    let place = flow.layers;
+    let len = payload(file, place).len();
+    if flow.wide {
+        return len / WIDE_LAYER_BYTES;
+    }
+    len
+}
+
+// Of numbers in two bytes each the one at i; past the last it is 0.
+fn pair_at(bytes: &[u8], i: usize) -> u16
+    ensures { λ r. ⌜ r ≡ getD (fromTwoBytes (now (bytes .entry))) i 0 ⌝ }
+{
+    if i >= bytes.len() / 2 {
+        return 0;
+    }
+    bytes[2 * i] as u16 + 256 * bytes[2 * i + 1] as u16
+}
+
+// The layer of node u; past the last it is 0.
+pub fn layer_of(file: &[u8], flow: FlowPlaces, u: usize) -> u16
+    ensures { λ r. ⌜ r ≡ getD (flowAt (now (file .entry)) flow .layers) u 0 ⌝ }
+{
+    let place = flow.layers;
+    let bytes = payload(file, place);
+    if flow.wide {
+        return pair_at(bytes, u);
+    }
+    byte_at(bytes, u) as u16
+}
 
 // The nodes of a payload as a set; a set has no room for those past its highest.
 pub fn set_of(nodes: &[u8]) -> NodeSet

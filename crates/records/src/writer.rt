@@ -7,23 +7,24 @@ ghost use lib.ListN.{length};
 ghost use Rattle.nodes.specs.Row.{members, count};
 ghost use Rattle.nodes.specs.NodeSet.{member, capacity};
 ghost use Rattle.nodes.specs.SetTable.{setAt};
-ghost use Rattle.records.specs.Records.{headBytes, headOf, written, kindEdges, kindInputs, kindOutputs, kindMeasurements, kindLayers, kindSets};
+ghost use Rattle.records.specs.Records.{headBytes, headOf, written, kindEdges, kindInputs, kindOutputs, kindMeasurements, kindSets, kindWideLayers, inTwoBytes};
 ghost use Rattle.records.specs.Encoding.{jobBytes};
 ghost use Rattle.records.specs.JobLists.{pairsWith, pairsAmong, jobWith};
-ghost use Rattle.records.specs.Writing.{layerBytes, setBytes, flowRecords};
+ghost use Rattle.records.specs.Writing.{setBytes, flowRecords};
 ghost use Rattle.records.specs.Splice.{splice, putFront, putAnswer, putOf};
 ghost use Rattle.records.specs.Views.{keptAround};
 use crate::common::ENTRY_HEAD_BYTES;
 use crate::common::HEAD_BYTES;
 use crate::common::KIND_EDGES;
 use crate::common::KIND_INPUTS;
-use crate::common::KIND_LAYERS;
 use crate::common::KIND_MEASUREMENTS;
 use crate::common::KIND_OPENING;
 use crate::common::KIND_OUTPUTS;
 use crate::common::KIND_SETS;
+use crate::common::KIND_WIDE_LAYERS;
 use crate::common::OPENING_BYTES;
 use crate::common::Place;
+use crate::common::WIDE_LAYER_BYTES;
 use crate::common::payload;
 use nodes::utils::NodeSet;
 use nodes::utils::set_at;
@@ -78,24 +79,24 @@ fn put_record(out: &mut [u8], at: usize, kind: u16, payload: &[u8])
     put_bytes(out, at + HEAD_BYTES, payload);
 }
 
-// ---- The layers, a byte each: the lowest of a number.
+// ---- The layers, two bytes each.
 
 fn put_layers(out: &mut [u8], at: usize, layers: &[u16])
-    requires { ⌜ at + length (now layers) ≤ length (now out) ⌝ }
-    ensures { λ _. ⌜ now (out .exit) ≡ splice at (layerBytes (now (layers .entry))) (now (out .entry)) ⌝ }
+    requires { ⌜ at + 2 * length (now layers) ≤ length (now out) ⌝ }
+    ensures { λ _. ⌜ now (out .exit) ≡ splice at (inTwoBytes (now (layers .entry))) (now (out .entry)) ⌝ }
 {
     let mut i = 0;
     while i < layers.len() {
-        put_byte(out, at + i, (layers[i] % 256) as u8);
+        put_pair(out, at + 2 * i, layers[i] as usize);
         i += 1;
     }
 }
 
 fn put_layers_record(out: &mut [u8], layers: &[u16])
-    requires { ⌜ headBytes + length (now layers) ≤ length (now out) ⌝ }
-    ensures { λ _. ⌜ now (out .exit) ≡ splice 0 (written kindLayers (layerBytes (now (layers .entry)))) (now (out .entry)) ⌝ }
+    requires { ⌜ headBytes + 2 * length (now layers) ≤ length (now out) ⌝ }
+    ensures { λ _. ⌜ now (out .exit) ≡ splice 0 (written kindWideLayers (inTwoBytes (now (layers .entry)))) (now (out .entry)) ⌝ }
 {
-    put_head(out, 0, layers.len(), KIND_LAYERS);
+    put_head(out, 0, WIDE_LAYER_BYTES * layers.len(), KIND_WIDE_LAYERS);
     put_layers(out, HEAD_BYTES, layers);
 }
 
@@ -274,17 +275,17 @@ pub fn write_record(out: &mut [u8], kind: u16, payload: &[u8]) -> Put
 
 // A flow file: the layers, and an entry for each of the nodes.
 pub fn write_flow(out: &mut [u8], layers: &[u16], sets: &[u64], nodes: NodeSet) -> Put
-    ensures { λ r. ⌜ putOf r ≡ putAnswer (flowRecords (layerBytes (now (layers .entry))) capacity (setAt (now (sets .entry))) (members capacity (member nodes))) (now (out .entry)) ⌝ }
-    ensures { λ _. ⌜ now (out .exit) ≡ putFront (flowRecords (layerBytes (now (layers .entry))) capacity (setAt (now (sets .entry))) (members capacity (member nodes))) (now (out .entry)) ⌝ }
+    ensures { λ r. ⌜ putOf r ≡ putAnswer (flowRecords (now (layers .entry)) capacity (setAt (now (sets .entry))) (members capacity (member nodes))) (now (out .entry)) ⌝ }
+    ensures { λ _. ⌜ now (out .exit) ≡ putFront (flowRecords (now (layers .entry)) capacity (setAt (now (sets .entry))) (members capacity (member nodes))) (now (out .entry)) ⌝ }
 {
-    let n = layers.len();
-    let len = entries_len(sets, nodes);
-    if !room_for(out.len(), 2 * HEAD_BYTES, n, len) {
+    let first = WIDE_LAYER_BYTES * layers.len();
+    let second = entries_len(sets, nodes);
+    if !room_for(out.len(), 2 * HEAD_BYTES, first, second) {
         return Put::TooLong;
     }
     put_layers_record(out, layers);
-    put_sets_record(out, HEAD_BYTES + n, len, sets, nodes);
-    Put::Bytes(2 * HEAD_BYTES + n + len)
+    put_sets_record(out, HEAD_BYTES + first, second, sets, nodes);
+    Put::Bytes(2 * HEAD_BYTES + first + second)
 }
 
 // A job file: the edges among the nodes, inputs and outputs ascending.

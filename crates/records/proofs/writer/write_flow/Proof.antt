@@ -1,16 +1,16 @@
-use Prim.Native.Nat.{ℕ, _+_, _*_, _%_, _≤_}
+use Prim.Native.Nat.{ℕ, _+_, _*_, _≤_}
 use mathlib.Core.Path.{_≡_, sym, _∙_}
 use mathlib.Core.List.{List}
 use native.Mathlib.Omega.{arith}
 use borrow.Author.Tests.{leb-true, leb-false, not-true, not-false}
-use lib.ListN.{length, length-map}
+use lib.ListN.{length}
 use Rattle.nodes.specs.Row.{members}
 use Rattle.nodes.specs.NodeSet.{capacity, member}
 use Rattle.nodes.specs.SetTable.{setAt}
 use Rattle.records.specs.Records.{headBytes}
 use Rattle.records.specs.FlowFile.{SetEntry, entryBytes}
 use Rattle.records.specs.Encoding.{entriesFor}
-use Rattle.records.specs.Writing.{layerBytes, flowRecords}
+use Rattle.records.specs.Writing.{flowRecords}
 use Rattle.records.proofs.WritingLoops.{records-put, flow-length, put-fits, put-not}
 use borrow.Author.Needs.{needs}
 use Rattle.records.proofs.writer.write_flow.Statement.{statement}
@@ -21,13 +21,13 @@ abbrev entries : tie.Start → List SetEntry
 entries s = let a = s .args in entriesFor capacity (setAt (a .sets .now)) (members capacity (member (a .nodes)))
 
 abbrev result : tie.Start → List ℕ
-result s = let a = s .args in flowRecords (layerBytes (a .layers .now)) capacity (setAt (a .sets .now)) (members capacity (member (a .nodes)))
+result s = let a = s .args in flowRecords (a .layers .now) capacity (setAt (a .sets .now)) (members capacity (member (a .nodes)))
 
-result-length : (s : tie.Start) → length (result s) ≡ 2 * headBytes + length (s .args .layers .now) + length (entryBytes (entries s))
-result-length s = omega (arith, flow-length (layerBytes (s .args .layers .now)) (entries s), length-map (s .args .layers .now) (λ x. x % 256))
+result-length : (s : tie.Start) → length (result s) ≡ 2 * headBytes + 2 * length (s .args .layers .now) + length (entryBytes (entries s))
+result-length s = flow-length (s .args .layers .now) (entries s)
 
 abbrev size : (c : tie.After-room-for) → ℕ
-size c = 2 * headBytes + length (c .before .before .before .before .before .args .layers .now) + c .before .entries-len .result
+size c = 2 * headBytes + 2 * length (c .before .before .before .before .before .args .layers .now) + c .before .entries-len .result
 
 roomy : (c : tie.Else1) → size (c .before) ≤ length (c .before .before .before .before .before .before .args .out .now)
 roomy c = leb-true (size (c .before)) (length (c .before .before .before .before .before .before .args .out .now)) (sym (c .before .room-for .ensures) ∙ not-false _ (c .if1 .left))
@@ -56,14 +56,14 @@ returns-2 c =
     let second = c .before .before .put-sets-record in
     let len = c .before .before .before .before .before .before .before .before .before .before .entries-len in
     let room = roomy (c .before .before .before .before .before .before .before .before) in
-    let n : length (layerBytes (a .layers .now)) ≡ length (a .layers .now) = length-map (a .layers .now) _ in
-    put-fits (result s) (a .out .now) (second .last .0) (2 * headBytes + length (a .layers .now) + len .result) (omega (arith, len .ensures, result-length s)) (omega (arith, room))
-    (second .ensures ∙ records-put (layerBytes (a .layers .now)) (entries s) (a .out .now) (first .last .0) (headBytes + length (a .layers .now)) (omega arith) (omega (arith, room, len .ensures)) (first .ensures))
+    put-fits (result s) (a .out .now) (second .last .0) (2 * headBytes + 2 * length (a .layers .now) + len .result) (omega (arith, len .ensures, result-length s)) (omega (arith, room))
+    (second .ensures ∙ records-put (a .layers .now) (entries s) (a .out .now) (first .last .0) (headBytes + 2 * length (a .layers .now)) (omega arith) (omega (arith, room, len .ensures)) (first .ensures))
 
 pub write-flow-spec : {M : Type 1} → statement M
 write-flow-spec =
     tie.close
     (tie.spec
+    (λ c. search needs)
     (λ c κs. search needs)
     (λ c. search needs)
     (λ c κs. search needs)
