@@ -15,7 +15,7 @@ use Rattle.flows.specs.Job.{Job, odd, own, planeXY, planeYZ, planeXZ}
 use Rattle.flows.specs.Branch.{branches, firstSolvable}
 use Rattle.flows.specs.Search.{rounds}
 use Rattle.answers.specs.Answer.{gives}
-use Rattle.records.specs.Records.{lengthField, part, checked, written, eachAsks}
+use Rattle.records.specs.Records.{lengthField, part, checked, written, eachAsks, inTwoBytes, fromTwoBytes}
 use Rattle.nodes.specs.Lists.{has, listOf, all}
 use Rattle.records.specs.Format.{decodeThen}
 use Rattle.records.specs.JobFile.{JobFile, modeCausal, modePlanes, modePauli, rises, pairsRise, allows, allAllowed, openingAsks, edgesAsks, nodesAsks, measurementsAsks, readJob, hasEdge, jobOf}
@@ -172,7 +172,7 @@ all-hold : AllHold cases × AllHold differences
 unfolding
     bit parity anyBelow allBelow count lowestFrom membersFrom solve entryOf digits listOf matrixFits bothFit wellShaped solveAsks own branches firstSolvable rounds
     lengthField part checked decodeThen written all has rises pairsRise allows allAllowed openingAsks edgesAsks nodesAsks measurementsAsks readJob hasEdge
-    entriesIn allEntries entryBelow entriesRise entryBytes eachAsks setsAsks readFlow setIn entryIn ask eachFrom nodeAsk causalAsk verify entriesFor findAsks verifyAsks findProgram verifyProgram equal
+    entriesIn allEntries entryBelow entriesRise entryBytes eachAsks inTwoBytes fromTwoBytes setsAsks readFlow setIn entryIn ask eachFrom nodeAsk causalAsk verify entriesFor findAsks verifyAsks findProgram verifyProgram equal
 all-hold = (
   (record { lower = tt }, ((fileF 2, itself (1 ∷ 0 ∷ []), refl, (refl, refl), forbidden 2), record { lower = tt })),
   (

@@ -1,4 +1,4 @@
--- Every refusal of `findAsks` and `verifyAsks`, specs/Calls, has a number from 1 to 19 and a byte a; its b is a byte too, where the
+-- Every refusal of `findAsks` and `verifyAsks`, specs/Calls, has a number from 1 to 19 and a byte a; its b fits two bytes, where the
 -- file holds bytes.
 use Prim.Native.Nat.{ℕ, zero, suc, _+_, _≤_, _<_}
 use mathlib.Core.Path.{_≡_, refl}
@@ -25,7 +25,7 @@ pub record Numbered (bytes : Type 0) (r : Refusal) : Type 0 where
   pub number : 1 ≤ r .number
   pub before : r .number < 20
   pub a : r .a < 256
-  pub b : bytes → r .b < 256
+  pub b : bytes → r .b < 65536
 
 -- ---- the calls
 module _ (bytes : Type 0) where
@@ -85,7 +85,7 @@ module _ (bytes : Type 0) where
   unfolding Asked
   nothing = tt
 
-  asked : (c : Bool) (q a b : ℕ) → 1 ≤ q → q < 20 → a < 256 → (bytes → b < 256) → Asked (ask c q a b)
+  asked : (c : Bool) (q a b : ℕ) → 1 ≤ q → q < 20 → a < 256 → (bytes → b < 65536) → Asked (ask c q a b)
   unfolding Asked ask
   asked true q a b h e g f = tt
   asked false q a b h e g f = record { number = h; before = e; a = g; b = f }
@@ -107,7 +107,7 @@ module _ (bytes : Type 0) where
       from i zero l = nothing
       from i (suc k) l = next-asked (f i) (eachFrom (i + 1) k f) (h i (omega arith)) (from (i + 1) k (omega arith))
 
-  module _ (j : Job) (f : Flow) (few : j .nodes ≤ mostNodes) (small : bytes → (u : ℕ) → u < j .nodes → f .layer u < 256) where
+  module _ (j : Job) (f : Flow) (few : j .nodes ≤ mostNodes) (small : bytes → (u : ℕ) → u < j .nodes → f .layer u < 65536) where
     every : (ask : ℕ → Option Refusal) → ((v : ℕ) → v < j .nodes → Asked (ask v)) → Asked (each (j .nodes) ask)
     every = each-asked (j .nodes)
 
@@ -157,10 +157,10 @@ module _ (bytes : Type 0) where
   verdict-numbered none t = tt
   verdict-numbered (some r) t = t
 
--- the layers that were read of bytes are bytes
-layer-small : (file : List ℕ) (f : JobFile) (g : FlowFile) → readJob file ≡ gives f → readFlow (f .n) (f .after) ≡ gives g → Bytes file → (u : ℕ) → u < f .n → flowOf g .layer u < 256
+-- the layers that were read of bytes fit two
+layer-small : (file : List ℕ) (f : JobFile) (g : FlowFile) → readJob file ≡ gives f → readFlow (f .n) (f .after) ≡ gives g → Bytes file → (u : ℕ) → u < f .n → flowOf g .layer u < 65536
 layer-small file f g e h b u l =
-    below-at 256 (g .layers) u (flow-layers (f .n) (f .after) g (job-asked file f e .few) (job-after file f b e) h) (omega (arith, flow-asked (f .n) (f .after) g (job-asked file f e .few) h .count))
+    below-at 65536 (g .layers) u (flow-layers (f .n) (f .after) g (job-asked file f e .few) (job-after file f b e) h) (omega (arith, flow-asked (f .n) (f .after) g (job-asked file f e .few) h .count))
 
 pub verify-numbered : (file : List ℕ) → AllNumbered (Bytes file) (verifyAsks file)
 unfolding verifyAsks

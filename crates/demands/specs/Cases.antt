@@ -9,7 +9,7 @@ use lib.Dec.{T}
 use Rattle.answers.specs.Answer.{Answer, gives, refuses}
 use Rattle.nodes.specs.Lists.{equal, listOf}
 use Rattle.solver.specs.Solver as Solver
-use Rattle.records.specs.Records.{written, kindOpening, kindEdges, kindInputs, kindOutputs, kindMeasurements, kindLayers, kindSets, kindNoFlow, kindAccepted, kindRefusal}
+use Rattle.records.specs.Records.{written, kindOpening, kindEdges, kindInputs, kindOutputs, kindMeasurements, kindWideLayers, kindSets, kindNoFlow, kindAccepted, kindRefusal, inTwoBytes}
 use Rattle.flows.specs.Job.{Job}
 use Rattle.records.specs.JobFile.{JobFile, readJob, jobOf}
 use Rattle.records.specs.FlowFile.{FlowFile, Flow, flowOf}
@@ -94,14 +94,15 @@ abbrev pub job : (n mode : ℕ) (edges inputs outputs measurements : List ℕ) �
 job n mode edges inputs outputs measurements =
     written kindOpening (n ∷ mode ∷ []) ++ written kindEdges edges ++ written kindInputs inputs ++ written kindOutputs outputs ++ written kindMeasurements measurements
 
+-- the layers in two bytes each, as the finder writes them
 abbrev pub flow : (layers sets : List ℕ) → List ℕ
-flow layers sets = written kindLayers layers ++ written kindSets sets
+flow layers sets = written kindWideLayers (inTwoBytes layers) ++ written kindSets sets
 
 abbrev pub noFlow : List ℕ
 noFlow = written kindNoFlow []
 
 abbrev pub refused : (number a b : ℕ) → List ℕ
-refused number a b = written kindRefusal (number ∷ a ∷ b ∷ [])
+refused number a b = written kindRefusal (number ∷ a ∷ inTwoBytes (b ∷ []))
 
 -- the bytes of case A as the paper has them
 abbrev pub jobA : List ℕ
@@ -109,7 +110,11 @@ jobA =
     2 ∷ 0 ∷ 0 ∷ 0 ∷ 1 ∷ 0 ∷ 2 ∷ 2 ∷ 2 ∷ 0 ∷ 0 ∷ 0 ∷ 2 ∷ 0 ∷ 0 ∷ 1 ∷ 1 ∷ 0 ∷ 0 ∷ 0 ∷ 3 ∷ 0 ∷ 0 ∷ 1 ∷ 0 ∷ 0 ∷ 0 ∷ 4 ∷ 0 ∷ 1 ∷ 2 ∷ 0 ∷ 0 ∷ 0 ∷ 5 ∷ 0 ∷ 1 ∷ 0 ∷ []
 
 abbrev pub flowA : List ℕ
-flowA = 2 ∷ 0 ∷ 0 ∷ 0 ∷ 0x11 ∷ 0 ∷ 1 ∷ 0 ∷ 3 ∷ 0 ∷ 0 ∷ 0 ∷ 0x12 ∷ 0 ∷ 0 ∷ 1 ∷ 1 ∷ []
+flowA = 4 ∷ 0 ∷ 0 ∷ 0 ∷ 0x21 ∷ 0 ∷ 1 ∷ 0 ∷ 0 ∷ 0 ∷ 3 ∷ 0 ∷ 0 ∷ 0 ∷ 0x12 ∷ 0 ∷ 0 ∷ 1 ∷ 1 ∷ []
+
+-- and as they were before layers had two bytes: still read
+abbrev pub oldFlowA : List ℕ
+oldFlowA = 2 ∷ 0 ∷ 0 ∷ 0 ∷ 0x11 ∷ 0 ∷ 1 ∷ 0 ∷ 3 ∷ 0 ∷ 0 ∷ 0 ∷ 0x12 ∷ 0 ∷ 0 ∷ 1 ∷ 1 ∷ []
 
 -- an edge, input 0 in YZ, output 1
 abbrev pub jobF : ℕ → List ℕ
@@ -141,7 +146,7 @@ abbrev pub isolatedFlow : ℕ → List ℕ
 isolatedFlow layer = flow (layer ∷ 0 ∷ []) (0 ∷ 1 ∷ 0 ∷ [])
 
 abbrev pub caseA : Case
-caseA = finder jobA flowA (flowA ∷ [])
+caseA = finder jobA flowA (flowA ∷ oldFlowA ∷ [])
 
 abbrev pub caseB : Case
 caseB = finder (job 0 2 [] [] [] []) (flow [] []) (flow [] [] ∷ [])
@@ -189,8 +194,12 @@ caseL = solver (bits 6 0 ++ bits 3 0) 2 2 1 0 true (bits 3 0)
 abbrev pub caseM : Case
 caseM = verifier (path 2 1 1) (pathFlow 1 1 0) (refused 18 0 1)
 
+-- 001F as the paper has it
+abbrev pub refusedN : List ℕ
+refusedN = 4 ∷ 0 ∷ 0 ∷ 0 ∷ 0x1F ∷ 0 ∷ 0x0F ∷ 1 ∷ 1 ∷ 0 ∷ []
+
 abbrev pub caseN : Case
-caseN = verifier jobA (flow (1 ∷ 1 ∷ []) (0 ∷ 1 ∷ 1 ∷ [])) (refused 15 1 1)
+caseN = verifier jobA (flow (1 ∷ 1 ∷ []) (0 ∷ 1 ∷ 1 ∷ [])) refusedN
 
 abbrev pub cases : List Case
 cases =

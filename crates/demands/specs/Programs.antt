@@ -1,9 +1,9 @@
 -- The two programs: what each writes for the bytes of its standard input.
-use Prim.Native.Nat.{ℕ, _%_}
+use Prim.Native.Nat.{ℕ}
 use mathlib.Core.List.{List, [], _∷_}
 use lib.ListN.{take}
 use Rattle.answers.specs.Answer.{Refusal, Answer, gives, refuses}
-use Rattle.records.specs.Records.{written, kindAccepted, kindRefusal}
+use Rattle.records.specs.Records.{written, kindAccepted, kindRefusal, inTwoBytes}
 use Rattle.records.specs.JobFile.{JobFile}
 use Rattle.nodes.specs.Lists.{zeros}
 use Rattle.solver.specs.Solver.{workBytes}
@@ -13,9 +13,9 @@ use Rattle.demands.specs.Calls.{foundBytes, findAsks, verifyAsks}
 abbrev pub judgedBytes : ℕ
 judgedBytes = 65536
 
--- 001F: refusal number, a, b, a byte each; no refusal has a larger b (verify-numbered)
+-- 001F: refusal number and a, a byte each, and b in two
 abbrev pub refusalBytes : Refusal → List ℕ
-refusalBytes r = written kindRefusal (r .number ∷ r .a ∷ r .b % 256 ∷ [])
+refusalBytes r = written kindRefusal (r .number ∷ r .a ∷ inTwoBytes (r .b ∷ []))
 
 abbrev pub findOutput : Answer JobFile → List ℕ
 findOutput (gives f) = foundBytes f
