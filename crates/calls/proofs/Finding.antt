@@ -33,7 +33,6 @@ use Rattle.records.specs.Encoding.{ValidJob}
 use Rattle.records.specs.Writing.{flowBytes}
 use Rattle.records.specs.Splice.{putFront, putAnswer}
 use Rattle.records.proofs.JobFile.{measured-plane}
-use Rattle.flows.proofs.Flows.{paulis-most-layer, planes-most-layer}
 use Rattle.calls.proofs.Found.{found-written}
 use Rattle.solver.specs.Solver.{workBytes}
 use Rattle.demands.specs.Calls.{modeOf, search, foundBytes, Outcome, put, findAsks, findCall}
@@ -113,21 +112,10 @@ module _ (n mode : ℕ) (graph measured : List ℕ) (inputs outputs : NodeSet) w
         planes,
       )
 
-  -- no layer needs more than a byte
-  layer-small : n ≤ capacity → (u : ℕ) → progressOf .layer u < 256
-  layer-small few u = by (eqb mode modePlanes)
-    where
-      under : (k : ℕ) → k ≤ count n (λ u. not (member outputs u)) → k < 256
-      under k h = omega (arith, count-le n (λ u. not (member outputs u)))
-
-      by : (b : Bool) → progressAt (not b) j .layer u < 256
-      by true = under (Planes.progress j .layer u) (planes-most-layer j u)
-      by false = under (Paulis.progress j .layer u) (paulis-most-layer j u)
-
   pub flow-written : n ≤ capacity → allBelow n (progressOf .solved) ≡ true
       → recordsFor n (member outputs) (layersOf n progressOf) (setTable n progressOf) ≡ flowBytes j (search mode j)
   flow-written few a =
-      found-written n few progressOf j refl (λ u l. layer-small few u) (progress-below pauli j) (λ u. (ltb u n && leb u highest) && not (member outputs u)) refl
+      found-written n few progressOf j refl (progress-below pauli j) (λ u. (ltb u n && leb u highest) && not (member outputs u)) refl
       ∙ by (eqb mode modePlanes) a
     where
       by : (b : Bool) → allBelow n (progressAt (not b) j .solved) ≡ true → flowBytes j (some (progressAt (not b) j)) ≡ flowBytes j (cond b (Planes.find j) (Paulis.find j))

@@ -29,8 +29,7 @@ use Rattle.finder.proofs.Below.{Below}
 use Rattle.records.specs.FlowFile.{SetEntry}
 use Rattle.records.specs.Encoding.{flowFileBytes, flowWith, entriesFor}
 use Rattle.records.specs.Writing.{flowRecords, flowBytes}
-use Rattle.records.specs.Writing.{layerBytes}
-use Rattle.records.proofs.Writing.{list-all, layers-same, members-under}
+use Rattle.records.proofs.Writing.{members-under}
 
 module _ (n : ℕ) (few : n ≤ capacity) (p : Progress) where
   layers-found : take n (layersOf n p) ≡ listOf n (p .layer)
@@ -77,14 +76,10 @@ module _ (n : ℕ) (few : n ≤ capacity) (p : Progress) where
       ap (members capacity) e ∙ members-past n capacity (λ u. (ltb u n && leb u highest) && not (output u)) few (λ k g. rw (ltb-no k n g))
       ∙ members-ext n (λ u. (ltb u n && leb u highest) && not (output u)) (λ u. not (output u)) (λ k g. ap (λ (b : Bool). b && not (output k)) (sym (below-within k n highest few) ∙ ltb-yes k n g))
 
-  -- today's record of layers has a byte for each, and no layer needs more
-  layers-written : ((u : ℕ) → u < n → p .layer u < 256) → layerBytes (take n (layersOf n p)) ≡ listOf n (p .layer)
-  layers-written small = ap layerBytes layers-found ∙ layers-same (listOf n (p .layer)) (list-all n (p .layer) (λ b. ltb b 256) (λ k l. lt-ltb (p .layer k) 256 (small k l)))
-
-  pub found-written : (j : Job) → j .nodes ≡ n → ((u : ℕ) → u < n → p .layer u < 256) → ((u : ℕ) → u < n → Below n (p .set u))
+  pub found-written : (j : Job) → j .nodes ≡ n → ((u : ℕ) → u < n → Below n (p .set u))
       → (s : ℕ → Bool) → s ≡ (λ u. (ltb u n && leb u highest) && not (j .output u))
-      → flowRecords (layerBytes (take n (layersOf n p))) capacity (setAt (setTable n p)) (members capacity s) ≡ flowBytes j (some p)
-  found-written j e small h s q =
-      ap₂ (λ (l us : List ℕ). flowRecords l capacity (setAt (setTable n p)) us) (layers-written small) (nodes-found s (j .output) q)
+      → flowRecords (take n (layersOf n p)) capacity (setAt (setTable n p)) (members capacity s) ≡ flowBytes j (some p)
+  found-written j e h s q =
+      ap₂ (λ (l us : List ℕ). flowRecords l capacity (setAt (setTable n p)) us) layers-found (nodes-found s (j .output) q)
       ∙ ap (λ (es : List SetEntry). flowFileBytes (flowWith (listOf n (p .layer)) es)) (sets-found h (members n (λ u. not (j .output u))) (members-under n (λ u. not (j .output u))))
       ∙ ap (λ (m : ℕ). flowRecords (listOf m (p .layer)) m (p .set) (members m (λ u. not (j .output u)))) (sym e)

@@ -9,7 +9,7 @@ use Rattle.nodes.specs.NodeSet.{highest, capacity}
 use Rattle.nodes.specs.SetTable.{setAt}
 use Rattle.answers.specs.Answer.{Answer, gives, refuses}
 use Rattle.answers.specs.Refusals.{refusalOf}
-use Rattle.records.specs.Writing.{layerBytes, flowRecords}
+use Rattle.records.specs.Writing.{flowRecords}
 use Rattle.calls.specs.declared.Reply.{Reply}
 use Rattle.calls.specs.declared.Reply.the-variants.{Wrote, Refused as NotWritten}
 
@@ -20,4 +20,4 @@ replyOf (NotWritten q) = refuses (refusalOf q)
 
 -- the flow file of a table of sets and a list of layers, for n nodes: an entry for each that is no output
 abbrev pub recordsFor : (n : ℕ) (output : ℕ → Bool) (layers sets : List ℕ) → List ℕ
-recordsFor n output layers sets = flowRecords (layerBytes (take n layers)) capacity (setAt sets) (members capacity (λ u. (ltb u n && leb u highest) && not (output u)))
+recordsFor n output layers sets = flowRecords (take n layers) capacity (setAt sets) (members capacity (λ u. (ltb u n && leb u highest) && not (output u)))

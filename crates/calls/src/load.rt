@@ -11,7 +11,7 @@ ghost use Rattle.nodes.specs.Options.{isSome};
 ghost use Rattle.records.specs.JobFile.{workingOf, hasEdge, jobOf};
 ghost use Rattle.records.specs.FlowFile.{entriesOf, listed, allEntries, entryBelow, setIn, entryIn, flowOf};
 ghost use Rattle.records.specs.Encoding.{ValidJob};
-ghost use Rattle.records.specs.Views.{bytesAt, jobAt, flowAt};
+ghost use Rattle.records.specs.Views.{jobAt, flowAt};
 ghost use Rattle.calls.specs.Loaded.{hasSet, jobLoaded, flowIn};
 use nodes::utils::NodeSet;
 use nodes::utils::SET_WORDS;
@@ -25,6 +25,8 @@ use records::common::FlowPlaces;
 use records::common::JobPlaces;
 use records::common::payload;
 use records::questions::entries_end;
+use records::reader::layer_count;
+use records::reader::layer_of;
 use records::reader::set_of;
 
 // The nodes of more join set u, where the table has it.
@@ -95,7 +97,7 @@ fn load_sets(sets: &[u8], table: &mut [u64]) -> NodeSet
     load_entries(sets, table)
 }
 
-// ---- Numbers of the nodes, a byte each in the file; past the bytes the buffer stays 0.
+// ---- Numbers of the nodes; past those in the file the buffer stays 0.
 
 fn load_bytes(bytes: &[u8], to: &mut [u8])
     requires { ⌜ (length (now bytes) ≤ length (now to)) × (now to ≡ zeros (length (now to))) ⌝ }
@@ -108,14 +110,15 @@ fn load_bytes(bytes: &[u8], to: &mut [u8])
     }
 }
 
-// The layers of 0011, as numbers that are wider than its bytes.
-fn load_layers(bytes: &[u8], to: &mut [u16])
-    requires { ⌜ (length (now bytes) ≤ length (now to)) × (now to ≡ zeros (length (now to))) ⌝ }
-    ensures { λ _. ⌜ ((u : ℕ) → getD (now (to .exit)) u 0 ≡ getD (now (bytes .entry)) u 0) ⌝ }
+// The layers, whichever kind holds them.
+fn load_layers(file: &[u8], flow: FlowPlaces, to: &mut [u16])
+    requires { ⌜ (length (flowAt (now file) flow .layers) ≤ length (now to)) × (now to ≡ zeros (length (now to))) ⌝ }
+    ensures { λ _. ⌜ ((u : ℕ) → getD (now (to .exit)) u 0 ≡ getD (flowAt (now (file .entry)) flow .layers) u 0) ⌝ }
 {
+    let n = layer_count(file, flow);
     let mut i = 0;
-    while i < bytes.len() {
-        to[i] = bytes[i] as u16;
+    while i < n {
+        to[i] = layer_of(file, flow, i);
         i += 1;
     }
 }
@@ -162,12 +165,11 @@ pub(crate) fn load_flow(
     layers: &mut [u16],
     sets: &mut [u64],
 ) -> NodeSet
-    requires { ⌜ (length (bytesAt (flow .layers) (now file)) ≤ capacity) × (allEntries (entryBelow capacity) (flowAt (now file) flow .sets) ≡ true) ⌝ }
+    requires { ⌜ (length (flowAt (now file) flow .layers) ≤ capacity) × (allEntries (entryBelow capacity) (flowAt (now file) flow .sets) ≡ true) ⌝ }
     requires { ⌜ (now layers ≡ zeros capacity) × (length (now sets) ≡ tableWords) ⌝ }
     ensures { λ r. ⌜ flowIn (now (layers .exit)) r (now (sets .exit)) ≡ flowOf (flowAt (now (file .entry)) flow) ⌝ }
 {
-    let first = flow.layers;
-    load_layers(payload(file, first), layers);
-    let second = flow.sets;
-    load_sets(payload(file, second), sets)
+    load_layers(file, flow, layers);
+    let place = flow.sets;
+    load_sets(payload(file, place), sets)
 }

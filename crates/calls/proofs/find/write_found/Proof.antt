@@ -9,7 +9,7 @@ use Rattle.nodes.specs.Row.{members}
 use Rattle.nodes.specs.NodeSet.{member, capacity}
 use Rattle.nodes.specs.SetTable.{setAt}
 use Rattle.records.specs.Splice.{putFront, putAnswer}
-use Rattle.records.specs.Writing.{layerBytes, flowRecords}
+use Rattle.records.specs.Writing.{flowRecords}
 use Rattle.calls.proofs.find.write_found.Statement.{statement}
 use Rattle.calls.proofs.find.write_found.Tie as tie
 
@@ -19,7 +19,7 @@ returns c = let a = c .before .before .before .before .before .before .before .b
     let wrote = c .before .before .before .write-flow in
     let all : a .n - 0 ≡ a .n = omega arith in
     let nodes = c .before .before .before .before .before .before .difference .ensures ∙ ap {B = ℕ → Bool} (λ (g : ℕ → Bool) (u : ℕ). g u && not (member (a .outputs) u)) (c .before .before .before .before .before .before .before .below .ensures) in
-    let bytes = ap₂ (λ (k : ℕ) (g : ℕ → Bool). flowRecords (layerBytes (take k l)) capacity (setAt (a .sets .now)) (members capacity g)) all nodes in
+    let bytes = ap₂ (λ (k : ℕ) (g : ℕ → Bool). flowRecords (take k l) capacity (setAt (a .sets .now)) (members capacity g)) all nodes in
     (c .answered .ensures ∙ wrote .ensures .0 ∙ ap (λ (b : List ℕ). putAnswer b (a .out .now)) bytes, wrote .ensures .1 ∙ ap (λ (b : List ℕ). putFront b (a .out .now)) bytes)
 
 pub write-found-spec : {M : Type 1} → statement M
