@@ -29,7 +29,7 @@ use Rattle.demands.proofs.Refusals.{Numbered, AllNumbered, given, asks-then, fi
 -- ---- what the calls answer: a small count, or a numbered refusal
 abbrev Fits : Type 0 → Answer ℕ → Type 0
 Fits bytes (gives k) = k ≤ mostOutput
-Fits bytes (refuses r) = (1 ≤ r .number) × (r .a < 256) × (bytes → r .b < 256)
+Fits bytes (refuses r) = (1 ≤ r .number) × (r .a < 256) × (bytes → r .b < 65536)
 
 numbered-fits : (bytes : Type 0) (r : Refusal) → Numbered bytes r → Fits bytes (refuses r)
 numbered-fits bytes r t = (t .number, t .a, t .b)
