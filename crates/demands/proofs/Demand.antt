@@ -54,7 +54,7 @@ module _ (file : List ℕ) (f : JobFile) (reads : readJob file ≡ gives f) (end
       go (inl p) = omega (arith, p, e)
       go (inr p) = omega (arith, p, e)
 
-  by-mode : search (modeOf f) j ≡ findAt j pauli
+  pub by-mode : search (modeOf f) j ≡ findAt j pauli
   by-mode = go searched
     where
       go : (modeOf f ≡ modePlanes) ⊎ (modeOf f ≡ modePauli) → search (modeOf f) j ≡ findAt j pauli

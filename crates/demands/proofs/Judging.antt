@@ -42,7 +42,7 @@ pub record Judged (f : JobFile) (flow : List ℕ) (g : FlowFile) : Type 0 where
   pub accepted : verify (jobOf f) (flowOf g) (modeOf f) ≡ none
 
 module _ (file : List ℕ) (f : JobFile) (reads-job : readJob file ≡ gives f) (ends : f .after ≡ []) (flow : List ℕ) where
-  whole : readJob (file ++ flow) ≡ gives (record { n = f .n; mode = f .mode; edges = f .edges; inputs = f .inputs; outputs = f .outputs; measurements = f .measurements; after = flow })
+  pub whole : readJob (file ++ flow) ≡ gives (record { n = f .n; mode = f .mode; edges = f .edges; inputs = f .inputs; outputs = f .outputs; measurements = f .measurements; after = flow })
   whole = job-append file flow f reads-job ∙ rw ends
 
   pub judged-out : (b : Bool) → verifyAsks (file ++ flow) ≡ gives b → (g : FlowFile) × Judged f flow g

@@ -4,3 +4,4 @@ pub mod Demand
 pub mod Solutions
 pub mod Cases
 pub mod JobWriter
+pub mod Layers

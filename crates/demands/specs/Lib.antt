@@ -2,5 +2,6 @@ pub mod Calls
 pub mod Cases
 pub mod Demand
 pub mod JobWriter
+pub mod Layers
 pub mod Programs
 pub mod Solutions

@@ -23,7 +23,7 @@ use Rattle.flows.specs.Premise.{premiseAt}
 use Rattle.flows.proofs.Tries.{planes-context, FirstOf, try-first, try-sound, try-monotone, try-ext}
 use Rattle.flows.proofs.Search.{never, Ended, rounds-end, rounds-pass, fresh-open}
 use Rattle.flows.proofs.Premise.{premise-complete}
-use Rattle.flows.proofs.Rank.{Layering, FoundBy, most-layer, found-by, least-layering, none-layering}
+use Rattle.flows.proofs.Rank.{Layering, FoundBy, found-by, least-layering, none-layering}
 
 abbrev pub endedAt : Job → Bool → Progress
 endedAt j pauli = searchFrom pauli (tryAt j pauli) (j .nodes) (j .output)
@@ -62,15 +62,6 @@ planes-end j = rounds-end (Planes.stops j) (Planes.try j) (j .nodes) (j .nodes) 
 
 pub paulis-end : (j : Job) → Ended never (Paulis.try j) (j .nodes) (endedAt j true)
 paulis-end j = rounds-end never (Paulis.try j) (j .nodes) (j .nodes) 1 (begun true (Paulis.try j) (j .output)) (count-le (j .nodes) (λ u. not (begun true (Paulis.try j) (j .output) .solved u)))
-
--- no layer exceeds the number of measured nodes, however far the search comes
-pub paulis-most-layer : (j : Job) (u : ℕ) → Paulis.progress j .layer u ≤ count (j .nodes) (λ u. not (j .output u))
-paulis-most-layer j u = most-layer true (tryAt j true) (j .nodes) (j .output) u
-
-pub planes-most-layer : (j : Job) (u : ℕ) → Planes.progress j .layer u ≤ count (j .nodes) (λ u. not (j .output u))
-planes-most-layer j u =
-    subst (λ (s : Progress). s .layer u ≤ count (j .nodes) (λ u. not (j .output u))) (sym (planes-rounds j (j .nodes) 1 (start (j .output))))
-    (most-layer false (tryAt j false) (j .nodes) (j .output) u)
 
 -- ---- what is found
 abbrev pub FoundAt : Job → Bool → Progress → Type 0

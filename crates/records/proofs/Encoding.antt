@@ -11,10 +11,10 @@ use lib.Dec.{ltb, eqb}
 use lib.ListN.{length, getD}
 use Rattle.nodes.proofs.Logic.{and-out}
 use Rattle.nodes.specs.Lists.{has, all}
-use Rattle.answers.specs.Answer.{Refusal, Answer, gives, refuses, _>>=_}
+use Rattle.answers.specs.Answer.{Refusal, Answer, gives, refuses, refusal, _>>=_}
 use Rattle.answers.proofs.Answer.{give-inj, never, bind-out}
-use Rattle.records.specs.Records.{allYes, written, kindOpening, kindEdges, kindInputs, kindOutputs, kindMeasurements, kindLayers, kindWideLayers, kindSets}
-use Rattle.records.specs.Format.{Front, front, PayloadFormat, plain, recordOf}
+use Rattle.records.specs.Records.{carries, allYes, written, kindOpening, kindEdges, kindInputs, kindOutputs, kindMeasurements, kindLayers, kindWideLayers, kindSets}
+use Rattle.records.specs.Format.{Front, front, PayloadFormat, plain, recordOf, decodeThen}
 use Rattle.records.specs.JobFile.{JobFile, mostNodes, openingAllowed, edgesAsks, nodesAsks, measurementsAsks, opening, JobValue, job, jobFile, jobValue, readJob}
 use Rattle.records.specs.FlowFile.{FlowFile, Layers, layerWidth, layerBytes, layerNumbers, layersAs, layers, entriesOf, listed, allEntries, entryBelow, entriesRise, entryBytes, sets, FlowValue, flow, flowFile, flowValue, readFlow}
 use Rattle.records.specs.Encoding.{Bytes, jobBytes, ValidJob, flowFileBytes, ValidFlow}
@@ -22,7 +22,7 @@ use Rattle.records.proofs.Records.{all-left, all-right, length-out, len
 use Rattle.records.proofs.JobFile.{allowed-out, allowed-in, opening-out, opening-in, edges-out, edges-in, nodes-out, nodes-in, measurements-out, measurements-in, rises-length, pairs-length}
 use Rattle.records.proofs.FlowFile.{entries-back, entries-encode, sets-out, sets-in, entries-few, entry-bytes-length}
 use Rattle.records.proofs.Layers.{inPair, beq-self, beq-same, width-few, bytes-length, numbers-length, numbers-back, bytes-back, numbers-small}
-use Rattle.records.proofs.Format.{PayloadExact, Appends, Closed, Lawful, exact-iff, payload-bytes, record-appends, record-closed, record-starts, record-differs, plain-exact, then-closed, choice-closed, record-then-appends, record-lawful, _then-lawful_, choice-lawful}
+use Rattle.records.proofs.Format.{PayloadExact, Appends, Closed, Lawful, exact-iff, payload-bytes, record-appends, record-closed, record-starts, record-differs, plain-exact, then-closed, choice-closed, choice-neither, record-then-appends, record-lawful, _then-lawful_, choice-lawful}
 use Rattle.records.proofs.ReadingRefusals.{ReadingRefusal, numbered, Numbered, opening-numbered, edges-numbered, nodes-numbered, measurements-numbered, each-numbered, sets-numbered}
 
 -- ---- the payloads
@@ -197,6 +197,11 @@ flow-lawful : (n : ℕ) → n ≤ mostNodes → Lawful ReadingRefusal (flow n)
 flow-lawful n h =
     layers-lawful n (omega arith) then-lawful λ l v.
     lawful kindSets (sets n) (sets-exact n (omega arith)) (sets-numbered n)
+
+-- neither kind of layers stands there: question 1
+pub flow-neither : (n : ℕ) (s : List ℕ) → carries kindLayers s ≡ false → carries kindWideLayers s ≡ false → readFlow n s ≡ refuses (refusal 1)
+unfolding readFlow decodeThen
+flow-neither n s a b = rw (choice-neither (λ l. l .wide) kindLayers kindWideLayers (layersAs false n) (layersAs true n) s a b) refl
 
 flow-decoded : (n : ℕ) (s : List ℕ) (g : FlowFile) → readFlow n s ≡ gives g → flow n .decode s ≡ gives (front (flowValue g) (g .after))
 unfolding readFlow

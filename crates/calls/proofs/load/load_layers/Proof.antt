@@ -1,9 +1,7 @@
 use Prim.Native.Nat.{_-_, _≤_}
-use mathlib.Core.Path.{_≡_, refl, ap, _∙_}
-use mathlib.Core.List.{List}
-use Prim.Native.Nat.{ℕ}
+use mathlib.Core.Path.{_≡_, refl}
 use native.Mathlib.Omega.{arith}
-use lib.ListN.{length, set}
+use lib.ListN.{length}
 use Rattle.records.specs.Views.{flowAt}
 use Rattle.calls.proofs.Loaded.{FirstIn, first-none, first-more, first-all}
 use Rattle.calls.proofs.load.load_layers.Statement.{statement}
@@ -23,9 +21,6 @@ loop-holds c = let s = c .before .before .before in
 slice-write-to : tie.Need-slice-write-to Inv-loop μ-loop
 slice-write-to c = let l = c .before .before in
     omega (arith, l .loop .inv .1, l .before .before .before .before .pre .0, l .before .layer-count .ensures)
-
-add-i : tie.Need-add-i Inv-loop μ-loop
-add-i c = search needs
 
 loop-less : tie.Need-loop-less Inv-loop μ-loop
 loop-less c = omega (arith, c .before .before .before .layer-count .ensures)
@@ -57,7 +52,7 @@ load-layers-spec =
     (λ c κs. search needs)
     (λ c. search needs)
     slice-write-to
-    add-i
+    (λ c. search needs)
     loop-less
     loop-again
     (λ c. search needs)

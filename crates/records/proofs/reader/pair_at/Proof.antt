@@ -1,7 +1,7 @@
 use Prim.Native.Nat.{_+_, _*_, _<_}
-use mathlib.Core.Path.{_≡_, sym}
+use mathlib.Core.Path.{sym}
 use native.Mathlib.Omega.{arith}
-use lib.ListN.{length, getD, List·getD-eq-default}
+use lib.ListN.{getD, List·getD-eq-default}
 use Rattle.records.specs.Records.{fromTwoBytes}
 use Rattle.records.proofs.Layers.{from-length, from-at}
 use borrow.Author.Needs.{needs}

@@ -1,4 +1,4 @@
-use Prim.Native.Nat.{ℕ, _+_, _*_, _-_, _≤_}
+use Prim.Native.Nat.{ℕ, _-_, _≤_}
 use mathlib.Core.Path.{_≡_, refl, sym, ap, _∙_}
 use mathlib.Core.List.{List}
 use native.Mathlib.Omega.{arith}
@@ -6,7 +6,6 @@ use lib.ListN.{length, take}
 use lib.Seq.{take-all}
 use Rattle.records.specs.Records.{inTwoBytes}
 use Rattle.records.specs.Splice.{splice}
-use Rattle.records.proofs.Splice.{splice-none}
 use Rattle.records.proofs.WritingLoops.{layers-none, layers-more}
 use borrow.Author.Needs.{needs}
 use Rattle.records.proofs.writer.put_layers.Statement.{statement}
