@@ -49,8 +49,7 @@ same-verdict job one other f g h reads ends r q layers sets out =
 pub widens : Widens
 widens n s g few bytes r =
     let v = flow-asked n s g few (r .0) in
-    let w : ValidFlow n (widened g) = record { count = v .count; below = v .below; rise = v .rise } in
-    (
+    let w : ValidFlow n (widened g) = record { count = v .count; below = v .below; rise = v .rise } in (
       flow-file-bytes n (g .layers) (g .sets) w (omega arith) (flow-layers n s g few bytes (r .0)),
       (ap (readFlow n) (sym (append-nil (flowFileBytes (widened g)))) ∙ flow-decodes n (widened g) few w, refl),
     )
@@ -59,14 +58,17 @@ widens n s g few bytes r =
 module _ (file : List ℕ) (f : JobFile) (reads : readJob file ≡ gives f) (ends : f .after ≡ []) (searched : (modeOf f ≡ modePlanes) ⊎ (modeOf f ≡ modePauli)) where
   written-for : (o : Option Progress) → search (modeOf f) (jobOf f) ≡ o → WrittenFor f o (flowBytes (jobOf f) o)
   written-for none e = refl
-  written-for (some s) e = (foundFlow (jobOf f) s, record {
-    bytes = found-bytes (jobOf f) s few small;
-    reads = (found-reads (jobOf f) s few, refl);
-    wide = refl;
-    layers = found-layer (jobOf f) s;
-    entries = found-entry (jobOf f) s;
-    sets = found-set (jobOf f) s;
-  })
+  written-for (some s) e = (
+    foundFlow (jobOf f) s,
+    record {
+      bytes = found-bytes (jobOf f) s few small;
+      reads = (found-reads (jobOf f) s few, refl);
+      wide = refl;
+      layers = found-layer (jobOf f) s;
+      entries = found-entry (jobOf f) s;
+      sets = found-set (jobOf f) s;
+    },
+  )
     where
       few : f .n ≤ mostNodes
       few = job-asked file f reads .few

@@ -29,8 +29,7 @@ loop-again : tie.Need-loop-again Inv-loop μ-loop
 loop-again c = let l = c .before .before .loop in
     let s = c .before .before .before .before .before .before in
     let numbers = flowAt (s .args .file .now) (s .args .flow) .layers in
-    let count = c .before .before .before .layer-count .ensures in
-    (
+    let count = c .before .before .before .layer-count .ensures in (
       omega (arith, count),
       search needs,
       rw (c .layer-of .ensures) (first-more numbers (l .to) (l .i) (omega (arith, l .inv .1, s .pre .0, count)) (l .inv .2)),
