@@ -1,7 +1,7 @@
 //! Our side alone, again and again on the same bytes: for tools that count instructions.
 
 use crate::families::FAMILIES;
-use harness::jobs::payloads;
+use harness::jobs::{Flow, records};
 use harness::ours::{self, Answer, OUT_BYTES, WORK_BYTES};
 use std::hint::black_box;
 use std::path::Path;
@@ -21,9 +21,9 @@ pub fn verify(file: &[u8], repeats: usize) -> Option<Answer> {
 
 /// The same of the job writer, on the lists of a job file: edges, inputs and outputs from the last to the first, the greater end first.
 pub fn write_job(file: &[u8], repeats: usize) -> Option<Answer> {
-    let [opening, sorted @ .., measurements] = &payloads(file)[..] else { return None };
+    let [(_, opening), sorted @ .., (_, measurements)] = &records(file)?[..] else { return None };
     let [edges, inputs, outputs] = sorted else { return None };
-    let [edges, inputs, outputs] = [edges, inputs, outputs].map(|list| list.iter().rev().copied().collect::<Vec<u8>>());
+    let [edges, inputs, outputs] = [edges, inputs, outputs].map(|(_, list)| list.iter().rev().copied().collect::<Vec<u8>>());
     let (n, mode) = (opening[0].into(), opening[1].into());
     let mut out = vec![0; OUT_BYTES];
     let mut write = || ours::write_job(n, mode, black_box([&edges, &inputs, &outputs, measurements]), &mut out);
@@ -40,7 +40,7 @@ pub fn put_files(folder: &Path) -> io::Result<()> {
         let mut file = (family.jobs)(n)[0].bytes();
         fs::write(folder.join(format!("{name}.job")), &file)?;
         let Answer::Value(count) = ours::find(&file, &mut work, &mut out) else { continue };
-        if out[4] == 0x11 {
+        if Flow::read(&out[..count], n).is_some() {
             file.extend(&out[..count]);
             fs::write(folder.join(format!("{name}.flow")), &file)?;
         }

@@ -1,9 +1,9 @@
-//! The verifier, from the bytes of a job and a found flow to 'accepted'.
+//! The verifier, from the bytes of a job and a found flow, by the kind that our finder writes, to 'accepted'.
 
 use crate::families::{FAMILIES, Family, SIZES};
 use crate::summary::{Row, Table};
 use crate::timing::{Times, medians};
-use harness::flows::found;
+use harness::flows::{found, widened};
 use harness::jobs::Job;
 use harness::ours::{self, Answer};
 use harness::theirs;
@@ -15,7 +15,7 @@ const ACCEPTED_BYTES: usize = 6;
 
 /// Each job of the family that has a flow, with that flow behind it.
 fn files_of(family: &Family, n: usize) -> Vec<Vec<u8>> {
-    let with_flow = |job: &Job| Some([job.bytes(), found(job)?.bytes()].concat());
+    let with_flow = |job: &Job| Some([job.bytes(), widened(&found(job)?).bytes()].concat());
     (family.jobs)(n).iter().filter_map(with_flow).collect()
 }
 

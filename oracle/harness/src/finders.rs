@@ -1,7 +1,7 @@
-//! The finders of modes 2 and 3, byte for byte.
+//! The finders of modes 2 and 3: layers and sets, after reading.
 
 use crate::families::{self, allowed};
-use crate::jobs::{Flow, Job, PAULI, PLANES};
+use crate::jobs::{Flow, Job, PAULI, PLANES, WIDE_LAYERS};
 use crate::many::{self, KINDS};
 use crate::ours::{self, Answer, OUT_BYTES, WORK_BYTES};
 use crate::random::Random;
@@ -30,10 +30,18 @@ pub fn find_theirs(file: &[u8]) -> Option<Vec<u8>> {
     std::panic::catch_unwind(call).ok()
 }
 
+/// Whether ours is the original's answer for a job of n nodes: the same flow, by layers of kind 0021, or the same 0013.
+pub fn is_same(mine: &[u8], other: &[u8], n: usize) -> bool {
+    match Flow::read(other, n) {
+        Some(flow) => Flow::read(mine, n) == Some(Flow { kind: WIDE_LAYERS, ..flow }),
+        None => mine == other,
+    }
+}
+
 /// How deep the original's answer is.
-fn depth(answer: Option<&[u8]>) -> &'static str {
+fn depth(answer: Option<&[u8]>, n: usize) -> &'static str {
     let Some(bytes) = answer else { return "panic" };
-    let Some(flow) = Flow::read(bytes) else { return "no flow" };
+    let Some(flow) = Flow::read(bytes, n) else { return "no flow" };
     match flow.layers.iter().max() {
         _ if flow.sets.is_empty() => "nothing to measure",
         None | Some(0..=1) => "flow to layer 1",
@@ -45,11 +53,11 @@ fn depth(answer: Option<&[u8]>) -> &'static str {
 fn compare(tally: &mut Tally, family: &str, job: &Job) {
     let file = job.bytes();
     let (mine, other) = (find_ours(&file), find_theirs(&file));
-    let same = matches!((&mine, &other), (Ok(a), Some(b)) if a == b);
-    tally.add(family, depth(other.as_deref()), same, || {
+    let same = matches!((&mine, &other), (Ok(a), Some(b)) if is_same(a, b, job.n));
+    tally.add(family, depth(other.as_deref(), job.n), same, || {
         format!("job {} ours {:?} original {:?}", hex(&file), mine.as_ref().map(|b| hex(b)), other.as_ref().map(|b| hex(b)))
     });
-    if let Some(flow) = other.as_deref().and_then(Flow::read) {
+    if let Some(flow) = other.as_deref().and_then(|bytes| Flow::read(bytes, job.n)) {
         flow.sets.keys().for_each(|&u| tally.add_node(job.measured[u as usize]));
     }
 }

@@ -1,4 +1,4 @@
-//! Jobs and flows, and their bytes as document 01 has them.
+//! Jobs and flows, and their bytes as documents 01 and 02 have them.
 
 use std::collections::{BTreeMap, BTreeSet};
 
@@ -13,6 +13,12 @@ pub const X: u8 = 4;
 pub const Y: u8 = 5;
 pub const Z: u8 = 6;
 
+/// Layers in a byte for each node, and in two.
+pub const LAYERS: u16 = 0x0011;
+pub const WIDE_LAYERS: u16 = 0x0021;
+/// The highest layer that 0021 can hold.
+pub const HIGHEST_LAYER: usize = 65_535;
+
 #[derive(Clone, Debug)]
 pub struct Job {
     pub n: usize,
@@ -24,9 +30,11 @@ pub struct Job {
     pub measured: Vec<u8>,
 }
 
-#[derive(Clone, Debug)]
+#[derive(Clone, Debug, PartialEq, Eq)]
 pub struct Flow {
-    pub layers: Vec<u8>,
+    /// The kind of the layers' record.
+    pub kind: u16,
+    pub layers: Vec<usize>,
     pub sets: BTreeMap<u8, BTreeSet<u8>>,
 }
 
@@ -70,39 +78,55 @@ impl Flow {
             sets.extend([u, set.len() as u8]);
             sets.extend(set);
         }
+        let bytes_of = |&layer: &usize| match self.kind {
+            LAYERS => vec![u8::try_from(layer).expect("0011 has a byte for a layer")],
+            _ => u16::try_from(layer).expect("0021 has two").to_le_bytes().to_vec(),
+        };
+        let layers: Vec<u8> = self.layers.iter().flat_map(bytes_of).collect();
         let mut out = Vec::new();
-        put_record(&mut out, 0x0011, &self.layers);
+        put_record(&mut out, self.kind, &layers);
         put_record(&mut out, 0x0012, &sets);
         out
     }
 
-    /// The flow of a flow file; none for 0013.
-    pub fn read(bytes: &[u8]) -> Option<Flow> {
-        let (layers, sets) = match payloads(bytes)[..] {
-            [layers, sets] => (layers, sets),
-            _ => return None,
-        };
-        Some(Flow { layers: layers.to_vec(), sets: entries(sets) })
+    /// The flow of n nodes in these bytes; none where they are no flow file, with nothing left in it and of the right lengths: written again,
+    /// the flow gives the same bytes.
+    pub fn read(bytes: &[u8], n: usize) -> Option<Flow> {
+        let [layers, (0x0012, sets)] = records(bytes)?[..] else { return None };
+        let flow = Flow { kind: layers.0, layers: layers_of(layers)?, sets: entries(sets) };
+        (flow.layers.len() == n && flow.bytes() == bytes).then_some(flow)
     }
 }
 
-/// The payloads of all records.
-pub fn payloads(mut bytes: &[u8]) -> Vec<&[u8]> {
+/// A record's kind and its payload.
+pub type Record<'a> = (u16, &'a [u8]);
+
+/// All records; none where the bytes do not end with one.
+pub fn records(mut bytes: &[u8]) -> Option<Vec<Record<'_>>> {
     let mut all = Vec::new();
     while !bytes.is_empty() {
-        let (head, rest) = bytes.split_at(6);
-        let len = u32::from_le_bytes([head[0], head[1], head[2], head[3]]) as usize;
-        let (payload, rest) = rest.split_at(len);
-        all.push(payload);
+        let (&[a, b, c, d, low, high], rest) = bytes.split_first_chunk()?;
+        let (payload, rest) = rest.split_at_checked(u32::from_le_bytes([a, b, c, d]) as usize)?;
+        all.push((u16::from_le_bytes([low, high]), payload));
         bytes = rest;
     }
-    all
+    Some(all)
 }
 
+/// The number of each node's layer, by either kind.
+pub fn layers_of((kind, payload): Record) -> Option<Vec<usize>> {
+    match kind {
+        LAYERS => Some(payload.iter().map(|&layer| layer.into()).collect()),
+        WIDE_LAYERS => Some(payload.chunks_exact(2).map(|two| u16::from_le_bytes([two[0], two[1]]).into()).collect()),
+        _ => None,
+    }
+}
+
+/// As far as they are whole.
 fn entries(mut sets: &[u8]) -> BTreeMap<u8, BTreeSet<u8>> {
     let mut all = BTreeMap::new();
     while let [node, count, rest @ ..] = sets {
-        let (members, rest) = rest.split_at(*count as usize);
+        let Some((members, rest)) = rest.split_at_checked(*count as usize) else { break };
         all.insert(*node, members.iter().copied().collect());
         sets = rest;
     }

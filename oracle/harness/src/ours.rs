@@ -2,7 +2,7 @@
 
 pub const WORK_BYTES: usize = 2048;
 /// Room for any result.
-pub const OUT_BYTES: usize = 16780;
+pub const OUT_BYTES: usize = 16908;
 
 unsafe extern "C" {
     fn bolz_find(file: *const u8, len: usize, work: *mut u8, work_len: usize, out: *mut u8, out_len: usize) -> u64;
@@ -38,7 +38,7 @@ pub enum Answer {
     /// Bytes written; for the solver 1 solvable, 0 not.
     Value(usize),
     /// Number, a, b.
-    Refused(u8, u8, u8),
+    Refused(u8, u16, u16),
 }
 
 fn decoded(code: u64) -> Answer {
@@ -46,7 +46,7 @@ fn decoded(code: u64) -> Answer {
     if number == 0 {
         return Answer::Value(code as usize);
     }
-    Answer::Refused(number, (code >> 16) as u8, code as u8)
+    Answer::Refused(number, (code >> 16) as u16, code as u16)
 }
 
 pub fn find(file: &[u8], work: &mut [u8], out: &mut [u8]) -> Answer {

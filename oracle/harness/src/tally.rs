@@ -1,5 +1,6 @@
 //! Counts of what was compared, and the first differences.
 
+use crate::jobs::{Flow, LAYERS};
 use std::collections::BTreeMap;
 
 /// So many differences are shown whole.
@@ -17,6 +18,8 @@ pub struct Tally {
     rows: BTreeMap<String, Row>,
     /// How many nodes of each measurement the found flows have.
     measured: [usize; 7],
+    /// How many flows were judged by layers of kind 0011, of kind 0021 up to layer 255, and of kind 0021 beyond.
+    judged: [usize; 3],
     differences: Vec<String>,
 }
 
@@ -44,6 +47,11 @@ impl Tally {
         self.measured[measurement as usize] += 1;
     }
 
+    pub fn add_flow(&mut self, flow: &Flow) {
+        let beyond = flow.layers.iter().any(|&layer| layer > 255);
+        self.judged[usize::from(flow.kind != LAYERS) + usize::from(beyond)] += 1;
+    }
+
     /// Prints the table; true where nothing differs.
     pub fn report(&self) -> bool {
         println!("| compared | cases | differences | the original's answers |");
@@ -53,6 +61,8 @@ impl Tally {
             println!("| {family} | {} | {} | {} |", row.compared, row.different, answers.join(", "));
         }
         println!("\nnodes in the found flows: XY, YZ, XZ, X, Y, Z: {:?}", &self.measured[1..]);
+        let [narrow, wide, beyond] = self.judged;
+        println!("judged flows: kind 0011: {narrow}; kind 0021: {}, {beyond} of them with a layer past 255", wide + beyond);
         let compared: usize = self.rows.values().map(|row| row.compared).sum();
         let different: usize = self.rows.values().map(|row| row.different).sum();
         println!("{compared} compared, {different} different");

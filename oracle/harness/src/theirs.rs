@@ -1,6 +1,6 @@
 //! The original, from bytes to bytes.
 
-use crate::jobs::{CAUSAL, PLANES, X, XY, XZ, Y, YZ, Z, payloads, put_record};
+use crate::jobs::{CAUSAL, LAYERS, PLANES, Record, X, XY, XZ, Y, YZ, Z, layers_of, put_record, records};
 use hashbrown::HashMap;
 use original::common::{FlowValidationError, Graph, Layer, Nodes};
 use original::flow;
@@ -21,16 +21,21 @@ fn set_of(bytes: &[u8]) -> Nodes {
     bytes.iter().map(|&u| u as usize).collect()
 }
 
+/// All records of a readable file.
+fn records_of(file: &[u8]) -> Vec<Record<'_>> {
+    records(file).expect("the file ends with a record")
+}
+
 /// The job in the first five records; the bytes are a valid job's.
-fn read<'a>(records: &[&'a [u8]]) -> Job<'a> {
-    let mut graph = vec![Nodes::new(); records[0][0] as usize];
-    for pair in records[1].chunks_exact(2) {
+fn read<'a>(records: &[Record<'a>]) -> Job<'a> {
+    let [opening, edges, inputs, outputs, measured] = [0, 1, 2, 3, 4].map(|at| records[at].1);
+    let mut graph = vec![Nodes::new(); opening[0] as usize];
+    for pair in edges.chunks_exact(2) {
         let (a, b) = (pair[0] as usize, pair[1] as usize);
         graph[a].insert(b);
         graph[b].insert(a);
     }
-    let (inputs, outputs) = (set_of(records[2]), set_of(records[3]));
-    Job { mode: records[0][1], graph, inputs, outputs, measured: records[4] }
+    Job { mode: opening[1], graph, inputs: set_of(inputs), outputs: set_of(outputs), measured }
 }
 
 /// The measurement of each node that has one.
@@ -73,12 +78,12 @@ fn write(found: Option<(Sets, Layer)>, out: &mut Vec<u8>) {
         entries.extend(set.iter().map(|&v| v as u8));
         entries[start..].sort_unstable();
     }
-    put_record(out, 0x0011, &layers);
+    put_record(out, LAYERS, &layers);
     put_record(out, 0x0012, &entries);
 }
 
 /// How many nodes and measurements the job in the records has, once the original's graph, sets and table are made of them.
-fn made(records: &[&[u8]]) -> usize {
+fn made(records: &[Record]) -> usize {
     let job = read(records);
     let measured = if job.mode == PLANES { table(job.measured, plane).len() } else { table(job.measured, pauli).len() };
     job.graph.len() + measured
@@ -86,12 +91,12 @@ fn made(records: &[&[u8]]) -> usize {
 
 /// Only what the harness does before the original's finder is called in mode 2 or 3: its arguments are made of the bytes.
 pub fn prepare(file: &[u8]) -> usize {
-    made(&payloads(file))
+    made(&records_of(file))
 }
 
 /// The same before its verifier is called, on a job and a flow file.
 pub fn prepare_verify(file: &[u8]) -> usize {
-    let records = payloads(file);
+    let records = records_of(file);
     let (sets, layers) = flow_of(&records);
     made(&records) + sets.len() + layers.len()
 }
@@ -104,7 +109,7 @@ fn find_causal(job: Job) -> Option<(Sets, Layer)> {
 
 /// The finder of the job's mode, from the bytes of a valid job to a flow file or 0013.
 pub fn find(file: &[u8], out: &mut Vec<u8>) {
-    let job = read(&payloads(file));
+    let job = read(&records_of(file));
     let found = match job.mode {
         CAUSAL => find_causal(job),
         PLANES => gflow::find(job.graph, job.inputs, job.outputs, table(job.measured, plane)),
@@ -124,8 +129,8 @@ fn sets_of(mut bytes: &[u8]) -> Sets {
 }
 
 /// The flow in the two records behind the job's.
-fn flow_of(records: &[&[u8]]) -> (Sets, Layer) {
-    (sets_of(records[6]), records[5].iter().map(|&l| l as usize).collect())
+fn flow_of(records: &[Record]) -> (Sets, Layer) {
+    (sets_of(records[6].1), layers_of(records[5]).expect("the layers are 0011 or 0021"))
 }
 
 /// Document 01's number for the original's error, with a and b.
@@ -144,7 +149,7 @@ fn numbers(error: &FlowValidationError) -> (u8, usize, usize) {
 
 /// The verifier of the job's mode, on a job and a flow file: 0 where it accepts, else the number of its refusal, a and b.
 pub fn verify(file: &[u8]) -> (u8, usize, usize) {
-    let records = payloads(file);
+    let records = records_of(file);
     let job = read(&records);
     let (sets, layers) = flow_of(&records);
     let verdict = match job.mode {

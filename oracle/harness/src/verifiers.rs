@@ -1,7 +1,7 @@
 //! The verifiers of modes 1, 2 and 3: accepting or not, and 13 to 17 by number.
 
 use crate::finders::all_jobs;
-use crate::flows::{DAMAGES, all_flows, by_chance, damaged, found};
+use crate::flows::{DAMAGES, all_flows, by_chance, damaged, found, spread, widened};
 use crate::jobs::{CAUSAL, Flow, Job, PAULI, PLANES};
 use crate::many::{self, KINDS};
 use crate::ours::{self, Answer};
@@ -10,9 +10,9 @@ use crate::tally::{Tally, hex};
 use crate::theirs;
 
 const MODES: [u8; 3] = [CAUSAL, PLANES, PAULI];
-/// All flows for all jobs of up to so many nodes are compared, with layers up to `HIGHEST_LAYER`.
+/// All flows for all jobs of up to so many nodes are compared, with layers up to `SMALL_LAYERS` and by other numbers for them.
 const SMALL: usize = 2;
-const HIGHEST_LAYER: usize = 2;
+const SMALL_LAYERS: usize = 2;
 /// Flows by chance are made for jobs of up to so many nodes.
 const BY_CHANCE: usize = 5;
 /// For up to so many nodes a and b are compared too, with those of any of so many runs of the original.
@@ -53,14 +53,31 @@ fn compare(tally: &mut Tally, family: &str, job: &Job, flow: &Flow) {
     let answer = other.map_or("panic".to_string(), |o| label(o.0));
     let agree = other.is_some_and(|o| same(mine, o)) && (job.n > CLOSELY || is_named(mine, &file));
     tally.add(family, &answer, agree, || format!("file {} ours {mine:?} original {other:?}", hex(&file)));
+    tally.add_flow(flow);
 }
 
-pub fn all_small(tally: &mut Tally) {
+/// The flow by each kind, and by other numbers.
+fn compare_all(tally: &mut Tally, family: &str, job: &Job, flow: &Flow, random: &mut Random) {
+    for flow in [flow.clone(), widened(flow), spread(flow, random)] {
+        compare(tally, family, job, &flow);
+    }
+}
+
+/// The flow by one of these.
+fn compare_one(tally: &mut Tally, family: &str, job: &Job, flow: &Flow, random: &mut Random) {
+    match random.below(4) {
+        0 => compare(tally, family, job, flow),
+        1 => compare(tally, family, job, &widened(flow)),
+        _ => compare(tally, family, job, &spread(flow, random)),
+    }
+}
+
+pub fn all_small(tally: &mut Tally, random: &mut Random) {
     for mode in MODES {
         for n in 0..=SMALL {
             let family = format!("verifier, mode {mode}, all flows of all jobs of {n} nodes");
             all_jobs(n, mode, |job| {
-                all_flows(n, mode, HIGHEST_LAYER, |flow| compare(tally, &family, job, flow));
+                all_flows(n, mode, SMALL_LAYERS, |flow| compare_all(tally, &family, job, flow, random));
             });
         }
     }
@@ -70,10 +87,10 @@ pub fn all_small(tally: &mut Tally) {
 fn around_found(tally: &mut Tally, job: &Job, random: &mut Random) {
     let Some(whole) = found(job) else { return };
     let mode = job.mode;
-    compare(tally, &format!("verifier, mode {mode}, found flows"), job, &whole);
+    compare_all(tally, &format!("verifier, mode {mode}, found flows"), job, &whole, random);
     for kind in DAMAGES {
         if let Some(flow) = damaged(kind, job, &whole, random) {
-            compare(tally, &format!("verifier, mode {mode}, {kind}"), job, &flow);
+            compare_one(tally, &format!("verifier, mode {mode}, {kind}"), job, &flow, random);
         }
     }
 }
@@ -87,6 +104,6 @@ pub fn random_ones(tally: &mut Tally, random: &mut Random, count: usize) {
         let n = 1 + random.below(BY_CHANCE);
         let small = many::job_of(kind, mode, n, random);
         let flow = by_chance(&small, random);
-        compare(tally, &format!("verifier, mode {mode}, flows by chance"), &small, &flow);
+        compare_one(tally, &format!("verifier, mode {mode}, flows by chance"), &small, &flow, random);
     }
 }

@@ -24,7 +24,7 @@ fn main() -> ExitCode {
     finders::random_ones(tally, random, JOBS);
     finders::largest(tally, random, LARGEST_ROUNDS);
     finders::too_many(tally, random, TOO_MANY);
-    verifiers::all_small(tally);
+    verifiers::all_small(tally, random);
     verifiers::random_ones(tally, random, VERDICTS);
     solving::random_ones(tally, random, MATRICES);
     solving::wrong_shapes(tally, random, WRONG_SHAPES);

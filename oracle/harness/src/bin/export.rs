@@ -43,7 +43,7 @@ impl Sample {
     /// A job with the original's flow file or 0013.
     fn put_find(&mut self, job: &Job) {
         let answer = find_theirs(&job.bytes()).expect("no finder panics");
-        let what = if Flow::read(&answer).is_some() { "flow" } else { "no flow" };
+        let what = if Flow::read(&answer, job.n).is_some() { "flow" } else { "no flow" };
         self.put(b'f', format!("find, mode {}, {what}", job.mode), &job.bytes(), &answer);
     }
 
