@@ -4,25 +4,29 @@
 First stand cases A to N of document 01 and its edges, each claim by its name. SAMPLE is what oracle/export wrote: jobs and flows with the
 original's answers. Behind them stands a table, made here from documents 01 and 02 alone as the cases are, that reaches every refusal at each record or
 list where it can occur, on both sides of its boundary; and one entry that is wrong on purpose.
-An entry: kind, number, a, b, then two bytes each, lowest first: length of work buffer, of result buffer, of name, of query, of result; then
-name, query and result. Number 0 is an answer. Kinds: f finder, v verifier, s solver, w job writer, r the original's verdict (18 stands for 18 or 19)."""
+An entry: kind, number, a, then two bytes each, lowest first: b, length of work buffer, of result buffer, of name, of query, of result; then
+name, query and result. Number 0 is an answer. Kinds: f finder, v verifier, s solver, w job writer, r the original's verdict (18 stands for 18
+or 19). A finder's flow is compared after reading: the original's have layers of kind 0011."""
 import itertools
 import random
 import struct
 import sys
 
 WORK = 2048
-OUT = 16780
+OUT = 16908
+HEAD = 15
 CAUSAL, PLANES, PAULI = 1, 2, 3
 XY, YZ, XZ, X, Y, Z = 1, 2, 3, 4, 5, 6
 ACCEPTED = b"\0\0\0\0\x14\0"
 NO_FLOW = b"\0\0\0\0\x13\0"
+# layers in a byte for each node, and in two
+NARROW, WIDE = 0x11, 0x21
 WRAPS = 65535
 
 
 def entry(kind, query, result=b"", number=0, a=0, b=0, work=WORK, out=OUT, name=""):
-    lengths = struct.pack("<HHHHH", work, out, len(name), len(query), len(result))
-    return bytes([ord(kind), number, a, b]) + lengths + name.encode() + query + result
+    rest = struct.pack("<HHHHHH", b, work, out, len(name), len(query), len(result))
+    return bytes([ord(kind), number, a]) + rest + name.encode() + query + result
 
 
 def record(kind, payload):
@@ -33,17 +37,21 @@ def job_records(n, mode, edges=(), inputs=(), outputs=(), measured=()):
     return [record(1, [n, mode]), record(2, sum(edges, ())), record(3, inputs), record(4, outputs), record(5, measured)]
 
 
-def flow_records(layers, sets):
+def layers_record(layers, kind):
+    return record(kind, struct.pack(f"<{len(layers)}{'B' if kind == NARROW else 'H'}", *layers))
+
+
+def flow_records(layers, sets, kind=WIDE):
     entries = b"".join(bytes([u, len(members), *members]) for u, members in sets)
-    return [record(0x11, layers), record(0x12, entries)]
+    return [layers_record(layers, kind), record(0x12, entries)]
 
 
 def job(*words, **more):
     return b"".join(job_records(*words, **more))
 
 
-def flow(layers, *sets):
-    return b"".join(flow_records(layers, sets))
+def flow(layers, *sets, kind=WIDE):
+    return b"".join(flow_records(layers, sets, kind))
 
 
 # ---- Cases A to N of document 01, and its edges.
@@ -83,10 +91,11 @@ def refused(name, query, number, a, b):
 
 def cases():
     edge = bytes.fromhex("02000000 0100 0202 02000000 0200 0001 01000000 0300 00 01000000 0400 01 02000000 0500 0100")
-    edge_flow = bytes.fromhex("02000000 1100 0100 03000000 1200 000101")
+    edge_flow = bytes.fromhex("04000000 2100 0100 0000 03000000 1200 000101")
+    old_flow = bytes.fromhex("02000000 1100 0100 03000000 1200 000101")
     own = flow([1, 0], (0, [0]))
     alone = job(1, PLANES, measured=[YZ])
-    yield from found("A", edge, edge_flow)
+    yield from found("A", edge, edge_flow, old_flow)
     yield entry("w", lists(2, PLANES, [1, 0], [0], [1], [XY, 0]), edge, name="A written")
     yield from found("B", job(0, PLANES), flow([]))
     yield from not_found("C", alone, flow([1], (0, [0])))
@@ -104,8 +113,8 @@ def cases():
     big = list(range(128))
     yield entry("f", job(128, PLANES, outputs=big, measured=[0] * 128), flow([0] * 128), name="128 nodes")
     yield entry("f", job(129, PLANES, outputs=big, measured=[0] * 129), number=4, name="129 nodes (4)")
-    yield entry("f", edge, edge_flow, out=17, name="17 bytes hold A")
-    yield entry("f", edge, number=20, out=16, name="16 bytes do not (20)")
+    yield entry("f", edge, edge_flow, out=19, name="19 bytes hold A")
+    yield entry("f", edge, number=20, out=18, name="18 bytes do not (20)")
 
 
 # ---- Where the papers, the original and this port part: docs/DIFFERENCES.md.
@@ -135,7 +144,8 @@ def original(sample):
 # ---- Reading: a job of three nodes, its flow, and each record changed at its boundary.
 
 PATH = job_records(3, PLANES, [(0, 1), (1, 2)], [0], [2], [XY, XY, 0])
-PATH_FLOW = flow_records([2, 1, 0], [(0, [1]), (1, [2])])
+PATH_SETS = [(0, [1]), (1, [2])]
+PATH_FLOW = flow_records([2, 1, 0], PATH_SETS)
 
 
 def read(records, number, flow=PATH_FLOW):
@@ -155,9 +165,13 @@ def changed(records, at, new):
 
 
 def heads():
-    """1 and 2: five bytes of a head, another kind, a payload that is one byte short, a length that is too large."""
-    whole = PATH + PATH_FLOW
-    for at, part in enumerate(whole):
+    """1 and 2: five bytes of a head, another kind, a payload that is one byte short, a length that is too large; of a flow by each kind."""
+    yield from heads_of(PATH + PATH_FLOW, 0)
+    yield from heads_of(PATH + flow_records([2, 1, 0], PATH_SETS, NARROW), len(PATH))
+
+
+def heads_of(whole, first):
+    for at, part in list(enumerate(whole))[first:]:
         before = b"".join(whole[:at])
         for number, query in [
             (1, before + part[:5]),
@@ -198,8 +212,8 @@ def payloads():
 def flows():
     """3, 5, 6, 8 and 9 of a flow file."""
     yield from read_flow(PATH_FLOW, 0)
-    for layers in ([2, 1], [2, 1, 0, 0]):
-        yield from read_flow(changed(PATH_FLOW, 0, record(0x11, layers)), 3)
+    yield from layers_lengths()
+    yield from layers_places()
     for sets, number in [([0], 3), ([0, 1], 3), ([0, 1, 1, 1], 3), ([0, 2, 1, 1, 1], 3), ([3, 1, 1], 5), ([0, 1, 3], 5),
                          ([1, 1, 2, 3, 1, 1], 5), ([0, 2, 1, 1], 6), ([0, 2, 2, 1], 6), ([1, 1, 2, 0, 1, 1], 6), ([0, 1, 1, 0, 1, 1], 6)]:
         yield from read_flow(changed(PATH_FLOW, 1, record(0x12, sets)), number)
@@ -209,6 +223,33 @@ def flows():
     causal = job_records(2, CAUSAL, [(0, 1)], [0], [1], [XY, 0])
     for sets, number in [([(0, [1])], 0), ([(0, [])], 9), ([(0, [0, 1])], 9)]:
         yield from read_flow(flow_records([1, 0], sets), number, causal)
+
+
+def layers_lengths():
+    """3 of the layers: n bytes of 0011, 2n of 0021, and neither a byte less nor one more, nor the length of the other kind; 2 before it."""
+    for n in (0, 1, 3, 128):
+        outputs = job_records(n, PLANES, outputs=range(n), measured=[0] * n)
+        for kind, exact in ((NARROW, n), (WIDE, 2 * n)):
+            for size in sorted({exact - 1, exact, exact + 1, n, 2 * n} - {-1}):
+                layers = record(kind, [0] * size)
+                yield from read_flow([layers, record(0x12, [])], 0 if size == exact else 3, outputs)
+                yield from read_flow([layers[:-1]], 2 if size else 1, outputs)
+
+
+def layers_places():
+    """1 where another kind stands in the layers' place, either kind of layers in the sets' place, and 8 behind the sets."""
+    narrow, wide = layers_record([2, 1, 0], NARROW), layers_record([2, 1, 0], WIDE)
+    sets = PATH_FLOW[1]
+    for kind in (0x0000, 0x0001, 0x0010, 0x0012, 0x0013, 0x0020, 0x0022, 0x0111, 0x0121, 0x1100, 0x2100, 0x1111, 0x2121):
+        for payload in (narrow[6:], wide[6:]):
+            yield from read_flow([record(kind, payload), sets], 1)
+    for first in (narrow, wide):
+        yield from read_flow([first, sets], 0)
+        yield from read_flow([first], 1)
+        yield from read_flow([sets, first], 1)
+        for second in (narrow, wide):
+            yield from read_flow([first, second, sets], 1)
+            yield from read_flow([first, sets, second], 8)
 
 
 # ---- The finder's own questions, and the writer's.
@@ -233,55 +274,63 @@ def finder():
 
 # ---- The verifier's questions on the flow.
 
-def verdict(job, flow, number=0, a=0, b=0):
-    return entry("v", job + flow, b"" if number else ACCEPTED, number, a, b)
+def verdict(job, flows, number=0, a=0, b=0):
+    """Each of the flows has this verdict."""
+    for flow in flows:
+        yield entry("v", job + flow, b"" if number else ACCEPTED, number, a, b)
+
+
+def judged(layers, *sets):
+    """The flow by each kind that holds its layers."""
+    return [flow(layers, *sets, kind=kind) for kind in (NARROW, WIDE) if kind == WIDE or max(layers) < 256]
 
 
 def verifier():
     path = b"".join(PATH)
     # 13: an input in another node's set; in its own it may be
     own = job(2, PLANES, [(0, 1)], [0], [1], [YZ, 0])
-    yield verdict(own, flow([1, 0], (0, [0])))
+    yield from verdict(own, judged([1, 0], (0, [0])))
     two = job(3, PLANES, [(0, 1), (0, 2)], [1], [1, 2], [XY, 0, 0])
-    yield verdict(two, flow([1, 0, 0], (0, [2])))
-    yield verdict(two, flow([1, 0, 0], (0, [1])), 13, 0)
+    yield from verdict(two, judged([1, 0, 0], (0, [2])))
+    yield from verdict(two, judged([1, 0, 0], (0, [1])), 13, 0)
     # 14: a set missing, empty, or at an output
-    yield verdict(path, flow([2, 1, 0], (0, [1])), 14, 1)
-    yield verdict(path, flow([2, 1, 0], (0, []), (1, [2])), 14, 0)
-    yield verdict(path, flow([2, 1, 0], (0, [1]), (1, [2]), (2, [1])), 14, 2)
+    yield from verdict(path, judged([2, 1, 0], (0, [1])), 14, 1)
+    yield from verdict(path, judged([2, 1, 0], (0, []), (1, [2])), 14, 0)
+    yield from verdict(path, judged([2, 1, 0], (0, [1]), (1, [2]), (2, [1])), 14, 2)
     # 15 and 16: layers of outputs and of the others, in one pass by node
-    yield verdict(path, flow([2, 1, 1], (0, [1]), (1, [2])), 15, 2, 1)
-    yield verdict(path, flow([2, 1, 255], (0, [1]), (1, [2])), 15, 2, 255)
-    yield verdict(path, flow([2, 0, 1], (0, [1]), (1, [2])), 16, 1)
-    yield verdict(path, flow([0, 1, 0], (0, [1]), (1, [2])), 16, 0)
+    yield from verdict(path, judged([2, 1, 1], (0, [1]), (1, [2])), 15, 2, 1)
+    yield from verdict(path, judged([2, 1, 255], (0, [1]), (1, [2])), 15, 2, 255)
+    yield from verdict(path, judged([2, 0, 1], (0, [1]), (1, [2])), 16, 1)
+    yield from verdict(path, judged([0, 1, 0], (0, [1]), (1, [2])), 16, 0)
     causal = job(2, CAUSAL, [(0, 1)], [0], [1], [XY, 0])
-    yield verdict(causal, flow([0, 0], (0, [1])), 16, 0)
+    yield from verdict(causal, judged([0, 0], (0, [1])), 16, 0)
     alone = job(2, PAULI, [], [], [1], [Z, 0])
-    yield verdict(alone, flow([0, 0], (0, [0])))
+    yield from verdict(alone, judged([0, 0], (0, [0])))
     # 17: an entry, though an empty one, at an output
-    yield verdict(path, flow([2, 1, 0], (0, [1]), (1, [2]), (2, [])), 17, 2)
+    yield from verdict(path, judged([2, 1, 0], (0, [1]), (1, [2]), (2, [])), 17, 2)
     xpath = job(3, PAULI, [(0, 1), (1, 2)], [0], [2], [XY, X, 0])
-    yield verdict(xpath, flow([1, 1, 0], (0, [1]), (1, [2]), (2, [])), 17, 2)
+    yield from verdict(xpath, judged([1, 1, 0], (0, [1]), (1, [2]), (2, [])), 17, 2)
     yield from order()
     yield from planes()
     yield from causal_order()
+    yield from two_bytes()
 
 
 def order():
     """18: a member, or a node of Odd, that is not later, and that X, Y or Z does not excuse."""
     path = b"".join(PATH)
-    yield verdict(path, flow([2, 1, 0], (0, [1]), (1, [2])))
-    yield verdict(path, flow([1, 1, 0], (0, [1]), (1, [2])), 18, 0, 1)
+    yield from verdict(path, judged([2, 1, 0], (0, [1]), (1, [2])))
+    yield from verdict(path, judged([1, 1, 0], (0, [1]), (1, [2])), 18, 0, 1)
     triangle = job(3, PLANES, [(0, 1), (0, 2), (1, 2)], [], [2], [XY, XY, 0])
-    yield verdict(triangle, flow([1, 1, 0], (0, [2]), (1, [2])), 18, 0, 1)
-    yield verdict(triangle, flow([2, 1, 0], (0, [2]), (1, [2])), 18, 1, 0)
+    yield from verdict(triangle, judged([1, 1, 0], (0, [2]), (1, [2])), 18, 0, 1)
+    yield from verdict(triangle, judged([2, 1, 0], (0, [2]), (1, [2])), 18, 1, 0)
     for second, number in [(X, 0), (XY, 18)]:
         mixed = job(3, PAULI, [(0, 1), (1, 2)], [0], [2], [XY, second, 0])
-        yield verdict(mixed, flow([1, 1, 0], (0, [1]), (1, [2])), number, 0, 1 if number else 0)
+        yield from verdict(mixed, judged([1, 1, 0], (0, [1]), (1, [2])), number, 0, 1 if number else 0)
     for second, number in [(Z, 0), (XY, 18)]:
         mixed = job(4, PAULI, [(0, 2), (1, 2), (1, 3)], [], [2, 3], [XY, second, 0, 0])
         sets = [(0, [2]), (1, [1] if second == Z else [3])]
-        yield verdict(mixed, flow([1, 1, 0, 0], *sets), number, 0, 1 if number else 0)
+        yield from verdict(mixed, judged([1, 1, 0, 0], *sets), number, 0, 1 if number else 0)
 
 
 def planes():
@@ -291,24 +340,84 @@ def planes():
         holds = {XY: not inside and odd, YZ: inside and not odd, XZ: inside and odd, X: odd, Y: inside != odd, Z: inside}[m]
         edge = job(2, PAULI if m > XZ else PLANES, [(0, 1)], [], [1], [m, 0])
         members = [0] * inside + [1] * odd
-        yield verdict(edge, flow([1, 0], (0, members)), 0 if holds else 19, 0)
+        yield from verdict(edge, judged([1, 0], (0, members)), 0 if holds else 19, 0)
     # node 1, measured in Y and no later than 0, is in the set of 0 and not in its Odd; a common neighbour puts it in both
     y = job(4, PAULI, [(0, 1), (1, 2), (1, 3)], [], [2, 3], [XY, Y, 0, 0])
-    yield verdict(y, flow([1, 1, 0, 0], (0, [1]), (1, [2])), 19, 0)
-    yield verdict(y, flow([1, 1, 0, 0], (0, [1, 3]), (1, [2])))
-    yield verdict(y, flow([2, 1, 0, 0], (0, [1]), (1, [2])))
+    yield from verdict(y, judged([1, 1, 0, 0], (0, [1]), (1, [2])), 19, 0)
+    yield from verdict(y, judged([1, 1, 0, 0], (0, [1, 3]), (1, [2])))
+    yield from verdict(y, judged([2, 1, 0, 0], (0, [1]), (1, [2])))
 
 
 def causal_order():
     """18 of mode 1: f(i) later, its neighbours later, the two adjacent."""
     path = job(3, CAUSAL, [(0, 1), (1, 2)], [0], [2], [XY, XY, 0])
-    yield verdict(path, flow([2, 1, 0], (0, [1]), (1, [2])))
-    yield verdict(path, flow([1, 1, 0], (0, [1]), (1, [2])), 18, 0, 1)
+    yield from verdict(path, judged([2, 1, 0], (0, [1]), (1, [2])))
+    yield from verdict(path, judged([1, 1, 0], (0, [1]), (1, [2])), 18, 0, 1)
     apart = job(3, CAUSAL, [(1, 2)], [], [2], [XY, XY, 0])
-    yield verdict(apart, flow([1, 1, 0], (0, [2]), (1, [2])), 18, 0, 1)
-    yield verdict(apart, flow([2, 1, 0], (0, [2]), (1, [2])), 18, 0, 2)
+    yield from verdict(apart, judged([1, 1, 0], (0, [2]), (1, [2])), 18, 0, 1)
+    yield from verdict(apart, judged([2, 1, 0], (0, [2]), (1, [2])), 18, 0, 2)
     itself = job(2, CAUSAL, [(0, 1)], [0], [1], [XY, 0])
-    yield verdict(itself, flow([1, 0], (0, [0])), 18, 0, 0)
+    yield from verdict(itself, judged([1, 0], (0, [0])), 18, 0, 0)
+
+
+# Where a byte is full, where the two bytes change places, and the highest.
+LAYERS = [1, 255, 256, 257, 300, 512, 65534, 65535]
+
+
+def two_bytes():
+    """Layers in two bytes, with gaps: both bytes count, in their order."""
+    for mode in (CAUSAL, PLANES, PAULI):
+        path = path_job(mode, XY, XY)
+        for first, second in itertools.product(LAYERS, LAYERS):
+            later = second < first
+            yield from verdict(path, judged([first, second, 0], *PATH_SETS), 0 if later else 18, 0, 0 if later else 1)
+        # 15: b has two bytes
+        for layer in LAYERS + [258, 513, 32768, 65280]:
+            yield from verdict(path, judged([2, 1, layer], *PATH_SETS), 15, 2, layer)
+            yield from verdict(path, judged([layer, layer, layer], *PATH_SETS), 15, 2, layer)
+        yield from long_path(mode)
+    for mode in (CAUSAL, PLANES):
+        # 16, in one pass with 15 by node: a low byte of 0 is not layer 0
+        path, edge = path_job(mode, XY, XY), job(2, mode, [(0, 1)], [], [0], [0, XY])
+        for layer in (256, 512, 65280, 65535):
+            yield from verdict(path, judged([layer, 0, 0], *PATH_SETS), 16, 1)
+            yield from verdict(path, judged([0, layer, 0], *PATH_SETS), 16, 0)
+            yield from verdict(path, judged([layer, 0, layer], *PATH_SETS), 16, 1)
+            yield from verdict(edge, judged([0, layer], (1, [0])))
+            yield from verdict(edge, judged([layer, 0], (1, [0])), 15, 0, layer)
+    yield from other_orders()
+
+
+def long_path(mode):
+    """Each node's layer from its own two bytes: 128 nodes, each 516 above the next, and one as high as the next."""
+    n = 128
+    path = job(n, mode, [(u, u + 1) for u in range(n - 1)], [0], [n - 1], [XY] * (n - 1) + [0])
+    sets = [(u, [u + 1]) for u in range(n - 1)]
+    layers = [516 * (n - 1 - u) for u in range(n)]
+    yield from verdict(path, judged(layers, *sets))
+    for u in (0, 63, 125):
+        yield from verdict(path, judged(changed(layers, u, layers[u + 1]), *sets), 18, u, u + 1)
+    yield from verdict(path, judged(changed(layers, n - 1, 1), *sets), 15, n - 1, 1)
+
+
+def other_orders():
+    """18 of Odd and of a neighbour, 19, and a node that X excuses, by layers past 255."""
+    triangle = job(3, PLANES, [(0, 1), (0, 2), (1, 2)], [], [2], [XY, XY, 0])
+    apart = job(3, CAUSAL, [(1, 2)], [], [2], [XY, XY, 0])
+    y = job(4, PAULI, [(0, 1), (1, 2), (1, 3)], [], [2, 3], [XY, Y, 0, 0])
+    for first, second in [(300, 300), (256, 512), (1, 256), (255, 256), (65534, 65535), (512, 256), (256, 1), (256, 255), (65535, 65534)]:
+        later = second < first
+        yield from verdict(triangle, judged([first, second, 0], (0, [2]), (1, [2])), 18, int(later), int(not later))
+        yield from verdict(apart, judged([first, second, 0], (0, [2]), (1, [2])), 18, 0, 2 if later else 1)
+        yield from verdict(y, judged([first, second, 0, 0], (0, [1]), (1, [2])), 0 if later else 19, 0)
+        yield from verdict(path_job(PAULI, XY, X), judged([first, second, 0], *PATH_SETS))
+    edge = job(2, PLANES, [(0, 1)], [], [1], [XY, 0])
+    alone = job(2, PAULI, [], [], [1], [Z, 0])
+    for layer in (256, 65535):
+        yield from verdict(edge, judged([layer, 0], (0, [0])), 19, 0)
+        yield from verdict(edge, judged([layer, 0], (0, [1])))
+        yield from verdict(alone, judged([layer, 0], (0, [0])))
+        yield from verdict(alone, judged([0, layer], (0, [0])), 15, 1, layer)
 
 
 # ---- The solver: 11 and 12.
@@ -496,8 +605,8 @@ def random_jobs():
 
 def expected(entries, wrong):
     """What the program prints: the entries with a name, the wrong entry, and how many of each number are as stored."""
-    names = [e[14:14 + struct.unpack_from("<H", e, 8)[0]].decode() for e in entries]
-    lines = [f"{name}: as document 01 says" for name in names if name]
+    names = [e[HEAD:HEAD + struct.unpack_from("<H", e, 9)[0]].decode() for e in entries]
+    lines = [f"{name}: as the documents say" for name in names if name]
     lines.append(f"entry {wrong}: DIFFERENT")
     for number in range(22):
         count = sum(e[1] == number for at, e in enumerate(entries) if at != wrong)
@@ -511,9 +620,9 @@ def main():
     entries = list(cases()) + list(differences())
     with open(sample, "rb") as file:
         entries.extend(original(file.read()))
-    # wrong on purpose: case A with its node in layer 2
+    # wrong on purpose: case A with its node in layer 257, of which the lower byte alone is as it should be
     wrong = len(entries)
-    entries.append(entry("f", job(2, PLANES, [(0, 1)], [0], [1], [XY, 0]), flow([2, 0], (0, [1]))))
+    entries.append(entry("f", job(2, PLANES, [(0, 1)], [0], [1], [XY, 0]), flow([257, 0], (0, [1]))))
     writer = (openings, nodes_of_lists, measurements, given_twice, room, precedence, random_jobs)
     for part in (heads, payloads, flows, finder, verifier, solver) + writer:
         entries.extend(part())

@@ -1,8 +1,9 @@
 // Stored answers, run again on the library through its entries for C. Standard input holds entries one after another, each a
 // call and what it should answer and leave: cases A to N of document 01 and its edges, by name; the original's answers; each refusal at
-// its boundary; jobs written from lists. oracle/README.md says how they were made. One entry is wrong on purpose: a run that does not
+// its boundary, flows by either kind of layers; jobs written from lists. oracle/README.md says how they were made. One entry is wrong on purpose: a run that does not
 // report it compares nothing.
 mod entry; // entry.rt: what the head of an entry says
+mod flow; // flow.rt: the flow of the finder, compared after reading
 mod run; // run.rt: the call of one entry, compared
 
 use entry::HEAD_BYTES;
@@ -61,7 +62,7 @@ fn tell(name: &[u8], entry: u64, same: bool) {
     if !same {
         print(b": DIFFERENT\n");
     } else if name.len() > 0 {
-        print(b": as document 01 says\n");
+        print(b": as the documents say\n");
     }
 }
 
@@ -71,9 +72,9 @@ fn replay_one(bytes: &[u8], entry: u64, equal: &mut [u64]) -> usize {
     if len < HEAD_BYTES {
         return 0;
     }
-    let name = HEAD_BYTES + two_bytes(bytes[8], bytes[9]);
-    let query = name + two_bytes(bytes[10], bytes[11]);
-    let end = query + two_bytes(bytes[12], bytes[13]);
+    let name = HEAD_BYTES + two_bytes(bytes[9], bytes[10]);
+    let query = name + two_bytes(bytes[11], bytes[12]);
+    let end = query + two_bytes(bytes[13], bytes[14]);
     if end > len {
         return 0;
     }

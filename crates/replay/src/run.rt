@@ -1,11 +1,15 @@
 // The call of one entry on filled buffers: is its answer, and is each byte that it leaves, as stored?
 ghost use Prim.Native.Nat.{_≤_};
+use crate::entry::a;
+use crate::entry::b;
 use crate::entry::byte;
 use crate::entry::kind;
 use crate::entry::number;
 use crate::entry::out_len;
 use crate::entry::two_bytes;
 use crate::entry::work_len;
+use crate::flow::is_flow;
+use crate::flow::same_flow;
 use capi::bolz_find;
 use capi::bolz_solve;
 use capi::bolz_verify;
@@ -40,7 +44,10 @@ const FILL: u8 = 0xA5;
 // No buffer that is lent here is longer.
 const MOST_WORK: usize = 2304;
 
-const MOST_OUT: usize = 16800;
+const MOST_OUT: usize = 16928;
+
+// Where a job has its number of nodes.
+const NODES_AT: usize = 6;
 
 // Rows, columns, right sides and the right side that is asked for, two bytes each, stand before the matrix.
 const SHAPE_BYTES: usize = 8;
@@ -56,7 +63,7 @@ fn stored(head: &[u8], count: usize) -> u64 {
     if number(head) == 0 {
         return count as u64;
     }
-    number(head) as u64 * NUMBER_UNIT + byte(head, 2) as u64 * A_UNIT + byte(head, 3) as u64
+    number(head) as u64 * NUMBER_UNIT + a(head) as u64 * A_UNIT + b(head) as u64
 }
 
 // What the finder leaves in each byte of its work buffer.
@@ -65,6 +72,20 @@ fn left_in_work(number: u8) -> u8 {
         return 0;
     }
     FILL
+}
+
+// A flow that is stored is compared after reading, with the bytes behind it as they were; 0013 and what a refusal leaves as bytes.
+fn found_as_stored(got: u64, head: &[u8], query: &[u8], result: &[u8], outs: &[u8]) -> bool {
+    let n = byte(query, NODES_AT) as usize;
+    let len = outs.len();
+    if !is_flow(result, n) {
+        return got == stored(head, result.len()) && holds(outs, result, FILL);
+    }
+    if got > len as u64 {
+        return false;
+    }
+    let count = got as usize;
+    same_flow(&outs[0..count], result, n) && holds(&outs[count..len], b"", FILL)
 }
 
 fn find_as_stored(
@@ -81,8 +102,7 @@ fn find_as_stored(
         return false;
     }
     let got = bolz_find(query, &mut works[0..work_len], &mut outs[0..out_len]);
-    got == stored(head, result.len())
-        && holds(outs, result, FILL)
+    found_as_stored(got, head, query, result, outs)
         && holds(&works[0..work_len], b"", left_in_work(number(head)))
         && holds(&works[work_len..most], b"", FILL)
 }
