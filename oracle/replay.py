@@ -389,11 +389,11 @@ def two_bytes():
 
 
 def long_path(mode):
-    """Each node's layer from its own two bytes: 128 nodes, each 516 above the next, and one as high as the next."""
+    """128 nodes, each above the next though its lower byte is smaller; and one as high as the next."""
     n = 128
     path = job(n, mode, [(u, u + 1) for u in range(n - 1)], [0], [n - 1], [XY] * (n - 1) + [0])
     sets = [(u, [u + 1]) for u in range(n - 1)]
-    layers = [516 * (n - 1 - u) for u in range(n)]
+    layers = [512 * (n - 1 - u) + u for u in range(n - 1)] + [0]
     yield from verdict(path, judged(layers, *sets))
     for u in (0, 63, 125):
         yield from verdict(path, judged(changed(layers, u, layers[u + 1]), *sets), 18, u, u + 1)
