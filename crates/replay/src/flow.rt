@@ -14,10 +14,11 @@ pub(crate) fn is_flow(file: &[u8], n: usize) -> bool {
     }
 }
 
-fn same_layers(file: &[u8], flow: FlowPlaces, other_file: &[u8], other: FlowPlaces, n: usize) -> bool {
+// Is each node's layer the same number?
+fn same_layers(file: &[u8], flow: FlowPlaces, stored: &[u8], wanted: FlowPlaces, n: usize) -> bool {
     let mut u = 0;
     while u < n {
-        if layer_of(file, flow, u) != layer_of(other_file, other, u) {
+        if layer_of(file, flow, u) != layer_of(stored, wanted, u) {
             return false;
         }
         u += 1;
@@ -25,21 +26,21 @@ fn same_layers(file: &[u8], flow: FlowPlaces, other_file: &[u8], other: FlowPlac
     true
 }
 
-// Each holds what the other does.
+// Each holds what the other does, and no more.
 fn same_bytes(x: &[u8], y: &[u8]) -> bool {
     holds(x, y, 0) && holds(y, x, 0)
 }
 
-// Is the first, by layers of kind 0021 and with nothing behind it, the flow of n nodes that is stored in the second?
+// Is the first, by layers of kind 0021 and with nothing behind it, the flow of n nodes that the second holds by either kind?
 pub(crate) fn same_flow(file: &[u8], stored: &[u8], n: usize) -> bool {
     match read_flow(file, 0, n) {
         FlowRead::Flow(flow) => match read_flow(stored, 0, n) {
-            FlowRead::Flow(other) => {
+            FlowRead::Flow(wanted) => {
                 flow.wide
                     && flow.end == file.len()
-                    && other.end == stored.len()
-                    && same_layers(file, flow, stored, other, n)
-                    && same_bytes(payload(file, flow.sets), payload(stored, other.sets))
+                    && wanted.end == stored.len()
+                    && same_layers(file, flow, stored, wanted, n)
+                    && same_bytes(payload(file, flow.sets), payload(stored, wanted.sets))
             }
             FlowRead::Refused(_) => false,
         },

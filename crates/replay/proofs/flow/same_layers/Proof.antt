@@ -4,10 +4,10 @@ use Rattle.replay.proofs.flow.same_layers.Statement.{statement}
 use Rattle.replay.proofs.flow.same_layers.Tie as tie
 
 abbrev Inv-loop : tie.InvT-loop
-Inv-loop file flow other-file other n u₀ u = u ≤ n
+Inv-loop file flow stored wanted n u₀ u = u ≤ n
 
 abbrev μ-loop : tie.MeasureT-loop
-μ-loop file flow other-file other n u₀ u = n - u
+μ-loop file flow stored wanted n u₀ u = n - u
 
 loop-holds : tie.Need-loop-holds Inv-loop μ-loop
 loop-holds c = search needs
