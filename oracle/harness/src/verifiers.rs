@@ -58,9 +58,9 @@ fn compare(tally: &mut Tally, family: &str, job: &Job, flow: &Flow) {
 
 /// The flow by each kind, and by other numbers.
 fn compare_all(tally: &mut Tally, family: &str, job: &Job, flow: &Flow, random: &mut Random) {
-    for flow in [flow.clone(), widened(flow), spread(flow, random)] {
-        compare(tally, family, job, &flow);
-    }
+    compare(tally, family, job, flow);
+    compare(tally, family, job, &widened(flow));
+    compare(tally, &format!("{family}, other numbers"), job, &spread(flow, random));
 }
 
 /// The flow by one of these.
