@@ -1,5 +1,5 @@
 -- What a program's call leaves: its whole output where it fits, and it fits where any has room.
-use Prim.Native.Nat.{ℕ, _-_, _%_, _≤_, _<_, min}
+use Prim.Native.Nat.{ℕ, _-_, _≤_, _<_, min}
 use mathlib.Core.Path.{_≡_, refl, sym, ap, _∙_, subst}
 use mathlib.Core.Bool.{Bool, true, false, cond}
 use mathlib.Core.Option.{Option, none, some}
@@ -15,7 +15,7 @@ use Rattle.nodes.specs.Lists.{zeros}
 use Rattle.nodes.proofs.Logic.{le-or-lt}
 use Rattle.solver.specs.Solver.{workBytes}
 use Rattle.answers.specs.Answer.{Refusal, Answer, gives, refuses, refusal, asks, _>>_}
-use Rattle.records.specs.Records.{written, kindAccepted, kindRefusal}
+use Rattle.records.specs.Records.{written, kindAccepted, kindRefusal, inTwoBytes}
 use Rattle.records.specs.JobFile.{JobFile}
 use Rattle.records.specs.Splice.{fitsIn, putFront, putAnswer}
 use Rattle.records.specs.Writing.{mostOutput}
@@ -53,8 +53,9 @@ printed-few refused output out p e = subst (λ (p : Printed). p .count ≤ lengt
     by false e = omega arith
 
 -- ---- 001F
-refusal-length : (r : Refusal) → length (refusalBytes r) ≡ 9
-refusal-length r = written-length kindRefusal (r .number ∷ r .a ∷ r .b % 256 ∷ [])
+refusal-length : (r : Refusal) → length (refusalBytes r) ≡ 10
+unfolding inTwoBytes
+refusal-length r = written-length kindRefusal (r .number ∷ r .a ∷ inTwoBytes (r .b ∷ []))
 
 -- what is told, and how much is written, where so many bytes fit
 abbrev pub fitting : Refusal → Answer ℕ → Refusal

@@ -12,6 +12,7 @@ use calls::verify::verify;
 use records::common::HEAD_BYTES;
 use records::common::KIND_REFUSAL;
 use records::common::MOST_NODES;
+use records::common::WIDE_LAYER_BYTES;
 use records::writer::Put;
 use records::writer::write_record;
 use solver::gf2_linalg::WORK_BYTES;
@@ -21,7 +22,9 @@ pub const JUDGED_BYTES: usize = 65536;
 
 // With a buffer of so many bytes no call ends with 20: the heads of two records, a layer for each node, and entries of node,
 // count and members.
-pub const MOST_OUTPUT: usize = 2 * HEAD_BYTES + MOST_NODES + MOST_NODES * (MOST_NODES + 2);
+pub const MOST_OUTPUT: usize = 2 * HEAD_BYTES
+    + WIDE_LAYER_BYTES * MOST_NODES
+    + MOST_NODES * (MOST_NODES + 2);
 
 // The writer's question.
 const TOO_LONG: u8 = 20;
@@ -62,7 +65,7 @@ fn refused(count: usize, q: Refusal) -> Output
 fn write_refusal(out: &mut [u8], q: Refusal) -> Output
     ensures { λ r. ⌜ outputOf r (now (out .exit)) ≡ printed (some (refusalOf q)) (refusalBytes (refusalOf q)) (now (out .entry)) ⌝ }
 {
-    let payload = [q.0, q.1, (q.2 % 256) as u8];
+    let payload = [q.0, q.1, (q.2 % 256) as u8, (q.2 / 256) as u8];
     match write_record(out, KIND_REFUSAL, &payload) {
         Put::Bytes(k) => refused(k, q),
         Put::TooLong => refused(0, Refusal::RESULT_TOO_LONG),
