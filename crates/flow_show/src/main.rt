@@ -1,6 +1,6 @@
 // What the two programs write, as text on standard output: a line for each node of a flow file.
 // Of a file that is cut, and of one that neither program wrote, it says so on standard error and shows nothing.
-ghost use Prim.Native.Nat.{_≤_};
+ghost use Prim.Native.Nat.{_+_, _*_, _≤_};
 ghost use mathlib.Core.Path.{_≡_};
 ghost use lib.ListN.{length, getD};
 ghost use Rattle.messages.specs.Message.{line, putWhole};
@@ -9,15 +9,20 @@ use libc::STDOUT_FILENO;
 use messages::LINE_ROOM;
 use messages::message;
 use records::common::ENTRY_HEAD_BYTES;
+use records::common::FlowPlaces;
 use records::common::FlowRead;
 use records::common::HEAD_BYTES;
 use records::common::KIND_ACCEPTED;
 use records::common::KIND_LAYERS;
 use records::common::KIND_NO_FLOW;
 use records::common::KIND_REFUSAL;
+use records::common::KIND_WIDE_LAYERS;
 use records::common::MOST_NODES;
+use records::common::WIDE_LAYER_BYTES;
 use records::common::byte_at;
 use records::common::number;
+use records::reader::layer_count;
+use records::reader::layer_of;
 use records::reader::read_flow;
 use streams::Input;
 use streams::only_usage;
@@ -29,14 +34,14 @@ use streams::write_error;
 const MOST_BYTES: usize = 65536;
 
 // The payload of 001F.
-const REFUSAL_PAYLOAD: usize = 3;
+const REFUSAL_PAYLOAD: usize = 4;
 
 // The question whether the whole payload is there.
 const CUT_PAYLOAD: u8 = 2;
 
 // What a file is, judged by the heads of its records, its length and the entries of its sets.
 enum Judged {
-    Flow,
+    Flow(FlowPlaces),
     NoFlow,
     Accepted,
     Refusal,
@@ -54,13 +59,17 @@ fn length_field(file: &[u8]) -> usize {
     a + 256 * b + 65536 * c + 16777216 * d
 }
 
-fn kind_field(file: &[u8]) -> u16 {
-    byte_at(file, 4) as u16 + 256 * byte_at(file, 5) as u16
+// The number in the two bytes from this place on.
+fn two_bytes(file: &[u8], at: usize) -> u16
+    requires { ⌜ at ≤ 8 ⌝ }
+    ensures { λ r. ⌜ r ≡ getD (now (file .entry)) at 0 + 256 * getD (now (file .entry)) (at + 1) 0 ⌝ }
+{
+    byte_at(file, at) as u16 + 256 * byte_at(file, at + 1) as u16
 }
 
 // A file of one record whose payload should have so many bytes.
 fn judge_single(file: &[u8], payload: usize, whole: Judged) -> Judged
-    requires { ⌜ payload ≤ 3 ⌝ }
+    requires { ⌜ payload ≤ 4 ⌝ }
 {
     if length_field(file) != payload {
         return Judged::Other;
@@ -74,18 +83,20 @@ fn judge_single(file: &[u8], payload: usize, whole: Judged) -> Judged
     whole
 }
 
-// A flow file: layers and sets as the verifier reads them, and nothing behind them.
-fn judge_flow(file: &[u8], n: usize) -> Judged {
+// A flow file of n nodes, whose layers take so many bytes: layers and sets as the verifier reads them, and nothing behind them.
+fn judge_flow(file: &[u8], n: usize, layers: usize) -> Judged
+    requires { ⌜ layers ≤ 2 * n ⌝ }
+{
     if n > MOST_NODES {
         return Judged::Other;
     }
-    if file.len() < 2 * HEAD_BYTES + n {
+    if file.len() < 2 * HEAD_BYTES + layers {
         return Judged::Cut;
     }
     match read_flow(file, 0, n) {
         FlowRead::Flow(flow) => {
             if flow.end == file.len() {
-                return Judged::Flow;
+                return Judged::Flow(flow);
             }
             Judged::Other
         }
@@ -98,12 +109,22 @@ fn judge_flow(file: &[u8], n: usize) -> Judged {
     }
 }
 
+// A flow file with layers of the wide kind; no node has half a layer.
+fn judge_wide(file: &[u8], layers: usize) -> Judged {
+    if layers % WIDE_LAYER_BYTES != 0 {
+        return Judged::Other;
+    }
+    judge_flow(file, layers / WIDE_LAYER_BYTES, layers)
+}
+
 fn judge(file: &[u8]) -> Judged {
     if file.len() < HEAD_BYTES {
         return Judged::Cut;
     }
-    match kind_field(file) {
-        KIND_LAYERS => judge_flow(file, length_field(file)),
+    let len = length_field(file);
+    match two_bytes(file, 4) {
+        KIND_LAYERS => judge_flow(file, len, len),
+        KIND_WIDE_LAYERS => judge_wide(file, len),
         KIND_NO_FLOW => judge_single(file, 0, Judged::NoFlow),
         KIND_ACCEPTED => judge_single(file, 0, Judged::Accepted),
         KIND_REFUSAL => judge_single(file, REFUSAL_PAYLOAD, Judged::Refusal),
@@ -117,12 +138,12 @@ fn print(text: &[u8]) -> bool {
     io::write_all(STDOUT_FILENO, text)
 }
 
-fn print_number(x: u8) -> bool {
+fn print_number(x: usize) -> bool {
     io::print_decimal(STDOUT_FILENO, x as u64)
 }
 
 fn show_member(k: u8) -> bool {
-    print(b" ") && print_number(k)
+    print(b" ") && print_number(number(k))
 }
 
 fn show_members(file: &[u8], start: usize, end: usize) -> bool {
@@ -136,18 +157,18 @@ fn show_members(file: &[u8], start: usize, end: usize) -> bool {
     true
 }
 
-fn show_layer(file: &[u8], v: u8) -> bool {
+fn show_layer(file: &[u8], flow: FlowPlaces, v: usize) -> bool {
     print(b"node ")
         && print_number(v)
         && print(b"  layer ")
-        && print_number(byte_at(file, HEAD_BYTES + number(v)))
+        && print_number(layer_of(file, flow, v) as usize)
 }
 
 // Where the entry of node v ends, if it is the one at this place; else this place.
-fn entry_end(file: &[u8], v: u8, at: usize) -> usize
+fn entry_end(file: &[u8], v: usize, at: usize) -> usize
     requires { ⌜ length (now file) ≤ 65536 ⌝ }
 {
-    if at >= file.len() || byte_at(file, at) != v {
+    if at >= file.len() || number(byte_at(file, at)) != v {
         return at;
     }
     at + ENTRY_HEAD_BYTES + number(byte_at(file, at + 1))
@@ -163,21 +184,22 @@ fn show_entry(file: &[u8], at: usize, end: usize) -> bool
     print(b"  corrected by") && show_members(file, at + ENTRY_HEAD_BYTES, end)
 }
 
-fn show_node(file: &[u8], v: u8, at: usize, end: usize) -> bool
+fn show_node(file: &[u8], flow: FlowPlaces, v: usize, at: usize, end: usize) -> bool
     requires { ⌜ length (now file) ≤ 65536 ⌝ }
 {
-    show_layer(file, v) && show_entry(file, at, end) && print(b"\n")
+    show_layer(file, flow, v) && show_entry(file, at, end) && print(b"\n")
 }
 
-fn show_flow(file: &[u8]) -> bool
+fn show_flow(file: &[u8], flow: FlowPlaces) -> bool
     requires { ⌜ length (now file) ≤ 65536 ⌝ }
 {
-    let n = byte_at(file, 0);
-    let mut at = 2 * HEAD_BYTES + number(n);
+    let n = layer_count(file, flow);
+    let sets = flow.sets;
+    let mut at = sets.start;
     let mut v = 0;
     while v < n {
         let end = entry_end(file, v, at);
-        if !show_node(file, v, at, end) {
+        if !show_node(file, flow, v, at, end) {
             return false;
         }
         at = end;
@@ -188,12 +210,12 @@ fn show_flow(file: &[u8]) -> bool
 
 // The line of 001F at the front of the buffer; how many bytes it takes.
 fn put_refusal(file: &[u8], out: &mut [u8]) -> usize
-    ensures { λ r. ⌜ record { count = r; out = now (out .exit) } ≡ putWhole (line (record { number = getD (now (file .entry)) 6 0; a = getD (now (file .entry)) 7 0; b = getD (now (file .entry)) 8 0 })) (now (out .entry)) ⌝ }
+    ensures { λ r. ⌜ record { count = r; out = now (out .exit) } ≡ putWhole (line (record { number = getD (now (file .entry)) 6 0; a = getD (now (file .entry)) 7 0; b = getD (now (file .entry)) 8 0 + 256 * getD (now (file .entry)) 9 0 })) (now (out .entry)) ⌝ }
 {
     let q = byte_at(file, HEAD_BYTES);
     let a = byte_at(file, HEAD_BYTES + 1);
-    let b = byte_at(file, HEAD_BYTES + 2);
-    message(Refusal(q, a, b as u16), out)
+    let b = two_bytes(file, HEAD_BYTES + 2);
+    message(Refusal(q, a, b), out)
 }
 
 fn show_refusal(file: &[u8]) -> bool {
@@ -211,7 +233,7 @@ fn show(file: &[u8]) -> bool
     requires { ⌜ length (now file) ≤ 65536 ⌝ }
 {
     match judge(file) {
-        Judged::Flow => show_flow(file),
+        Judged::Flow(flow) => show_flow(file, flow),
         Judged::NoFlow => print(b"no flow\n"),
         Judged::Accepted => print(b"accepted\n"),
         Judged::Refusal => show_refusal(file),

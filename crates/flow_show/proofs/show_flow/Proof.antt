@@ -1,13 +1,13 @@
-use Prim.Native.Nat.{_-_, _≤_}
+use Prim.Native.Nat.{_-_}
 use borrow.Author.Needs.{needs}
 use Rattle.flow_show.proofs.show_flow.Statement.{statement}
 use Rattle.flow_show.proofs.show_flow.Tie as tie
 
 abbrev Inv-loop : tie.InvT-loop
-Inv-loop file n at₀ v₀ at v = v ≤ n
+Inv-loop file flow n at₀ v₀ at v = Unit {0}
 
 abbrev μ-loop : tie.MeasureT-loop
-μ-loop file n at₀ v₀ at v = n - v
+μ-loop file flow n at₀ v₀ at v = n - v
 
 pub show-flow-spec : {M : Type 1} → statement M
 show-flow-spec =
@@ -16,9 +16,6 @@ show-flow-spec =
     Inv-loop
     μ-loop
     (λ c κs. search needs)
-    (λ c. search needs)
-    (λ c κs. search needs)
-    (λ c. search needs)
     (λ c. search needs)
     (λ c κs. search needs)
     (λ c κs. search needs)
