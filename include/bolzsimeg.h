@@ -24,12 +24,12 @@ extern "C" {
 typedef char bolz_size_t_has_64_bits[sizeof(size_t) == 8 ? 1 : -1];
 
 /* Grows with each change of a file's format, of a size or of a refusal. */
-#define BOLZ_VERSION 2
+#define BOLZ_VERSION 3
 
 #define BOLZ_MOST_NODES 128
 #define BOLZ_ROW_BYTES 16      /* a row of the work matrix, and the solver's out bits, lowest bit first */
 #define BOLZ_WORK_BYTES 2048   /* the finder's work buffer, exactly */
-#define BOLZ_MOST_OUTPUT 16780 /* no result is longer */
+#define BOLZ_MOST_OUTPUT 16908 /* no result is longer */
 
 /* The stack that a call needs, in bytes, measured with some room. */
 #define BOLZ_FIND_STACK 20480
@@ -96,10 +96,11 @@ static inline const char *bolz_words(unsigned number)
     }
 }
 
-/* The finder: a job file in, a flow file or 0013 ('no flow') out. The count of bytes written, or a refusal. */
+/* The finder: a job file in, a flow file with layers of kind 0021 or 0013 ('no flow') out. The count of bytes written, or a refusal. */
 uint64_t bolz_find(const uint8_t *file, size_t file_len, uint8_t *work, size_t work_len, uint8_t *out, size_t out_len);
 
-/* The verifier: a job file followed by a flow file in, 0014 ('accepted') out. The count of bytes written, or a refusal. */
+/* The verifier: a job file followed by a flow file in, its layers of kind 0021, two bytes each, or 0011, a byte each; 0014 ('accepted') out.
+   The count of bytes written, or a refusal. */
 uint64_t bolz_verify(const uint8_t *file, size_t file_len, uint8_t *out, size_t out_len);
 
 /* The job writer: the lists of an editor in, the job file out, each list in it ascending; the same job in another order gives the same bytes.

@@ -1,5 +1,6 @@
-/* Holds the header against the library: each refusal by its name, the sizes on both sides, null pointers, the stack that a call needs. With
-   an argument it prints the header's words of every number instead, each as the programs print them with a = 3 and b = 7. */
+/* Holds the header against the library: each refusal by its name, layers of both kinds, the sizes on both sides, null pointers, the stack that a
+   call needs. With an argument it prints the header's words of every number instead, each as the programs print them with a = 3
+   and b = 7. */
 #define _DEFAULT_SOURCE
 #include <pthread.h>
 #include <stdio.h>
@@ -17,7 +18,7 @@
 #define INPUTS "010000000300" "00"
 #define OUTPUTS "010000000400" "01"
 #define MEASURED "020000000500" "0100"
-#define LAYERS "020000001100" "0100"
+#define LAYERS "040000002100" "01000000"
 #define SETS "030000001200" "000101"
 #define REST EDGES INPUTS OUTPUTS MEASURED
 #define JOB OPEN REST
@@ -70,6 +71,16 @@ static void want(const char *what, uint64_t result, unsigned number)
     wrong = 1;
 }
 
+/* Is output 1 refused for this layer? */
+static void want_layer(const char *what, uint64_t result, unsigned layer)
+{
+    want(what, result, BOLZ_EXCESSIVE_NON_ZERO_LAYER);
+    if (BOLZ_A(result) == 1 && BOLZ_B(result) == layer)
+        return;
+    printf("%s: node %u in layer %u, and not node 1 in layer %u\n", what, BOLZ_A(result), BOLZ_B(result), layer);
+    wrong = 1;
+}
+
 static void refusals(void)
 {
     size_t w = BOLZ_WORK_BYTES, o = BOLZ_MOST_OUTPUT;
@@ -86,13 +97,29 @@ static void refusals(void)
     want("no right side 1", solve(BOLZ_ROW_BYTES, BOLZ_ROW_BYTES, 1, 1), BOLZ_NO_SUCH_EQUATION);
     want("an input in the set of 0", verify(OPEN EDGES "010000000300" "01" OUTPUTS MEASURED FLOW), BOLZ_INVALID_FLOW_CODOMAIN);
     want("no set", verify(JOB LAYERS "000000001200"), BOLZ_INVALID_FLOW_DOMAIN);
-    want("an output in layer 1", verify(JOB "020000001100" "0101" SETS), BOLZ_EXCESSIVE_NON_ZERO_LAYER);
-    want("layer 0", verify(JOB "020000001100" "0000" SETS), BOLZ_EXCESSIVE_ZERO_LAYER);
+    want_layer("case N", verify(JOB "040000002100" "01000100" SETS), 1);
+    want("layer 0", verify(JOB "040000002100" "00000000" SETS), BOLZ_EXCESSIVE_ZERO_LAYER);
     want("an entry of an output", verify(JOB LAYERS "050000001200" "0001010100"), BOLZ_INVALID_MEASUREMENT_SPEC);
     want("no edge, mode 1", verify(CAUSAL "000000000200" INPUTS OUTPUTS MEASURED FLOW), BOLZ_INCONSISTENT_FLOW_ORDER);
     want("a set for YZ", verify(OPEN EDGES INPUTS OUTPUTS "020000000500" "0200" FLOW), BOLZ_INCONSISTENT_FLOW_PLANE);
-    want("17 bytes", find(JOB, w, 17), 0);
-    want("16 bytes", find(JOB, w, 16), BOLZ_RESULT_TOO_LONG);
+    want("19 bytes", find(JOB, w, 19), 0);
+    want("18 bytes", find(JOB, w, 18), BOLZ_RESULT_TOO_LONG);
+}
+
+/* Layers of both kinds, with what a refusal says of the output's. */
+static void layers(void)
+{
+    want("kind 0011", verify(JOB "020000001100" "0100" SETS), 0);
+    want("kind 0021", verify(JOB FLOW), 0);
+    want("kind 0020", verify(JOB "040000002000" "01000000" SETS), BOLZ_NO_RECORD);
+    want("0011 with two bytes a node", verify(JOB "040000001100" "01000000" SETS), BOLZ_WRONG_LENGTH);
+    want("0021 with a byte a node", verify(JOB "020000002100" "0100" SETS), BOLZ_WRONG_LENGTH);
+    want("layer 256", verify(JOB "040000002100" "00010000" SETS), 0);
+    want("layer 65,535", verify(JOB "040000002100" "ffff0000" SETS), 0);
+    want_layer("0011, an output in layer 255", verify(JOB "020000001100" "01ff" SETS), 255);
+    want_layer("an output in layer 255", verify(JOB "040000002100" "0100ff00" SETS), 255);
+    want_layer("an output in layer 256", verify(JOB "040000002100" "01000001" SETS), 256);
+    want_layer("an output in layer 65,535", verify(JOB "040000002100" "0100ffff" SETS), 65535);
 }
 
 static void refused_lists(void)
@@ -232,6 +259,7 @@ int main(int count, char **arguments)
         return 0;
     }
     refusals();
+    layers();
     refused_lists();
     sizes();
     null_pointers();

@@ -65,7 +65,7 @@ int main(void)
     uint8_t verdict[6];
     tell("verify", bolz_verify(both, sizeof job + found, verdict, sizeof verdict));
 
-    both[sizeof job + 7] = 1; /* the output's layer */
+    both[sizeof job + 9] = 1; /* the high byte of the output's layer */
     tell("verify a wrong flow", bolz_verify(both, sizeof job + found, verdict, sizeof verdict));
 
     if (from_lists() != 0)
