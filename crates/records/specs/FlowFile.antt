@@ -58,7 +58,7 @@ setsAsks n p = do
   asks 5 (allEntries (entryBelow n) (listed (entriesOf p)))
   asks 6 (entriesRise 0 (listed (entriesOf p)))
 
--- the layers, as numbers, and whether their kind is the wide one
+-- whether the layers are of the wide kind, the layers as numbers, the sets, and the bytes behind them
 pub record FlowFile : Type 0 where
   pub wide : Bool
   pub layers : List ℕ
