@@ -1,50 +1,36 @@
 -- Layers of either kind: the same verdict for the same numbers; every flow file has one of the wide kind; the finder's reads back as what was found.
 use Prim.Native.Nat.{ℕ, _≤_, _<_}
 use mathlib.Core.Path.{_≡_, refl, sym, ap, _∙_, subst}
-use mathlib.Core.Bool.{Bool, not}
+use mathlib.Core.Bool.{not}
 use mathlib.Core.Option.{Option, none, some}
-use mathlib.Core.List.{List, [], _++_, append-nil}
+use mathlib.Core.List.{List, [], append-nil}
 use mathlib.Core.Logic.{_⊎_}
 use native.Mathlib.Omega.{arith}
 use lib.Dec.{eqb}
 use lib.ListN.{length, take}
 use Rattle.nodes.specs.Lists.{zeros}
-use Rattle.nodes.specs.Row.{count}
 use Rattle.nodes.proofs.Count.{count-le}
 use Rattle.flows.specs.Search.{Progress}
 use Rattle.flows.proofs.Flows.{found-most-layer}
-use Rattle.answers.specs.Answer.{Answer, gives, refuses, _>>_}
+use Rattle.answers.specs.Answer.{Answer, gives, refuses}
 use Rattle.answers.proofs.Answer.{never}
-use Rattle.records.specs.Records.{written, kindAccepted}
 use Rattle.records.specs.JobFile.{JobFile, mostNodes, readJob, jobOf, modePlanes, modePauli}
-use Rattle.records.specs.FlowFile.{FlowFile, readFlow, flowOf, nothingLeft, oneMember}
+use Rattle.records.specs.FlowFile.{readFlow}
 use Rattle.records.specs.Encoding.{ValidFlow, flowFileBytes, foundFlow}
 use Rattle.records.specs.Writing.{flowBytes}
 use Rattle.records.proofs.Encoding.{job-asked, flow-asked, flow-decodes, flow-layers}
 use Rattle.records.proofs.Writing.{flow-file-bytes, found-reads, found-bytes, found-layer, found-entry, found-set}
-use Rattle.verdicts.specs.Verdict.{verify}
-use Rattle.demands.specs.Calls.{modeOf, search, foundBytes, findAsks, findOutcome, findCall, verdict, verifyAsks, outcome, verifyCall}
-use Rattle.demands.specs.Demand.{FlowBytes}
+use Rattle.demands.specs.Calls.{modeOf, search, foundBytes, findAsks, findOutcome, findCall, verifyAsks, verifyCall}
 use Rattle.demands.specs.Layers.{SameVerdict, widened, Widens, WrittenFor, WritesFound}
 use Rattle.demands.proofs.Judging.{whole, searched-works}
 use Rattle.demands.proofs.Demand.{by-mode, asked-find, put-fits}
 
 -- ---- either kind
--- the verifier's questions behind reading, of the numbers and the sets alone
-abbrev asked : JobFile → FlowFile → Answer Bool
-asked f g = nothingLeft (g .after) >> (oneMember (f .mode) (g .sets) >> verdict (verify (jobOf f) (flowOf g) (modeOf f)))
-
-asked-read : (job flow : List ℕ) (f : JobFile) (g : FlowFile) → readJob job ≡ gives f → f .after ≡ [] → FlowBytes (f .n) flow g → verifyAsks (job ++ flow) ≡ asked f g
-unfolding verifyAsks
-asked-read job flow f g reads ends r = rw (whole job f reads ends flow, r .0)
-
+-- behind reading the verifier asks of the numbers, the sets and the bytes left alone
 pub same-verdict : SameVerdict
-unfolding verifyCall
+unfolding verifyAsks verifyCall
 same-verdict job one other f g h reads ends r q layers sets out =
-    ap (λ (a : Answer Bool). outcome a (written kindAccepted []) out) (asked-read job one f g reads ends r ∙ same ∙ sym (asked-read job other f h reads ends q))
-  where
-    same : asked f g ≡ asked f h
-    same = rw (layers, sets, r .1, q .1)
+    rw (whole job f reads ends one, whole job f reads ends other, r .0, q .0, layers, sets, r .1, q .1)
 
 pub widens : Widens
 widens n s g few bytes r =

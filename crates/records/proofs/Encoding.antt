@@ -21,7 +21,7 @@ use Rattle.records.specs.Encoding.{Bytes, jobBytes, ValidJob, flowFileBy
 use Rattle.records.proofs.Records.{all-left, all-right, length-out, length-in}
 use Rattle.records.proofs.JobFile.{allowed-out, allowed-in, opening-out, opening-in, edges-out, edges-in, nodes-out, nodes-in, measurements-out, measurements-in, rises-length, pairs-length}
 use Rattle.records.proofs.FlowFile.{entries-back, entries-encode, sets-out, sets-in, entries-few, entry-bytes-length}
-use Rattle.records.proofs.Layers.{inPair, beq-self, beq-same, width-few, bytes-length, numbers-length, numbers-back, bytes-back, numbers-small}
+use Rattle.records.proofs.Layers.{fitsTwoBytes, beq-self, beq-same, width-few, bytes-length, numbers-length, numbers-back, bytes-back, numbers-small}
 use Rattle.records.proofs.Format.{PayloadExact, Appends, Closed, Lawful, exact-iff, payload-bytes, record-appends, record-closed, record-starts, record-differs, plain-exact, then-closed, choice-closed, choice-neither, record-then-appends, record-lawful, _then-lawful_, choice-lawful}
 use Rattle.records.proofs.ReadingRefusals.{ReadingRefusal, numbered, Numbered, opening-numbered, edges-numbered, nodes-numbered, measurements-numbered, each-numbered, sets-numbered}
 
@@ -98,6 +98,11 @@ module _ (n : ℕ) (small : n ≤ 256) where
       })
       (lawful kindLayers (layersAs false n) (layers-exact false) (each-numbered 1 n))
       (lawful kindWideLayers (layersAs true n) (layers-exact true) (each-numbered 2 n))
+
+-- of layers of either kind their count is asked
+layers-valid : (n : ℕ) (wide : Bool) (numbers : List ℕ) → layers n .valid (record { wide = wide; numbers = numbers }) ≡ eqb (length numbers) n
+layers-valid n true numbers = refl
+layers-valid n false numbers = refl
 
 -- ---- what is made of a value that was read
 made-gives : {A F : Type 0} (m : Answer (Front A)) (make : Front A → F) (back : F → Front A) (x : F) → ((p : Front A) → back (make p) ≡ p) → (m >>= λ p. gives (make p)) ≡ gives x → m ≡ gives (back x)
@@ -215,18 +220,10 @@ flow-valid-out : (n : ℕ) (g : FlowFile) → flow n .valid (flowValue g) ≡ tr
 flow-valid-out n g v =
     let (l, w) = and-out (layers n .valid (flowValue g .0)) _ v in
     let (a, b) = and-out (allEntries (entryBelow n) (g .sets)) (entriesRise 0 (g .sets)) w in
-    record { count = counted (g .wide) l; below = a; rise = b }
-  where
-    counted : (wide : Bool) → cond wide (layersAs true n .valid (flowValue g .0)) (layersAs false n .valid (flowValue g .0)) ≡ true → length (g .layers) ≡ n
-    counted true v = eqb-true (length (g .layers)) n (and-out (Bool·beq (g .wide) true) _ v .1)
-    counted false v = eqb-true (length (g .layers)) n (and-out (Bool·beq (g .wide) false) _ v .1)
+    record { count = eqb-true (length (g .layers)) n (sym (layers-valid n (g .wide) (g .layers)) ∙ l); below = a; rise = b }
 
 flow-valid-in : (n : ℕ) (g : FlowFile) → ValidFlow n g → flow n .valid (flowValue g) ≡ true
-flow-valid-in n g v = rw (counted (g .wide) refl, v .below, v .rise)
-  where
-    counted : (wide : Bool) → g .wide ≡ wide → cond wide (layersAs true n .valid (flowValue g .0)) (layersAs false n .valid (flowValue g .0)) ≡ true
-    counted true e = rw (e, eq-eqb (length (g .layers)) n (v .count))
-    counted false e = rw (e, eq-eqb (length (g .layers)) n (v .count))
+flow-valid-in n g v = rw (layers-valid n (g .wide) (g .layers), eq-eqb (length (g .layers)) n (v .count), v .below, v .rise)
 
 pub flow-exact : (n : ℕ) (s : List ℕ) (g : FlowFile) → n ≤ mostNodes → Bytes s
     → (readFlow n s ≡ gives g ↔ (s ≡ flow n .encode (flowValue g) ++ g .after) × (flow n .valid (flowValue g) ≡ true) × (flow n .mayFollow (flowValue g) (g .after) ≡ true))
@@ -235,14 +232,14 @@ flow-exact n s g k h =
     (λ e. there (flow-decoded n s g e), λ x. flow-reads n s g (back x))
 
 -- the layers that were read of bytes are below 65,536
-pub flow-layers : (n : ℕ) (s : List ℕ) (g : FlowFile) → n ≤ mostNodes → Bytes s → readFlow n s ≡ gives g → all inPair (g .layers) ≡ true
+pub flow-layers : (n : ℕ) (s : List ℕ) (g : FlowFile) → n ≤ mostNodes → Bytes s → readFlow n s ≡ gives g → all fitsTwoBytes (g .layers) ≡ true
 flow-layers n s g k h e =
     by (g .wide) (all-left (λ b. ltb b 256) (flow n .encode (flowValue g)) (g .after) (sym (ap (all (λ b. ltb b 256)) (flow-exact n s g k h .0 e .0)) ∙ h))
   where
-    small : (wide : Bool) → Bytes (layerBytes wide (g .layers)) → all inPair (g .layers) ≡ true
-    small wide b = sym (ap (all inPair) (numbers-back wide (g .layers))) ∙ numbers-small wide (layerBytes wide (g .layers)) b
+    small : (wide : Bool) → Bytes (layerBytes wide (g .layers)) → all fitsTwoBytes (g .layers) ≡ true
+    small wide b = sym (ap (all fitsTwoBytes) (numbers-back wide (g .layers))) ∙ numbers-small wide (layerBytes wide (g .layers)) b
 
-    by : (wide : Bool) → Bytes (cond wide (written kindWideLayers (layerBytes true (g .layers))) (written kindLayers (layerBytes false (g .layers))) ++ written kindSets (entryBytes (g .sets))) → all inPair (g .layers) ≡ true
+    by : (wide : Bool) → Bytes (cond wide (written kindWideLayers (layerBytes true (g .layers))) (written kindLayers (layerBytes false (g .layers))) ++ written kindSets (entryBytes (g .sets))) → all fitsTwoBytes (g .layers) ≡ true
     by true b = small true (payload-bytes kindWideLayers (layerBytes true (g .layers)) _ b)
     by false b = small false (payload-bytes kindLayers (layerBytes false (g .layers)) _ b)
 

@@ -15,8 +15,8 @@ use Rattle.records.specs.Encoding.{Bytes}
 use Rattle.records.proofs.Records.{all-more}
 
 -- a number that two bytes hold
-abbrev pub inPair : ℕ → Bool
-inPair x = ltb x 65536
+abbrev pub fitsTwoBytes : ℕ → Bool
+fitsTwoBytes x = ltb x 65536
 
 -- ---- two bytes each
 pub in-length : (l : List ℕ) → length (inTwoBytes l) ≡ 2 * length l
@@ -68,15 +68,15 @@ in-from (low ∷ high ∷ p) h e =
     let second : (low + 256 * high) / 256 ≡ high = omega arith in
     rw (first, second, in-from p r (omega arith))
 
-pub in-bytes : (l : List ℕ) → all inPair l ≡ true → Bytes (inTwoBytes l)
+pub in-bytes : (l : List ℕ) → all fitsTwoBytes l ≡ true → Bytes (inTwoBytes l)
 unfolding inTwoBytes all
 in-bytes [] a = refl
 in-bytes (x ∷ l) a =
-    let (p, q) = and-out (inPair x) (all inPair l) a in
+    let (p, q) = and-out (fitsTwoBytes x) (all fitsTwoBytes l) a in
     let h : x < 65536 = ltb-true x 65536 p in
     rw (lt-ltb (x % 256) 256 (omega arith), lt-ltb (x / 256) 256 (omega arith)) (in-bytes l q)
 
-pub from-small : (p : List ℕ) → Bytes p → all inPair (fromTwoBytes p) ≡ true
+pub from-small : (p : List ℕ) → Bytes p → all fitsTwoBytes (fromTwoBytes p) ≡ true
 unfolding fromTwoBytes all
 from-small [] h = refl
 from-small (low ∷ []) h = refl
@@ -119,6 +119,6 @@ bytes-back true n p h e = in-from p h (omega arith)
 bytes-back false n p h e = refl
 
 -- the layers that bytes hold are below 65,536
-pub numbers-small : (wide : Bool) (p : List ℕ) → Bytes p → all inPair (layerNumbers wide p) ≡ true
+pub numbers-small : (wide : Bool) (p : List ℕ) → Bytes p → all fitsTwoBytes (layerNumbers wide p) ≡ true
 numbers-small true p h = from-small p h
-numbers-small false p h = all-more (λ b. ltb b 256) inPair p (λ x e. let l : x < 256 = ltb-true x 256 e in lt-ltb x 65536 (omega arith)) h
+numbers-small false p h = all-more (λ b. ltb b 256) fitsTwoBytes p (λ x e. let l : x < 256 = ltb-true x 256 e in lt-ltb x 65536 (omega arith)) h

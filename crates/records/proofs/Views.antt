@@ -111,10 +111,12 @@ module _ (s : List ℕ) where
       by t false = bind-assoc (checked first (p .questions) t) (marked false) value
 
   -- it was the second just where its kind stands there
-  choice-kind : (first kind : ℕ) (questions others : List ℕ → Answer Bool) (t : List ℕ) (taken : Bool) (p u : List ℕ) → (c : Bool)
-      → cond c (checked kind others t >>= marked true) (checked first questions t >>= marked false) ≡ gives (front (taken, p) u) → taken ≡ c
-  choice-kind first kind questions others t taken p u true e = let (r, _, g) = bind-out (checked kind others t) (marked true) _ e in ap (λ (x : Front (Bool × List ℕ)). x .value .0) (sym (give-inj g))
-  choice-kind first kind questions others t taken p u false e = let (r, _, g) = bind-out (checked first questions t) (marked false) _ e in ap (λ (x : Front (Bool × List ℕ)). x .value .0) (sym (give-inj g))
+  mark-kept : (m : Answer Part) (b taken : Bool) (p u : List ℕ) → (m >>= marked b) ≡ gives (front (taken, p) u) → taken ≡ b
+  mark-kept m b taken p u e = let (r, _, g) = bind-out m (marked b) _ e in ap (λ (x : Front (Bool × List ℕ)). x .value .0) (sym (give-inj g))
+
+  choice-kind : (second first : Answer Part) (c taken : Bool) (p u : List ℕ) → cond c (second >>= marked true) (first >>= marked false) ≡ gives (front (taken, p) u) → taken ≡ c
+  choice-kind second first true = mark-kept second true
+  choice-kind second first false = mark-kept first false
 
   -- a payload that was read has passed its questions; else it is empty
   pub payload-passed : (kind : ℕ) (questions : List ℕ → Answer Bool) (read r : RecordRead) → Next s read kind questions r
@@ -141,7 +143,7 @@ module _ (s : List ℕ) where
     where
       by : (read r : RecordRead) → choiceOfRead s (record { taken = b .taken; read = r }) ≡ choiceBehind s read first questions kind others → RecordAt s (placeOf read .end) r → WasRead r
           → WasRead read × (b .taken ≡ carries kind (drop (placeOf read .end) s)) × (placeOf r ≡ payloadFrom s (placeOf read .end)) × (placeOf r .end ≤ length s)
-      by (Payload x) (Payload p) e l w = (refl, choice-kind first kind questions others (drop (x .end) s) (b .taken) (bytesAt p s) (drop (p .end) s) (carries kind (drop (x .end) s)) (sym e), l .0, l .1)
+      by (Payload x) (Payload p) e l w = (refl, choice-kind (checked kind others (drop (x .end) s)) (checked first questions (drop (x .end) s)) (carries kind (drop (x .end) s)) (b .taken) (bytesAt p s) (drop (p .end) s) (sym e), l .0, l .1)
       by (NoRecord q) (Payload p) e l w = absurd (never (sym e))
       by read (NoRecord q) e l w = absurd (never (ap (recordOfRead s) w))
 

@@ -27,7 +27,7 @@ use Rattle.records.specs.Encoding.{Bytes, flowFileBytes, flowWith, Valid
 use Rattle.records.specs.Writing.{flowBytes, mostOutput}
 use Rattle.answers.proofs.Answer.{never}
 use Rattle.records.proofs.Records.{all-append, all-more, written-bytes}
-use Rattle.records.proofs.Layers.{inPair, in-bytes}
+use Rattle.records.proofs.Layers.{fitsTwoBytes, in-bytes}
 use Rattle.records.proofs.Encoding.{flow-decodes}
 use Rattle.records.proofs.WritingLoops.{two-records, flow-length}
 use Rattle.records.proofs.JobFile.{rises-none, rises-out, rises-in, rises-length}
@@ -147,7 +147,7 @@ entry-bytes low n (e ∷ es) h a b =
 -- a valid flow of two records
 module _ (n : ℕ) (layers : List ℕ) (es : List SetEntry) (v : ValidFlow n (flowWith layers es)) where
   -- bytes, where its layers are below 65,536
-  pub flow-file-bytes : n < 256 → all inPair layers ≡ true → Bytes (flowFileBytes (flowWith layers es))
+  pub flow-file-bytes : n < 256 → all fitsTwoBytes layers ≡ true → Bytes (flowFileBytes (flowWith layers es))
   flow-file-bytes h a =
       ap (all (λ b. ltb b 256)) (two-records layers es)
       ∙ all-append (λ b. ltb b 256) (written kindWideLayers (inTwoBytes layers)) (written kindSets (entryBytes es))
@@ -191,7 +191,7 @@ module _ (j : Job) (s : Progress) where
 
   pub found-bytes : j .nodes ≤ mostNodes → ((u : ℕ) → u < j .nodes → s .layer u < 65536) → Bytes (flowBytes j (some s))
   found-bytes h a =
-      flow-file-bytes (j .nodes) _ _ found-valid (omega arith) (list-all (j .nodes) (s .layer) inPair (λ k l. lt-ltb (s .layer k) 65536 (a k l)))
+      flow-file-bytes (j .nodes) _ _ found-valid (omega arith) (list-all (j .nodes) (s .layer) fitsTwoBytes (λ k l. lt-ltb (s .layer k) 65536 (a k l)))
 
   pub found-length : length (flowBytes j (some s)) ≤ 2 * headBytes + 2 * j .nodes + j .nodes * (j .nodes + 2)
   found-length = flow-file-length (j .nodes) _ _ found-valid
