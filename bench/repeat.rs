@@ -1,8 +1,8 @@
 //! Our side alone, again and again on the same bytes: for tools that count instructions.
 
 use crate::families::FAMILIES;
-use harness::jobs::{Flow, records};
-use harness::ours::{self, Answer, OUT_BYTES, WORK_BYTES};
+use harness::jobs::{Flow, SETS, records};
+use harness::ours::{self, Answer, FLOW_BYTES, OUT_BYTES, WORK_BYTES};
 use std::hint::black_box;
 use std::path::Path;
 use std::{fs, io};
@@ -19,6 +19,27 @@ pub fn verify(file: &[u8], repeats: usize) -> Option<Answer> {
     (0..repeats).map(|_| ours::verify(black_box(file), &mut out)).last()
 }
 
+/// The same of adding signal lists.
+pub fn add_signals(file: &[u8], repeats: usize) -> Option<Answer> {
+    let mut out = vec![0; FLOW_BYTES];
+    (0..repeats).map(|_| ours::add_signals(black_box(file), &mut out)).last()
+}
+
+/// The same of editing a set: the last entry is put in its own place again.
+pub fn edit_set(file: &[u8], repeats: usize) -> Option<Answer> {
+    let records = records(file)?;
+    let (_, mut entry) = *records.iter().find(|(kind, _)| *kind == SETS)?;
+    while let [_, count, rest @ ..] = entry {
+        let behind = rest.get(usize::from(*count)..)?;
+        if behind.is_empty() {
+            break;
+        }
+        entry = behind;
+    }
+    let mut out = vec![0; FLOW_BYTES];
+    (0..repeats).map(|_| ours::edit_set(black_box(file), black_box(entry), &mut out)).last()
+}
+
 /// The same of the job writer, on the lists of a job file: edges, inputs and outputs from the last to the first, the greater end first.
 pub fn write_job(file: &[u8], repeats: usize) -> Option<Answer> {
     let [(_, opening), sorted @ .., (_, measurements)] = &records(file)?[..] else { return None };
@@ -32,18 +53,22 @@ pub fn write_job(file: &[u8], repeats: usize) -> Option<Answer> {
     Some(last)
 }
 
-/// The first job of each family at 16 and at 128 nodes, and behind it, in a file of its own, the flow that is found.
+/// The first job of each family at 16 and at 128 nodes; behind it, in a file of its own, the flow that is found, and in a third that flow with its
+/// signal lists.
 pub fn put_files(folder: &Path) -> io::Result<()> {
-    let (mut work, mut out) = (vec![0; WORK_BYTES], vec![0; OUT_BYTES]);
+    let (mut work, mut out) = (vec![0; WORK_BYTES], vec![0; FLOW_BYTES]);
     for (family, n) in FAMILIES.iter().flat_map(|family| [(family, 16), (family, 128)]) {
         let name = format!("{n} {}", family.name);
-        let mut file = (family.jobs)(n)[0].bytes();
-        fs::write(folder.join(format!("{name}.job")), &file)?;
-        let Answer::Value(count) = ours::find(&file, &mut work, &mut out) else { continue };
-        if Flow::read(&out[..count], n).is_some() {
-            file.extend(&out[..count]);
-            fs::write(folder.join(format!("{name}.flow")), &file)?;
+        let job = (family.jobs)(n)[0].bytes();
+        fs::write(folder.join(format!("{name}.job")), &job)?;
+        let Answer::Value(count) = ours::find(&job, &mut work, &mut out) else { continue };
+        if Flow::read(&out[..count], n).is_none() {
+            continue;
         }
+        let file = [&job[..], &out[..count]].concat();
+        fs::write(folder.join(format!("{name}.flow")), &file)?;
+        let Answer::Value(count) = ours::add_signals(&file, &mut out) else { continue };
+        fs::write(folder.join(format!("{name}.lists")), [&job[..], &out[..count]].concat())?;
     }
     Ok(())
 }

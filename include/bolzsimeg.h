@@ -4,8 +4,7 @@
    - A pointer and its length name that many bytes that may be read, or for a buffer that is not const, read and written. With length 0 the
      pointer may be null.
    - A buffer that is not const overlaps no other buffer of the same call.
-   - A call needs stack: about 16 kB for bolz_find, 5 kB for bolz_verify, 2 kB for bolz_write_job, less than 1 kB for bolz_solve (measured; `bash
-     examples/c/run` measures again and compares with the sizes below).
+   - A call needs stack: no more than the sizes below (measured; `bash examples/c/run` measures again and compares).
 
    What a call leaves. A refusal leaves every buffer as it was, but RESULT_TOO_LONG (20) leaves the finder's work buffer all zero. An answer leaves
    the result at the front of the result buffer, the bytes behind it as they were, and the finder's work buffer all zero. No call allocates, and
@@ -24,16 +23,19 @@ extern "C" {
 typedef char bolz_size_t_has_64_bits[sizeof(size_t) == 8 ? 1 : -1];
 
 /* Grows with each change of a file's format, of a size or of a refusal. */
-#define BOLZ_VERSION 3
+#define BOLZ_VERSION 4
 
 #define BOLZ_MOST_NODES 128
 #define BOLZ_ROW_BYTES 16      /* a row of the work matrix, and the solver's out bits, lowest bit first */
 #define BOLZ_WORK_BYTES 2048   /* the finder's work buffer, exactly */
-#define BOLZ_MOST_OUTPUT 16908 /* no result is longer */
+#define BOLZ_MOST_OUTPUT 16908 /* no result of finder, verifier or job writer is longer */
+#define BOLZ_MOST_FLOW 21016   /* no flow file is longer, its signal lists included */
 
 /* The stack that a call needs, in bytes, measured with some room. */
 #define BOLZ_FIND_STACK 20480
-#define BOLZ_VERIFY_STACK 8192
+#define BOLZ_VERIFY_STACK 16384
+#define BOLZ_ADD_SIGNALS_STACK 16384
+#define BOLZ_EDIT_SET_STACK 16384
 #define BOLZ_WRITE_JOB_STACK 4096
 #define BOLZ_SOLVE_STACK 1024
 
@@ -59,7 +61,8 @@ enum bolz_refusal {
     BOLZ_INCONSISTENT_FLOW_ORDER = 18,
     BOLZ_INCONSISTENT_FLOW_PLANE = 19,
     BOLZ_RESULT_TOO_LONG = 20,
-    BOLZ_GIVEN_TWICE = 21
+    BOLZ_GIVEN_TWICE = 21,
+    BOLZ_WRONG_SIGNALS = 22
 };
 
 /* A result is a refusal if its number is not 0: number * 2^32 + a * 2^16 + b. */
@@ -73,7 +76,7 @@ static inline const char *bolz_words(unsigned number)
     switch (number) {
     case BOLZ_NO_RECORD: return "the next record is missing or of another kind";
     case BOLZ_CUT_PAYLOAD: return "the payload of a record is cut off";
-    case BOLZ_WRONG_LENGTH: return "the length of a record or list does not suit its kind";
+    case BOLZ_WRONG_LENGTH: return "the length of a record, list or entry does not suit its kind";
     case BOLZ_WRONG_OPENING: return "the number of nodes or the mode is not allowed";
     case BOLZ_NODE_TOO_LARGE: return "a node is not below the number of nodes";
     case BOLZ_NOT_ASCENDING: return "nodes or edges are not strictly ascending";
@@ -92,6 +95,7 @@ static inline const char *bolz_words(unsigned number)
     case BOLZ_INCONSISTENT_FLOW_PLANE: return "node A's set does not suit its or a Y measurement";
     case BOLZ_RESULT_TOO_LONG: return "the result does not fit the lent buffer";
     case BOLZ_GIVEN_TWICE: return "a loop, or an edge or node given twice";
+    case BOLZ_WRONG_SIGNALS: return "the signal lists are not those of the flow";
     default: return "unknown question";
     }
 }
@@ -99,9 +103,20 @@ static inline const char *bolz_words(unsigned number)
 /* The finder: a job file in, a flow file with layers of kind 0021 or 0013 ('no flow') out. The count of bytes written, or a refusal. */
 uint64_t bolz_find(const uint8_t *file, size_t file_len, uint8_t *work, size_t work_len, uint8_t *out, size_t out_len);
 
-/* The verifier: a job file followed by a flow file in, its layers of kind 0021, two bytes each, or 0011, a byte each; 0014 ('accepted') out.
-   The count of bytes written, or a refusal. */
+/* The verifier: a job file followed by a flow file in, its layers of kind 0021, two bytes each, or 0011, a byte each, with both signal lists (0022
+   and 0023) or neither; 0014 ('accepted') out. The count of bytes written, or a refusal. */
 uint64_t bolz_verify(const uint8_t *file, size_t file_len, uint8_t *out, size_t out_len);
+
+/* Adds the signal lists: a job file followed by a flow file in, the flow file with both lists out, built anew where they stand; layers and sets are
+   kept byte for byte, and not verified. A list is n rows of n bits, lowest bit first, each row padded with zeros to a whole byte. Row j, of the nodes
+   whose outcomes flip node j, has bit i where i is not j and j lies in the set of i (0022), or has an odd number of neighbours in it (0023).
+   The count of bytes written, or a refusal. */
+uint64_t bolz_add_signals(const uint8_t *file, size_t file_len, uint8_t *out, size_t out_len);
+
+/* Edits one node's set: a job file followed by a flow file in, and an entry as in 0012: node, count, members; out the flow file with that entry for the
+   node's own, or put in where it had none. In stored signal lists the node's bits follow the new set and all others keep, so lists that were those of
+   the flow still are. A count of 0 leaves an entry with no member. The new flow is not verified. The count of bytes written, or a refusal. */
+uint64_t bolz_edit_set(const uint8_t *file, size_t file_len, const uint8_t *entry, size_t entry_len, uint8_t *out, size_t out_len);
 
 /* The job writer: the lists of an editor in, the job file out, each list in it ascending; the same job in another order gives the same bytes.
    n is the number of nodes. Edges are pairs of nodes, either end first, in any order; inputs and outputs are nodes in any order; measurements are a byte for

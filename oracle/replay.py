@@ -6,11 +6,13 @@ original's answers. Behind them stands a table, made here from documents 01 and 
 list where it can occur, on both sides of its boundary; and one entry that is wrong on purpose.
 An entry: kind, number, a, then two bytes each, lowest first: b, length of work buffer, of result buffer, of name, of query, of result; then
 name, query and result. Number 0 is an answer. Kinds: f finder, v verifier, s solver, w job writer, r the original's verdict (18 stands for 18
-or 19). A finder's flow is compared after reading: the original's have layers of kind 0011."""
+or 19), a adding of signal lists, e editing of a set: its query is the length of the lent entry in two bytes, the entry, then job and flow. A
+finder's flow is compared after reading: the original's have layers of kind 0011."""
 import itertools
 import random
 import struct
 import sys
+import typing
 
 WORK = 2048
 OUT = 16908
@@ -56,6 +58,10 @@ def flow(layers, *sets, kind=WIDE):
 
 # ---- Cases A to N of document 01, and its edges.
 
+EDGE = bytes.fromhex("02000000 0100 0202 02000000 0200 0001 01000000 0300 00 01000000 0400 01 02000000 0500 0100")
+EDGE_FLOW = bytes.fromhex("04000000 2100 0100 0000 03000000 1200 000101")
+
+
 def path_job(mode, first, second):
     return job(3, mode, [(0, 1), (1, 2)], [0], [2], [first, second, 0])
 
@@ -90,13 +96,11 @@ def refused(name, query, number, a, b):
 
 
 def cases():
-    edge = bytes.fromhex("02000000 0100 0202 02000000 0200 0001 01000000 0300 00 01000000 0400 01 02000000 0500 0100")
-    edge_flow = bytes.fromhex("04000000 2100 0100 0000 03000000 1200 000101")
     old_flow = bytes.fromhex("02000000 1100 0100 03000000 1200 000101")
     own = flow([1, 0], (0, [0]))
     alone = job(1, PLANES, measured=[YZ])
-    yield from found("A", edge, edge_flow, old_flow)
-    yield entry("w", lists(2, PLANES, [1, 0], [0], [1], [XY, 0]), edge, name="A written")
+    yield from found("A", EDGE, EDGE_FLOW, old_flow)
+    yield entry("w", lists(2, PLANES, [1, 0], [0], [1], [XY, 0]), EDGE, name="A written")
     yield from found("B", job(0, PLANES), flow([]))
     yield from not_found("C", alone, flow([1], (0, [0])))
     yield from found("D", isolated(PLANES, YZ), own)
@@ -109,12 +113,12 @@ def cases():
     yield solve(1, 1, 1, 0, row(1), 0, name="K")
     yield solve(2, 2, 1, 0, row(1, 2) + row(0, 1), 0, row(0, 1), name="L")
     yield from refused("M", path_job(PLANES, XY, XY) + path_flow(1, 1, 0), 18, 0, 1)
-    yield from refused("N", edge + flow([1, 1], (0, [1])), 15, 1, 1)
+    yield from refused("N", EDGE + flow([1, 1], (0, [1])), 15, 1, 1)
     big = list(range(128))
     yield entry("f", job(128, PLANES, outputs=big, measured=[0] * 128), flow([0] * 128), name="128 nodes")
     yield entry("f", job(129, PLANES, outputs=big, measured=[0] * 129), number=4, name="129 nodes (4)")
-    yield entry("f", edge, edge_flow, out=19, name="19 bytes hold A")
-    yield entry("f", edge, number=20, out=18, name="18 bytes do not (20)")
+    yield entry("f", EDGE, EDGE_FLOW, out=19, name="19 bytes hold A")
+    yield entry("f", EDGE, number=20, out=18, name="18 bytes do not (20)")
 
 
 # ---- Where the papers, the original and this port part: docs/DIFFERENCES.md.
@@ -603,12 +607,404 @@ def random_jobs():
         yield entry("w", lists(n, mode, ends, mixed[1], mixed[2], measured), job(n, mode, edges, inputs, outputs, measured))
 
 
+# ---- Signal lists, request 2026-03 of document 02: a small model, then both calls and the verifier at each boundary.
+
+SET_SIGNALS, ODD_SIGNALS = 0x22, 0x23
+MODES = (CAUSAL, PLANES, PAULI)
+# the longest flow file: 128 nodes, each with a full set, and both lists
+LISTED_OUT = 21016
+
+
+class Table(typing.NamedTuple):
+    """A job and its flow: members by node, and the payloads of the two lists where they are stored."""
+    n: int
+    mode: int
+    edges: list
+    inputs: list
+    outputs: list
+    measured: list
+    layers: list
+    sets: dict
+    kind: int = WIDE
+    lists: tuple = ()
+
+    def job(self):
+        return job(self.n, self.mode, self.edges, self.inputs, self.outputs, self.measured)
+
+    def flow(self):
+        records = flow_records(self.layers, sorted(self.sets.items()), self.kind)
+        return b"".join(records + [record(*pair) for pair in zip((SET_SIGNALS, ODD_SIGNALS), self.lists)])
+
+    def file(self):
+        return self.job() + self.flow()
+
+
+def row_bytes(n):
+    return (n + 7) // 8
+
+
+def odd(edges, members):
+    """The nodes with an odd number of neighbours among the members."""
+    ends = [b for a, b in edges if a in members] + [a for a, b in edges if b in members]
+    return {u for u in ends if ends.count(u) % 2}
+
+
+def bit_rows(n, flips):
+    """Row j, bit i: is i another node than j, and j among those that i flips?"""
+    rows = [sum(1 << i for i in range(n) if i != j and j in flips[i]) for j in range(n)]
+    return b"".join(row.to_bytes(row_bytes(n), "little") for row in rows)
+
+
+def with_lists(table):
+    """Both lists built afresh; a node without an entry flips none."""
+    sets = [table.sets.get(i, []) for i in range(table.n)]
+    pair = bit_rows(table.n, sets), bit_rows(table.n, [odd(table.edges, members) for members in sets])
+    return table._replace(lists=pair)
+
+
+def with_garbage(table, draw):
+    """Lists of the right length, and else at random, padding too."""
+    size = table.n * row_bytes(table.n)
+    return table._replace(lists=tuple(bytes(int(draw() * 256) for _ in range(size)) for _ in range(2)))
+
+
+def column(n, rows, i, flipped):
+    """Bit i of each row follows those that i flips; all other bits keep."""
+    width, result = row_bytes(n), b""
+    for j in range(n):
+        old = int.from_bytes(rows[width * j:width * (j + 1)], "little")
+        new = 1 << i if i != j and j in flipped else 0
+        result += (old & ~(1 << i) | new).to_bytes(width, "little")
+    return result
+
+
+def with_set(table, i, members):
+    flipped = (members, odd(table.edges, members))
+    lists = tuple(column(table.n, rows, i, to) for rows, to in zip(table.lists, flipped))
+    return table._replace(sets={**table.sets, i: members}, lists=lists)
+
+
+def lent(i, members):
+    return bytes([i, len(members), *members])
+
+
+def add(file, result=b"", number=0, out=LISTED_OUT, name=""):
+    return entry("a", file, result, number, out=out, name=name)
+
+
+def edit(file, lent, result=b"", number=0, out=LISTED_OUT, name=""):
+    return entry("e", struct.pack("<H", len(lent)) + lent + file, result, number, out=out, name=name)
+
+
+def exactly(make, *words, result):
+    """The result fits exactly, or is a byte too long."""
+    yield make(*words, result, out=len(result))
+    yield make(*words, number=20, out=len(result) - 1)
+
+
+def adds(table):
+    yield from exactly(add, table.file(), result=with_lists(table).flow())
+
+
+def edits(table, i, members):
+    yield from exactly(edit, table.file(), lent(i, members), result=with_set(table, i, members).flow())
+
+
+def hand_made():
+    """Cases A and G of document 01 with their lists, every byte by hand."""
+    edge_lists = bytes.fromhex("02000000 2200 0001 02000000 2300 0000")
+    path, sets = path_job(PLANES, XY, XY), bytes.fromhex("06000000 1200 000101 010102")
+    layers = bytes.fromhex("06000000 2100 0200 0100 0000")
+    lists = bytes.fromhex("03000000 2200 000102 03000000 2300 000001")
+    new_sets = bytes.fromhex("07000000 1200 00020102 010102")
+    new_lists = bytes.fromhex("03000000 2200 000103 03000000 2300 000101")
+    for name, query, flow, more in [("A", EDGE, EDGE_FLOW, edge_lists), ("G", path, layers + sets, lists)]:
+        yield add(query + flow, flow + more, name=f"{name} lists added")
+        yield entry("v", query + flow + more, ACCEPTED, name=f"{name} lists accepted")
+    yield edit(path + layers + sets + lists, lent(0, [1, 2]), layers + new_sets + new_lists, name="G set edited")
+    yield edit(path + layers + sets, lent(0, [1, 2]), layers + new_sets, name="G set edited without lists")
+    yield add(path + layers + new_sets + lists, layers + new_sets + new_lists, name="G lists added anew")
+
+
+def any_table(draw, n, mode, kind):
+    """Any graph and any sets, at outputs and with inputs too: adding and editing ask no more than reading does."""
+    nodes, share = range(n), min(0.4, 4 / (n + 1))
+    edges = [(a, b) for a in nodes for b in range(a + 1, n) if draw() < share]
+    inputs, outputs = [u for u in nodes if draw() < 0.3], [u for u in nodes if draw() < 0.3]
+    sets = {u: any_set(draw, n, mode) for u in nodes if draw() < 0.7}
+    measured = [0 if u in outputs else XY for u in nodes]
+    return Table(n, mode, edges, inputs, outputs, measured, [int(draw() * (256 if kind == NARROW else 65536)) for _ in nodes], sets, kind)
+
+
+def any_set(draw, n, mode):
+    if mode == CAUSAL:
+        return [int(draw() * n)]
+    return [v for v in range(n) if draw() < min(0.4, 6 / n)]
+
+
+def sizes():
+    """Both calls by each mode and each padding of a row, over no lists, right ones and wrong ones; 0011 stays 0011, and 0021 stays 0021."""
+    draw = random.Random(2203).random
+    for n, mode in itertools.product(range(10), MODES):
+        table = any_table(draw, n, mode, NARROW if (n + mode) % 2 else WIDE)
+        for stored in (table, with_lists(table), with_garbage(table, draw)):
+            yield from adds(stored)
+            if n > 0:
+                yield from edits(stored, int(draw() * n), any_set(draw, n, mode))
+    for n, mode in itertools.product((127, 128), MODES):
+        table = any_table(draw, n, mode, NARROW if (n + mode) % 2 else WIDE)
+        yield from adds(table)
+        yield next(edits(with_garbage(table, draw), int(draw() * n), any_set(draw, n, mode)))
+    # anew, over wrong lists of the most nodes
+    yield next(adds(with_garbage(table, draw)))
+
+
+def longest():
+    """21,016 bytes: the longest flow file, added to and edited."""
+    n = 128
+    full = list(range(n))
+    path = [(u, u + 1) for u in range(n - 1)]
+    table = Table(n, PAULI, path, [], full, [0] * n, [65535] * n, {u: full for u in full})
+    yield from adds(table)
+    thin = with_lists(table._replace(sets={**table.sets, 77: []}))
+    yield edit(thin.file(), lent(77, full), with_lists(table).flow())
+
+
+def judged_table(draw, n, mode):
+    """A flow that is accepted: u is corrected by u + k. An edge is no longer than k, so node u + k has no neighbour before u; and beyond mode 1 sets of
+    later nodes are added to a set, whose Odd have no node up to u."""
+    k = 1 if n < 4 or n > 9 else 2 + n % 2
+    edges = [(a, b) for a in range(n) for b in range(a + 1, n) if b - a == k or b - a < k and draw() < 0.5]
+    outputs = list(range(max(0, n - k), n))
+    sets = {}
+    for u in reversed(range(n - k)):
+        members = {u + k}
+        for v in range(u + 1, n - k):
+            if mode != CAUSAL and n < 10 and draw() < 0.4:
+                members ^= set(sets[v])
+        sets[u] = sorted(members)
+    measured = [0 if u in outputs else XY for u in range(n)]
+    layers = [0 if u in outputs else n - u for u in range(n)]
+    return Table(n, mode, edges, [0] if n else [], outputs, measured, layers, sets, NARROW if (n + mode) % 2 else WIDE)
+
+
+def flipped(table, which, j, i):
+    """Bit i of row j of one of the lists is the other one."""
+    at, rows = row_bytes(table.n) * j + i // 8, bytearray(table.lists[which])
+    rows[at] ^= 1 << i % 8
+    return table._replace(lists=table.lists[:which] + (bytes(rows),) + table.lists[which + 1:])
+
+
+def stored_lists():
+    """22: right lists are accepted; one bit is wrong in the first row, the last, on the diagonal, in the padding; the lists are exchanged."""
+    draw = random.Random(2204).random
+    for n, mode in itertools.product([*range(10), 127, 128], MODES):
+        right = with_lists(judged_table(draw, n, mode))
+        yield entry("v", right.file(), ACCEPTED)
+        bits = {(0, 0), (0, n - 1), (n - 1, 0), (n - 1, n - 1), (n // 2, n // 2)} | ({(0, n), (n - 1, 8 * row_bytes(n) - 1)} if n % 8 else set())
+        wrong = [flipped(right, which, j, i) for j, i in sorted(bits) for which in range(2)] if n else []
+        # each mode has a third of them; of many nodes it has one, counted from behind
+        for at in range(mode - 1, len(wrong), 3) if n < 10 else [2 - 3 * mode]:
+            yield entry("v", wrong[at].file(), number=22)
+        if 2 < n < 10:
+            yield entry("v", right._replace(lists=right.lists[::-1]).file(), number=22)
+            yield entry("v", right._replace(lists=right.lists[:1] * 2).file(), number=22)
+
+
+def path_table(mode, **changes):
+    table = Table(3, mode, [(0, 1), (1, 2)], [0], [2], [XY, XY, 0], [2, 1, 0], {0: [1], 1: [2]})
+    return table._replace(**changes)
+
+
+def every_bit():
+    """Each bit of both lists of the path, padding too, is compared; and before 20."""
+    right = with_lists(path_table(PLANES))
+    for which, j, i in itertools.product(range(2), range(3), range(8)):
+        yield entry("v", flipped(right, which, j, i).file(), number=22)
+    for mode in MODES:
+        right = with_lists(path_table(mode))
+        yield entry("v", right.file(), ACCEPTED, out=6)
+        yield entry("v", right.file(), number=20, out=5)
+        yield entry("v", flipped(right, 0, 1, 0).file(), number=22, out=5)
+        yield entry("v", flipped(right, 1, 2, 0).file(), number=22, out=0)
+
+
+def judged_first():
+    """13 to 19 come before 22: a flow that is refused by one of them is so by any lists."""
+    draw = random.Random(2205).random
+    y = Table(4, PAULI, [(0, 1), (1, 2), (1, 3)], [], [2, 3], [XY, Y, 0, 0], [1, 1, 0, 0], {0: [1], 1: [2]})
+    tables = [(y, 19, 0, 0), (path_table(PLANES, measured=[YZ, XY, 0]), 19, 0, 0), (path_table(PAULI, measured=[XY, Z, 0]), 19, 1, 0)]
+    for mode in MODES:
+        tables += [(path_table(mode, sets={0: [1], 1: [0]}), 13, 1, 0), (path_table(mode, sets={0: [1]}), 14, 1, 0),
+                   (path_table(mode, layers=[2, 1, 1]), 15, 2, 1), (path_table(mode, layers=[1, 1, 0]), 18, 0, 1)]
+    for mode in (CAUSAL, PLANES):
+        tables.append((path_table(mode, layers=[2, 0, 0]), 16, 1, 0))
+    for mode in (PLANES, PAULI):
+        tables += [(path_table(mode, sets={0: [1], 1: [2], 2: []}), 17, 2, 0),
+                   (path_table(mode, edges=[(0, 1), (0, 2), (1, 2)], sets={0: [2], 1: [2]}), 18, 1, 0)]
+    for table, number, a, b in tables:
+        for stored in (table, with_lists(table), with_garbage(table, draw)):
+            yield entry("v", stored.file(), number=number, a=a, b=b)
+
+
+def refused_by_all(file, number):
+    """Verifier, adding and editing ask 1 to 9 of a file alike; of the lent entry nothing is asked then, though it would be refused too."""
+    yield entry("v", file, number=number)
+    yield from refused_by_both(file, number)
+
+
+def refused_by_both(file, number):
+    yield add(file, number=number)
+    yield edit(file, b"" if number != 3 else lent(255, []), number=number)
+
+
+def places():
+    """1, 2, 3 and 8 of the lists; they are read behind the sets only."""
+    draw = random.Random(2206).random
+    for n in (0, 1, 3, 8, 9):
+        table = judged_table(draw, n, PLANES)
+        first, second = (record(kind, rows) for kind, rows in zip((SET_SIGNALS, ODD_SIGNALS), with_lists(table).lists))
+        for number, tail in [*lengths_behind(n, first, second), *(kinds_behind(first, second) if n in (0, 3) else [])]:
+            yield from refused_by_all(table.file() + tail, number)
+    layers, sets = PATH_FLOW
+    lists = with_lists(path_table(PLANES)).flow()[len(layers + sets):]
+    for parts in ([lists, layers, sets], [layers, lists, sets], [layers, lists], [layers, lists[9:], sets]):
+        yield from refused_by_all(b"".join(PATH + parts), 1)
+
+
+def kinds_behind(first, second):
+    """1: 0022 is there and 0023 is not. 8: what is no 0022 is not looked for, and behind 0023 there is nothing."""
+    for size in (0, 1, 5):
+        yield 1, first + second[:size]
+    for kind in (0x0003, 0x0012, 0x0013, 0x0021, 0x0022, 0x0024, 0x0028, 0x0123, 0x2300):
+        yield 1, first + record(kind, second[6:])
+    for kind in (0x0002, 0x0011, 0x0012, 0x0021, 0x0023, 0x0024, 0x0028, 0x0122, 0x2200):
+        yield 8, record(kind, first[6:])
+        yield 8, record(kind, first[6:]) + second
+        yield 8, first + second + record(kind, first[6:])
+    for tail in (first[:1], first[:5], second + first, first + second + first, first + second + second, first + second + first + second,
+                 first + second + b"\0", first + second + first[:5], b"\0" + first + second):
+        yield 8, tail
+
+
+def lengths_behind(n, first, second):
+    """2 and then 3, of each list."""
+    exact = n * row_bytes(n)
+    for kind, before, whole, behind in [(SET_SIGNALS, b"", first, second), (ODD_SIGNALS, first, second, b"")]:
+        yield 2, before + b"\xff\xff\xff\xff" + whole[4:] + behind
+        yield 2, before + record(kind, bytes(exact + 1))[:-1]
+        if n > 0:
+            yield 2, before + whole[:-1]
+        # also rows without their padding, one row less and one more, and a list by twice as many bytes
+        for size in sorted({0, exact - 1, exact + 1, (n * n + 7) // 8, exact - row_bytes(n), exact + row_bytes(n), 2 * exact} - {-1, exact}):
+            yield 3, before + record(kind, bytes(size)) + behind
+
+
+def refused_files():
+    """All that the verifier refuses in reading, above, adding and editing refuse too."""
+    for made in itertools.chain(heads(), payloads(), flows()):
+        if made[0] == ord("v") and made[1] > 0:
+            yield from refused_by_both(made[HEAD:], made[1])
+
+
+def sets_edited():
+    """A set replaced, or put in first, between others or last; with no member, its own node, an input or an output, and at an output too."""
+    draw = random.Random(2207).random
+    for mode, kind in zip(MODES, (NARROW, WIDE, NARROW)):
+        edges, measured = [(0, 1), (0, 4), (1, 2), (1, 3), (3, 4)], [XY, 0, XY, XY, 0]
+        table = Table(5, mode, edges, [0, 3], [1, 4], measured, [3, 0, 2, 1, 0], {1: [3], 3: [2]}, kind)
+        for i in range(5):
+            for members in [[v] for v in range(5)] if mode == CAUSAL else [[], [i], [0, 3], [1, 4], [0, 1, 2, 3, 4]]:
+                new = table._replace(sets={**table.sets, i: members})
+                yield edit(table.file(), lent(i, members), new.flow())
+                yield edit(with_lists(table).file(), lent(i, members), with_lists(new).flow())
+                wrong = with_garbage(table, draw)
+                yield edit(wrong.file(), lent(i, members), with_set(wrong, i, members).flow())
+            bare = with_lists(table._replace(sets={}))
+            yield edit(bare.file(), lent(i, [2]), with_set(bare, i, [2]).flow())
+
+
+def lent_entries():
+    """3, 5, 6 and in mode 1 9 of the lent entry, after all that is asked of the file."""
+    for mode in MODES:
+        for stored in (path_table(mode), with_lists(path_table(mode))):
+            for given, number in LENT + (LENT_ONE if mode == CAUSAL else LENT_ANY):
+                result = b"" if number else with_set(stored, given[0], given[2:]).flow()
+                yield edit(stored.file(), bytes(given), result, number)
+        for given, number in [([], 3), ([0], 3), ([0, 0], 5), ([0, 1, 0], 5)]:
+            yield edit(with_lists(judged_table(None, 0, mode)).file(), bytes(given), number=number)
+    # 9 of the file comes first, though the entry it is asked of would be replaced
+    for members in ([], [1, 2]):
+        file = path_table(CAUSAL, sets={0: members, 1: [2]}).file()
+        for given in (b"", lent(3, [1]), lent(0, [2, 1]), lent(0, []), lent(0, [1])):
+            yield edit(file, given, number=9)
+    full = list(range(128))
+    table = Table(128, PLANES, [], [], full, [0] * 128, [0] * 128, {})
+    for i, members, number in [(127, [127], 0), (0, full, 0), (128, [], 5), (0, [128], 5), (0, full + [128], 5), (0, full + [127], 6), (0, full + full[1:], 6)]:
+        yield edit(table.file(), lent(i, members), b"" if number else with_set(table, i, members).flow(), number)
+
+
+# By the path of three nodes, whatever the mode: an entry, and its number.
+LENT = [([], 3), ([0], 3), ([0, 1], 3), ([0, 2, 1], 3), ([0, 0, 1], 3), ([0, 1, 1, 2], 3), ([0, 1, 1, 1, 1, 2], 3), ([0, 255], 3), ([0, 255, 1], 3),
+        ([3], 3), ([3, 1], 3), ([3, 0, 0], 3), ([0, 2, 3], 3), ([0, 1, 3, 3], 3), ([0, 3, 2, 1], 3), ([0, 1, 2, 1], 3),
+        ([3, 0], 5), ([3, 1, 1], 5), ([255, 1, 1], 5), ([0, 1, 3], 5), ([0, 1, 255], 5), ([0, 2, 1, 3], 5), ([0, 2, 3, 1], 5), ([0, 2, 3, 3], 5), ([3, 2, 2, 1], 5),
+        ([0, 2, 1, 1], 6), ([0, 2, 2, 1], 6), ([0, 3, 0, 2, 1], 6), ([0, 3, 1, 0, 2], 6), ([2, 3, 0, 1, 1], 6), ([1, 4, 0, 1, 2, 2], 6),
+        ([0, 1, 1], 0), ([2, 1, 2], 0)]
+LENT_ONE = [([0, 0], 9), ([1, 0], 9), ([2, 0], 9), ([0, 2, 0, 1], 9), ([2, 2, 1, 2], 9), ([0, 3, 0, 1, 2], 9)]
+LENT_ANY = [(given, 0) for given, _ in LENT_ONE]
+
+
+# In the order of the questions. The verifier's, those of adding and those of editing go on from here.
+FILE_FAULTS = ["3 layers", "3 sets", "5 sets", "6 sets", "2 first", "3 first", "1 second", "2 second", "3 second", "8 behind", "9 sets"]
+
+
+def faulty(faults):
+    """The path in mode 1 with its lists and these faults."""
+    table = with_lists(path_table(CAUSAL))
+    entries = [lent(0, [1, 2] if "9 sets" in faults else [1]), lent(1, [2])]
+    if "6 sets" in faults:
+        entries.reverse()
+    if "5 sets" in faults:
+        entries.append(lent(3, [1]))
+    sets = b"".join(entries) + b"\2" * ("3 sets" in faults)
+    first, second = flipped(table, 0, 2, 0).lists if "22 bits" in faults else table.lists
+    records = [layers_record([2, 1, 0] + [0] * ("3 layers" in faults), WIDE), record(0x12, sets),
+               faulty_list(SET_SIGNALS, first, "2 first" in faults, "3 first" in faults),
+               faulty_list(0x24 if "1 second" in faults else ODD_SIGNALS, second, "2 second" in faults, "3 second" in faults)]
+    return table.job() + b"".join(records) + b"\0" * ("8 behind" in faults)
+
+
+def faulty_list(kind, rows, cut, long):
+    whole = record(kind, rows + b"\0" * long)
+    return b"\xff\xff\xff\xff" + whole[4:] if cut else whole
+
+
+def faulty_entry(faults):
+    members = [2, 1] if "6 lent" in faults else [1, 2] if "9 lent" in faults else [2]
+    return lent(3 if "5 lent" in faults else 1, members) + b"\0" * ("3 lent" in faults)
+
+
+def one_or_two(faults):
+    for chosen in [*itertools.combinations(faults, 1), *itertools.combinations(faults, 2)]:
+        yield int(chosen[0].split()[0]), chosen
+
+
+def first_of_two():
+    """Each fault alone, and of two the earlier one is told."""
+    size = len(with_lists(path_table(CAUSAL)).flow())
+    for number, faults in one_or_two(FILE_FAULTS + ["22 bits", "20 room"]):
+        yield entry("v", faulty(faults), number=number, out=6 - ("20 room" in faults))
+    for number, faults in one_or_two(FILE_FAULTS + ["20 room"]):
+        yield add(faulty(faults), number=number, out=size - ("20 room" in faults))
+    for number, faults in one_or_two(FILE_FAULTS + ["3 lent", "5 lent", "6 lent", "9 lent", "20 room"]):
+        yield edit(faulty(faults), faulty_entry(faults), number=number, out=size - ("20 room" in faults))
+
+
 def expected(entries, wrong):
     """What the program prints: the entries with a name, the wrong entry, and how many of each number are as stored."""
     names = [e[HEAD:HEAD + struct.unpack_from("<H", e, 9)[0]].decode() for e in entries]
-    lines = [f"{name}: as the documents say" for name in names if name]
-    lines.append(f"entry {wrong}: DIFFERENT")
-    for number in range(22):
+    lines = [f"entry {at}: DIFFERENT" if at == wrong else f"{name}: as the documents say" for at, name in enumerate(names) if name or at == wrong]
+    for number in range(23):
         count = sum(e[1] == number for at, e in enumerate(entries) if at != wrong)
         lines.append(f"number {number}: {count} as stored")
     lines.append(f"entries: {len(entries)}")
@@ -624,7 +1020,8 @@ def main():
     wrong = len(entries)
     entries.append(entry("f", job(2, PLANES, [(0, 1)], [0], [1], [XY, 0]), flow([257, 0], (0, [1]))))
     writer = (openings, nodes_of_lists, measurements, given_twice, room, precedence, random_jobs)
-    for part in (heads, payloads, flows, finder, verifier, solver) + writer:
+    signals = (hand_made, sizes, longest, stored_lists, every_bit, judged_first, places, refused_files, sets_edited, lent_entries, first_of_two)
+    for part in (heads, payloads, flows, finder, verifier, solver) + writer + signals:
         entries.extend(part())
     with open(f"{folder}/stdin", "wb") as file:
         file.write(b"".join(entries))

@@ -1,5 +1,5 @@
-/* Holds the header against the library: each refusal by its name, layers of both kinds, the sizes on both sides, null pointers, the stack that a
-   call needs. With an argument it prints the header's words of every number instead, each as the programs print them with a = 3
+/* Holds the header against the library: each refusal by its name, layers of both kinds, signal lists added, edited and verified, the sizes on both
+   sides, null pointers, the stack that a call needs. With an argument it prints the header's words of every number instead, each as the programs print them with a = 3
    and b = 7. */
 #define _DEFAULT_SOURCE
 #include <pthread.h>
@@ -23,10 +23,14 @@
 #define REST EDGES INPUTS OUTPUTS MEASURED
 #define JOB OPEN REST
 #define FLOW LAYERS SETS
+/* Row 1 of the first list has bit 0: the outcome of node 0 flips node 1. Odd of its set is node 0 itself, and no node flips itself. */
+#define ROWS "020000002200" "0001"
+#define ODDS "020000002300" "0000"
+#define LISTED FLOW ROWS ODDS
 
 static uint8_t bytes[1024];
 static uint8_t work[BOLZ_WORK_BYTES + 1];
-static uint8_t out[BOLZ_MOST_OUTPUT];
+static uint8_t out[BOLZ_MOST_FLOW];
 static int wrong;
 
 static size_t bytes_of(const char *digits, uint8_t *to)
@@ -49,6 +53,17 @@ static uint64_t verify(const char *file)
     return bolz_verify(bytes, bytes_of(file, bytes), out, sizeof out);
 }
 
+static uint64_t added(const char *file, size_t out_len)
+{
+    return bolz_add_signals(bytes, bytes_of(file, bytes), out, out_len);
+}
+
+static uint64_t edited(const char *file, const char *entry, size_t out_len)
+{
+    static uint8_t e[8];
+    return bolz_edit_set(bytes, bytes_of(file, bytes), e, bytes_of(entry, e), out, out_len);
+}
+
 static uint64_t solve(size_t matrix_len, size_t bits_len, size_t cols, size_t side)
 {
     static uint8_t matrix[BOLZ_ROW_BYTES] = {1};
@@ -69,6 +84,21 @@ static void want(const char *what, uint64_t result, unsigned number)
         return;
     printf("%s: %u and not %u\n", what, BOLZ_NUMBER(result), number);
     wrong = 1;
+}
+
+/* Are so many bytes, these, the result? */
+static void want_bytes(const char *what, uint64_t result, const uint8_t *wanted, size_t count)
+{
+    if (result == count && memcmp(out, wanted, count) == 0)
+        return;
+    printf("%s: %lu and not %lu, or other bytes\n", what, (unsigned long)result, (unsigned long)count);
+    wrong = 1;
+}
+
+static void want_file(const char *what, uint64_t result, const char *digits)
+{
+    static uint8_t wanted[1024];
+    want_bytes(what, result, wanted, bytes_of(digits, wanted));
 }
 
 /* Is output 1 refused for this layer? */
@@ -140,6 +170,54 @@ static void refused_lists(void)
     want("37 bytes", written(2, 2, "0100", "00", "01", "0100", 37), BOLZ_RESULT_TOO_LONG);
 }
 
+static void lists(void)
+{
+    want("both lists", verify(JOB LISTED), 0);
+    want("another row", verify(JOB FLOW "020000002200" "0000" ODDS), BOLZ_WRONG_SIGNALS);
+    want("another row of Odd", verify(JOB FLOW ROWS "020000002300" "0001"), BOLZ_WRONG_SIGNALS);
+    want("a bit of padding", verify(JOB FLOW "020000002200" "0005" ODDS), BOLZ_WRONG_SIGNALS);
+    want("a set for YZ, and another row", verify(OPEN EDGES INPUTS OUTPUTS "020000000500" "0200" FLOW "020000002200" "0000" ODDS), BOLZ_INCONSISTENT_FLOW_PLANE);
+    want("0022 alone", verify(JOB FLOW ROWS), BOLZ_NO_RECORD);
+    want("0023 alone", verify(JOB FLOW ODDS), BOLZ_BYTES_LEFT);
+    want("a row too few", verify(JOB FLOW "010000002200" "00"), BOLZ_WRONG_LENGTH);
+    want("a cut list", verify(JOB FLOW "020000002200" "00"), BOLZ_CUT_PAYLOAD);
+}
+
+static void lists_added(void)
+{
+    size_t o = BOLZ_MOST_FLOW;
+    want_file("lists added", added(JOB FLOW, o), LISTED);
+    want_file("lists added anew", added(JOB FLOW "020000002200" "ffff" "020000002300" "ffff", o), LISTED);
+    want_file("lists added to 0011", added(JOB "020000001100" "0100" SETS, o), "020000001100" "0100" SETS ROWS ODDS);
+    want_file("an entry of an output", added(JOB LAYERS "060000001200" "000101" "010100", o), LAYERS "060000001200" "000101" "010100" "020000002200" "0201" ODDS);
+    want("lists for a job alone", added(JOB, o), BOLZ_NO_RECORD);
+    want("a byte behind the flow", added(JOB FLOW "00", o), BOLZ_BYTES_LEFT);
+    want("a causal entry without a member, to add", added(CAUSAL REST LAYERS "020000001200" "0000", o), BOLZ_NOT_ONE_MEMBER);
+    want("35 bytes for lists", added(JOB FLOW, 35), 0);
+    want("34 bytes for lists", added(JOB FLOW, 34), BOLZ_RESULT_TOO_LONG);
+}
+
+static void sets_edited(void)
+{
+    size_t o = BOLZ_MOST_FLOW;
+    want_file("an entry replaced", edited(JOB FLOW, "0000", o), LAYERS "020000001200" "0000");
+    want_file("an entry put in", edited(JOB FLOW, "010100", o), LAYERS "060000001200" "000101" "010100");
+    want_file("an entry put in first", edited(JOB LAYERS "030000001200" "010100", "000101", o), LAYERS "060000001200" "000101" "010100");
+    want_file("bits that follow", edited(JOB LISTED, "0000", o), LAYERS "020000001200" "0000" "020000002200" "0000" ODDS);
+    want_file("bits that keep", edited(JOB FLOW "020000002200" "ff00" "020000002300" "00ff", "000101", o), FLOW "020000002200" "fe01" "020000002300" "00fe");
+    want("no entry", edited(JOB FLOW, "", o), BOLZ_WRONG_LENGTH);
+    want("an entry without its count", edited(JOB FLOW, "00", o), BOLZ_WRONG_LENGTH);
+    want("a member too few", edited(JOB FLOW, "0001", o), BOLZ_WRONG_LENGTH);
+    want("a member too many", edited(JOB FLOW, "00010101", o), BOLZ_WRONG_LENGTH);
+    want("an entry of node 2 of 2", edited(JOB FLOW, "020101", o), BOLZ_NODE_TOO_LARGE);
+    want("member 2 of 2", edited(JOB FLOW, "000102", o), BOLZ_NODE_TOO_LARGE);
+    want("members 1, 0", edited(JOB FLOW, "00020100", o), BOLZ_NOT_ASCENDING);
+    want("a causal entry, lent without a member", edited(CAUSAL REST FLOW, "0000", o), BOLZ_NOT_ONE_MEMBER);
+    want("a byte behind the flow, and no entry", edited(JOB FLOW "00", "", o), BOLZ_BYTES_LEFT);
+    want("19 bytes for an entry", edited(JOB FLOW, "000101", 19), 0);
+    want("18 bytes for an entry", edited(JOB FLOW, "000101", 18), BOLZ_RESULT_TOO_LONG);
+}
+
 /* n nodes, all of them outputs, and no edge. */
 static uint64_t find_nodes(unsigned n)
 {
@@ -172,6 +250,39 @@ static uint64_t written_nodes(unsigned n)
     return bolz_write_job(n, 2, edges, at, nodes, n, nodes, n, measured, n, out, sizeof out);
 }
 
+/* The most nodes, no edge, and every node in every set; the job's 160 bytes, and behind it the longest flow file without lists. */
+static size_t full_sets(uint8_t *file)
+{
+    static const unsigned n = BOLZ_MOST_NODES;
+    size_t at = bytes_of("020000000100" "8002" "000000000200" "000000000300" "000000000400" "800000000500", file);
+    memset(file + at, 1, n);
+    at += n;
+    at += bytes_of("000100002100", file + at);
+    memset(file + at, 0, 2 * n);
+    at += 2 * n;
+    at += bytes_of("004100001200", file + at);
+    for (unsigned u = 0; u < n; u++) {
+        file[at++] = (uint8_t)u;
+        file[at++] = (uint8_t)n;
+        for (unsigned k = 0; k < n; k++)
+            file[at++] = (uint8_t)k;
+    }
+    return at;
+}
+
+static void longest_flow(void)
+{
+    static uint8_t file[160 + BOLZ_MOST_FLOW], entry[2 + BOLZ_MOST_NODES];
+    size_t len = full_sets(file), most = BOLZ_MOST_FLOW;
+    want("a byte less than the longest flow", bolz_add_signals(file, len, out, most - 1), BOLZ_RESULT_TOO_LONG);
+    want_bytes("the longest flow without its lists", bolz_add_signals(file, len, out, most) - (most - (len - 160)), file + 160, len - 160);
+    memcpy(entry, file + 160 + 6 + 2 * BOLZ_MOST_NODES + 6, sizeof entry);
+    memcpy(file + 160, out, most);
+    want_bytes("the longest flow anew", bolz_add_signals(file, sizeof file, out, most), file + 160, most);
+    want("its first entry, a byte less", bolz_edit_set(file, sizeof file, entry, sizeof entry, out, most - 1), BOLZ_RESULT_TOO_LONG);
+    want_bytes("its first entry", bolz_edit_set(file, sizeof file, entry, sizeof entry, out, most), file + 160, most);
+}
+
 static void sizes(void)
 {
     size_t o = BOLZ_MOST_OUTPUT, r = BOLZ_ROW_BYTES;
@@ -196,6 +307,10 @@ static void null_pointers(void)
     want("nothing to write", bolz_write_job(0, 0, NULL, 0, NULL, 0, NULL, 0, NULL, 0, NULL, 0), BOLZ_WRONG_OPENING);
     want("no room", bolz_write_job(0, 1, NULL, 0, NULL, 0, NULL, 0, NULL, 0, NULL, 0), BOLZ_RESULT_TOO_LONG);
     want("no node", bolz_write_job(0, 1, NULL, 0, NULL, 0, NULL, 0, NULL, 0, out, sizeof out), 0);
+    want("nothing to add to", bolz_add_signals(NULL, 0, NULL, 0), BOLZ_NO_RECORD);
+    want("nothing to edit", bolz_edit_set(NULL, 0, NULL, 0, NULL, 0), BOLZ_NO_RECORD);
+    want("nothing to put in", bolz_edit_set(bytes, bytes_of(JOB FLOW, bytes), NULL, 0, NULL, 0), BOLZ_WRONG_LENGTH);
+    want("no room for lists", bolz_add_signals(bytes, bytes_of(JOB FLOW, bytes), NULL, 0), BOLZ_RESULT_TOO_LONG);
     want("nothing to solve", bolz_solve(NULL, 0, NULL, 0, 0, 0, 0, 0), BOLZ_WRONG_SHAPE);
 }
 
@@ -207,6 +322,8 @@ static char *stack;
 static void *idle(void *nothing) { return nothing; }
 static void *in_find(void *file) { find(file, BOLZ_WORK_BYTES, sizeof out); return NULL; }
 static void *in_verify(void *file) { verify(file); return NULL; }
+static void *in_add(void *file) { added(file, sizeof out); return NULL; }
+static void *in_edit(void *file) { edited(file, "000101", sizeof out); return NULL; }
 static void *in_write(void *file) { written_nodes(BOLZ_MOST_NODES); return file; }
 static void *in_solve(void *file) { solve(BOLZ_ROW_BYTES, BOLZ_ROW_BYTES, 1, 0); return file; }
 
@@ -261,11 +378,17 @@ int main(int count, char **arguments)
     refusals();
     layers();
     refused_lists();
+    lists();
+    lists_added();
+    sets_edited();
     sizes();
+    longest_flow();
     null_pointers();
     stack = mmap(NULL, STACK, PROT_READ | PROT_WRITE, MAP_PRIVATE | MAP_ANONYMOUS, -1, 0);
     stack_of("bolz_find", in_find, JOB, PAULI REST, NULL, BOLZ_FIND_STACK);
-    stack_of("bolz_verify", in_verify, JOB FLOW, PAULI REST FLOW, CAUSAL REST FLOW, BOLZ_VERIFY_STACK);
+    stack_of("bolz_verify", in_verify, JOB LISTED, PAULI REST LISTED, CAUSAL REST LISTED, BOLZ_VERIFY_STACK);
+    stack_of("bolz_add_signals", in_add, JOB FLOW, JOB LISTED, NULL, BOLZ_ADD_SIGNALS_STACK);
+    stack_of("bolz_edit_set", in_edit, JOB FLOW, JOB LISTED, NULL, BOLZ_EDIT_SET_STACK);
     stack_of("bolz_write_job", in_write, NULL, NULL, NULL, BOLZ_WRITE_JOB_STACK);
     stack_of("bolz_solve", in_solve, NULL, NULL, NULL, BOLZ_SOLVE_STACK);
     puts(wrong ? "the header and the library differ" : "the header and the library agree");

@@ -1,4 +1,5 @@
-/* The four calls from C: a flow for two joined nodes, its verdict, a wrong flow's refusal; a job written from lists, and its flow; two equations. */
+/* The six calls from C: a flow for two joined nodes, its verdict, a wrong flow's refusal; a job written from lists, its flow, that with signal lists
+   and with one set edited; two equations. */
 #include <stdio.h>
 #include <string.h>
 
@@ -14,7 +15,7 @@ static const uint8_t job[] = {
 };
 
 static uint8_t work[BOLZ_WORK_BYTES];
-static uint8_t flow[BOLZ_MOST_OUTPUT];
+static uint8_t flow[BOLZ_MOST_FLOW];
 
 static void tell(const char *call, uint64_t result)
 {
@@ -29,6 +30,32 @@ static void print_bytes(const uint8_t *bytes, uint64_t count)
 {
     for (uint64_t i = 0; i < count; i++)
         printf("%02x%s", bytes[i], i + 1 == count ? "\n" : " ");
+}
+
+/* The flow gets its signal lists; then node 0 gets the set 1, 2, and its bits in the lists follow; then a bit of the last row is wrong. */
+static int with_signals(const uint8_t *path, size_t path_len, size_t flow_len)
+{
+    static const uint8_t entry[] = {0, 2, 1, 2};
+    static uint8_t both[64 + BOLZ_MOST_FLOW];
+    uint8_t verdict[6];
+    memcpy(both, path, path_len);
+    memcpy(both + path_len, flow, flow_len);
+    uint64_t added = bolz_add_signals(both, path_len + flow_len, flow, sizeof flow);
+    tell("add signals", added);
+    if (BOLZ_NUMBER(added) != 0)
+        return 1;
+    print_bytes(flow, added);
+    memcpy(both + path_len, flow, (size_t)added);
+    uint64_t edited = bolz_edit_set(both, path_len + (size_t)added, entry, sizeof entry, flow, sizeof flow);
+    tell("edit", edited);
+    if (BOLZ_NUMBER(edited) != 0)
+        return 1;
+    print_bytes(flow, edited);
+    memcpy(both + path_len, flow, (size_t)edited);
+    tell("verify", bolz_verify(both, path_len + (size_t)edited, verdict, sizeof verdict));
+    both[path_len + edited - 1] ^= 1;
+    tell("verify a wrong list", bolz_verify(both, path_len + (size_t)edited, verdict, sizeof verdict));
+    return 0;
 }
 
 /* The path 0-1-2 with input 0 and output 2, measured in XY, as an editor holds it. */
@@ -48,7 +75,7 @@ static int from_lists(void)
     if (BOLZ_NUMBER(found) != 0)
         return 1;
     print_bytes(flow, found);
-    return 0;
+    return with_signals(path, (size_t)written, (size_t)found);
 }
 
 int main(void)

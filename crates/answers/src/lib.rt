@@ -34,6 +34,9 @@ impl Refusal {
 
     // A loop, or an edge or a node given twice.
     pub const GIVEN_TWICE: Refusal = Refusal(21, 0, 0);
+
+    // Signal lists that are not those of the flow.
+    pub const WRONG_SIGNALS: Refusal = Refusal(22, 0, 0);
 }
 
 // The questions of the verifier, by number: each names its node, a, and 15 and 18 a layer or a node, b.

@@ -1,9 +1,11 @@
-pub mod Loaded
 pub mod Asking
 pub mod AskingDefinition
 pub mod AskingNodes
+pub mod BuildingSignals
+pub mod Editing
 pub mod Finding
 pub mod Found
+pub mod Loaded
 pub mod LoadingEdges
 pub mod LoadingFiles
 pub mod LoadingTables

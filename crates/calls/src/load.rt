@@ -99,7 +99,7 @@ fn load_sets(sets: &[u8], table: &mut [u64]) -> NodeSet
 
 // ---- Numbers of the nodes; past those in the file the buffer stays 0.
 
-fn load_bytes(bytes: &[u8], to: &mut [u8])
+pub(crate) fn load_bytes(bytes: &[u8], to: &mut [u8])
     requires { ⌜ (length (now bytes) ≤ length (now to)) × (now to ≡ zeros (length (now to))) ⌝ }
     ensures { λ _. ⌜ ((u : ℕ) → getD (now (to .exit)) u 0 ≡ getD (now (bytes .entry)) u 0) ⌝ }
 {

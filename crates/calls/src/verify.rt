@@ -1,25 +1,22 @@
 // The verifier: a job and the flow file behind it are read and judged, and 0014 is written.
 ghost use mathlib.Core.Path.{_≡_};
-ghost use mathlib.Core.Bool.{not, _||_};
 ghost use mathlib.Core.List.{[]};
 ghost use Prim.Native.Nat.{_≤_};
-ghost use lib.Dec.{eqb};
-ghost use lib.ListN.{length};
 ghost use Rattle.nodes.specs.NodeSet.{capacity};
-ghost use Rattle.records.specs.JobFile.{modeCausal, workingOf, jobOf};
-ghost use Rattle.records.specs.FlowFile.{entriesOf, listed, allEntries, flowOf};
-ghost use Rattle.records.specs.Encoding.{ValidJob, ValidFlow};
 ghost use Rattle.verdicts.specs.Verdict.{checkDefinition, verify as verifyOf};
-ghost use Rattle.demands.specs.Calls.{verdict, verifyAsks, verifyCall};
+ghost use Rattle.demands.specs.Calls.{verdict, judge, verifyAsks, verifyCall};
 ghost use Rattle.records.specs.Views.{jobAt, flowAt};
-ghost use Rattle.calls.specs.Loaded.{jobLoaded, flowIn, askedOf, flowAsks};
+ghost use Rattle.calls.specs.Loaded.{jobLoaded, flowIn, askedOf, ReadAs};
 ghost use Rattle.calls.specs.Replies.{replyOf};
 use crate::Reply;
+use crate::both::BothRead;
+use crate::both::read_both;
 use crate::flow;
 use crate::load::Loaded;
 use crate::load::load_flow;
 use crate::load::load_job;
 use crate::pflow;
+use crate::signals::lists_match;
 use crate::validate::Asked;
 use crate::validate::check_domain;
 use crate::validate::check_initial;
@@ -29,15 +26,9 @@ use nodes::utils::CAPACITY;
 use nodes::utils::NodeSet;
 use nodes::utils::TABLE_WORDS;
 use records::common::FlowPlaces;
-use records::common::FlowRead;
 use records::common::JobPlaces;
-use records::common::JobRead;
 use records::common::KIND_ACCEPTED;
 use records::common::MODE_CAUSAL;
-use records::common::payload;
-use records::questions::one_member;
-use records::reader::read_flow;
-use records::reader::read_job;
 
 // Questions 17 to 19: mode 1 has its own, and one rule serves the others.
 fn check_definition(
@@ -85,10 +76,10 @@ fn verify_loaded(
     check_definition(job, graph, measured, layers, entries, sets)
 }
 
-// Job and flow are loaded from the places of their payloads.
+// Job and flow are loaded from the places of their payloads. After all other questions: are stored lists those of the flow (22)?
 fn verify_places(file: &[u8], job: JobPlaces, flow: FlowPlaces) -> Asked
-    requires { ⌜ ValidJob (jobAt (now file) job) × ValidFlow (job .n) (flowAt (now file) flow) ⌝ }
-    ensures { λ r. ⌜ askedOf r ≡ verifyOf (jobOf (jobAt (now (file .entry)) job)) (flowOf (flowAt (now (file .entry)) flow)) (workingOf (jobAt (now (file .entry)) job) .mode) ⌝ }
+    requires { ⌜ ReadAs (now file) job flow ⌝ }
+    ensures { λ r. ⌜ verdict (askedOf r) ≡ judge (jobAt (now (file .entry)) job) (flowAt (now (file .entry)) flow) ⌝ }
 {
     let mut graph = [0u64; TABLE_WORDS];
     let mut measured = [0u8; CAPACITY];
@@ -96,45 +87,23 @@ fn verify_places(file: &[u8], job: JobPlaces, flow: FlowPlaces) -> Asked
     let mut layers = [0u16; CAPACITY];
     let mut sets = [0u64; TABLE_WORDS];
     let entries = load_flow(file, flow, &mut layers, &mut sets);
-    verify_loaded(loaded, &graph, &measured, &layers, entries, &sets)
+    let a = verify_loaded(loaded, &graph, &measured, &layers, entries, &sets);
+    let Asked::Passed = a else {
+        return a;
+    };
+    if !lists_match(file, flow, loaded.n, &graph) {
+        return Asked::Refused(Refusal::WRONG_SIGNALS);
+    }
+    Asked::Passed
 }
 
-// Has each causal entry one member (9)? Rightly asked of the file's own mode: it is a question of reading.
-fn one_each(mode: u8, sets: &[u8]) -> bool
-    ensures { λ r. ⌜ r ≡ (not (eqb mode modeCausal) || allEntries (λ e. eqb (length (e .set)) 1) (listed (entriesOf (now (sets .entry))))) ⌝ }
-{
-    if mode != MODE_CAUSAL {
-        return true;
-    }
-    one_member(sets)
-}
-
-// Is nothing left (8)? Then 9, and the questions on the flow.
-fn verify_read(file: &[u8], job: JobPlaces, flow: FlowPlaces) -> Asked
-    requires { ⌜ flow .end ≤ length (now file) ⌝ }
-    requires { ⌜ ValidJob (jobAt (now file) job) × ValidFlow (job .n) (flowAt (now file) flow) ⌝ }
-    ensures { λ r. ⌜ verdict (askedOf r) ≡ flowAsks (jobAt (now (file .entry)) job) (flowAt (now (file .entry)) flow) ⌝ }
-{
-    if flow.end != file.len() {
-        return Asked::Refused(Refusal::BYTES_LEFT);
-    }
-    let sets = flow.sets;
-    if !one_each(job.mode, payload(file, sets)) {
-        return Asked::Refused(Refusal::NOT_ONE_MEMBER);
-    }
-    verify_places(file, job, flow)
-}
-
-// All questions but the writer's: first reading, 1 to 7.
+// All questions but the writer's: first reading, 1 to 9.
 fn verify_file(file: &[u8]) -> Asked
     ensures { λ r. ⌜ verdict (askedOf r) ≡ verifyAsks (now (file .entry)) ⌝ }
 {
-    match read_job(file) {
-        JobRead::Refused(q) => Asked::Refused(q),
-        JobRead::Job(job) => match read_flow(file, job.end, job.n) {
-            FlowRead::Refused(q) => Asked::Refused(q),
-            FlowRead::Flow(flow) => verify_read(file, job, flow),
-        },
+    match read_both(file) {
+        BothRead::Refused(q) => Asked::Refused(q),
+        BothRead::Both(job, flow) => verify_places(file, job, flow),
     }
 }
 

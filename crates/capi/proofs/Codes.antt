@@ -14,27 +14,28 @@ use Rattle.solver.specs.Solver as Solver
 use Rattle.records.specs.Records.{written, kindAccepted}
 use Rattle.records.specs.Splice.{fitsIn}
 use Rattle.records.specs.Encoding.{Bytes}
-use Rattle.records.specs.Writing.{mostOutput}
+use Rattle.records.specs.Writing.{mostFlow}
 use Rattle.records.specs.JobFile.{JobFile}
 use Rattle.records.specs.JobLists.{JobLists}
 use Rattle.records.proofs.Records.{written-length}
 use Rattle.records.proofs.Encoding.{job-asked}
 use Rattle.records.proofs.JobLists.{ascending-length}
-use Rattle.demands.specs.Calls.{put, findAsks, findOutcome, findCall, verifyAsks, outcome, verifyCall, writtenJob, writeJobAsks, writeJobCall}
+use Rattle.demands.specs.Calls.{Both, readBoth, editAsks, put, findAsks, findOutcome, findCall, verifyAsks, outcome, verifyCall, writtenJob, writeJobAsks, writeJobCall, addedBytes, addSignalsCall, editedBytes, editSetCall}
 use Rattle.demands.proofs.Demand.{found-fits, asked-find}
 use Rattle.demands.proofs.JobWriter.{write-job-asked, write-job-refuses}
 use Rattle.capi.specs.Codes.{numberUnit, answerCode, coded, counted, codedBits, Tells, TellsWhy}
-use Rattle.demands.proofs.Refusals.{Numbered, AllNumbered, given, asks-then, find-numbered, verify-numbered}
+use Rattle.demands.proofs.Refusals.{Numbered, AllNumbered, given, asks-then, find-numbered, verify-numbered, both-numbered, edit-numbered}
+use Rattle.demands.proofs.Signals.{added-fits, edited-fits}
 
 -- ---- what the calls answer: a small count, or a numbered refusal
 abbrev Fits : Type 0 → Answer ℕ → Type 0
-Fits bytes (gives k) = k ≤ mostOutput
+Fits bytes (gives k) = k ≤ mostFlow
 Fits bytes (refuses r) = (1 ≤ r .number) × (r .a < 256) × (bytes → r .b < 65536)
 
 numbered-fits : (bytes : Type 0) (r : Refusal) → Numbered bytes r → Fits bytes (refuses r)
 numbered-fits bytes r t = (t .number, t .a, t .b)
 
-put-fits : (bytes : Type 0) (work result out : List ℕ) → length result ≤ mostOutput → Fits bytes (put work result out .answer)
+put-fits : (bytes : Type 0) (work result out : List ℕ) → length result ≤ mostFlow → Fits bytes (put work result out .answer)
 unfolding put
 put-fits bytes work result out h = by (fitsIn result out)
   where
@@ -47,14 +48,14 @@ unfolding findCall AllNumbered
 find-fits file work out = by (findAsks file work) refl (find-numbered Unit file work)
   where
     by : (a : Answer JobFile) → findAsks file work ≡ a → AllNumbered Unit a → Fits Unit (findOutcome a work out .answer)
-    by (gives f) e t = put-fits Unit _ _ out (found-fits f (job-asked file f (asked-find file work f e .0) .few))
+    by (gives f) e t = put-fits Unit _ _ out (omega (arith, found-fits f (job-asked file f (asked-find file work f e .0) .few)))
     by (refuses r) e t = numbered-fits Unit r t
 
 verify-fits : (file out : List ℕ) → Fits (Bytes file) (verifyCall file out .answer)
 unfolding verifyCall AllNumbered
 verify-fits file out = by (verifyAsks file) (verify-numbered file)
   where
-    by : (a : Answer Bool) → AllNumbered (Bytes file) a → Fits (Bytes file) (outcome a (written kindAccepted []) out .answer)
+    by : (a : Answer Bool) → AllNumbered (Bytes file) a → Fits (Bytes file) (outcome a (λ b. written kindAccepted []) out .answer)
     by (gives b) t = put-fits (Bytes file) [] (written kindAccepted []) out (omega (arith, written-length kindAccepted []))
     by (refuses r) t = numbered-fits (Bytes file) r t
 
@@ -67,11 +68,28 @@ write-job-fits l out = by (writeJobAsks l) refl
     from-one zero e = absurd (false≢true e)
     from-one (suc q) e = omega arith
 
-    by : (a : Answer Bool) → writeJobAsks l ≡ a → Fits Unit (outcome a (writtenJob l) out .answer)
-    by (gives b) e = put-fits Unit [] (writtenJob l) out (ascending-length l (write-job-asked l b e .0))
+    by : (a : Answer Bool) → writeJobAsks l ≡ a → Fits Unit (outcome a (λ b. writtenJob l) out .answer)
+    by (gives b) e = put-fits Unit [] (writtenJob l) out (omega (arith, ascending-length l (write-job-asked l b e .0)))
     by (refuses r) e =
         let (same, number) = write-job-refuses l r e in
         rw same (from-one (r .number) number, omega arith, λ x. omega arith)
+
+-- what adding and editing write is a flow file
+add-signals-fits : (file out : List ℕ) → Fits Unit (addSignalsCall file out .answer)
+unfolding addSignalsCall AllNumbered
+add-signals-fits file out = by (readBoth file) refl (both-numbered Unit file)
+  where
+    by : (a : Answer Both) → readBoth file ≡ a → AllNumbered Unit a → Fits Unit (outcome a addedBytes out .answer)
+    by (gives b) e t = put-fits Unit [] (addedBytes b) out (added-fits file b e)
+    by (refuses r) e t = numbered-fits Unit r t
+
+edit-set-fits : (file entry out : List ℕ) → Fits Unit (editSetCall file entry out .answer)
+unfolding editSetCall AllNumbered
+edit-set-fits file entry out = by (editAsks file entry) refl (edit-numbered Unit file entry)
+  where
+    by : (a : Answer Both) → editAsks file entry ≡ a → AllNumbered Unit a → Fits Unit (outcome a (editedBytes entry) out .answer)
+    by (gives b) e t = put-fits Unit [] (editedBytes entry b) out (edited-fits file entry b e)
+    by (refuses r) e t = numbered-fits Unit r t
 
 solve-numbered : (matrix out : List ℕ) (rows cols sides side : ℕ) → AllNumbered Unit (Solver.solveAsks matrix out rows cols sides side)
 unfolding Solver.solveAsks
@@ -109,6 +127,18 @@ verify-code file out =
     let a = verifyCall file out .answer in
     let h = verify-fits file out in
     (tells (Bytes file) a h, tells-why (Bytes file) a h)
+
+pub add-signals-code : (file out : List ℕ) → let o = addSignalsCall file out in Tells (o .answer) (coded o .code) × TellsWhy (o .answer) (coded o .code)
+add-signals-code file out =
+    let a = addSignalsCall file out .answer in
+    let h = add-signals-fits file out in
+    (tells Unit a h, tells-why Unit a h tt)
+
+pub edit-set-code : (file entry out : List ℕ) → let o = editSetCall file entry out in Tells (o .answer) (coded o .code) × TellsWhy (o .answer) (coded o .code)
+edit-set-code file entry out =
+    let a = editSetCall file entry out .answer in
+    let h = edit-set-fits file entry out in
+    (tells Unit a h, tells-why Unit a h tt)
 
 pub write-job-code : (l : JobLists) (out : List ℕ) → let o = writeJobCall l out in Tells (o .answer) (coded o .code) × TellsWhy (o .answer) (coded o .code)
 write-job-code l out =

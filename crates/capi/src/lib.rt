@@ -4,12 +4,14 @@ ghost use mathlib.Core.List.{[]};
 ghost use Rattle.solver.specs.Solver.{MatrixAfter, solvedOf, solveAsks, solveCall};
 ghost use Rattle.answers.specs.Refusals.{refusalOf};
 ghost use Rattle.records.specs.JobLists.{given};
-ghost use Rattle.demands.specs.Calls.{findCall, verifyCall, writeJobCall};
+ghost use Rattle.demands.specs.Calls.{findCall, verifyCall, addSignalsCall, editSetCall, writeJobCall};
 ghost use Rattle.calls.specs.Replies.{replyOf};
 ghost use Rattle.capi.specs.Codes.{refusalCode, answerCode, coded, counted, codedBits};
 use answers::Refusal;
 use calls::Reply;
+use calls::edit::edit_set;
 use calls::find::find;
+use calls::signals::add_signals;
 use calls::verify::verify;
 use calls::write::write_job;
 use solver::gf2_linalg::Solved;
@@ -60,6 +62,22 @@ pub extern "C" fn bolz_verify(file: &[u8], out: &mut [u8]) -> u64
     ensures { λ r. ⌜ record { code = r; work = []; out = now (out .exit) } ≡ coded (verifyCall (now (file .entry)) (now (out .entry))) ⌝ }
 {
     reply_code(verify(file, out))
+}
+
+// The signal lists beside a flow: the count of bytes written, or the refusal.
+#[no_mangle]
+pub extern "C" fn bolz_add_signals(file: &[u8], out: &mut [u8]) -> u64
+    ensures { λ r. ⌜ record { code = r; work = []; out = now (out .exit) } ≡ coded (addSignalsCall (now (file .entry)) (now (out .entry))) ⌝ }
+{
+    reply_code(add_signals(file, out))
+}
+
+// One node's set edited: the count of bytes written, or the refusal.
+#[no_mangle]
+pub extern "C" fn bolz_edit_set(file: &[u8], entry: &[u8], out: &mut [u8]) -> u64
+    ensures { λ r. ⌜ record { code = r; work = []; out = now (out .exit) } ≡ coded (editSetCall (now (file .entry)) (now (entry .entry)) (now (out .entry))) ⌝ }
+{
+    reply_code(edit_set(file, entry, out))
 }
 
 // The job writer: the count of bytes written, or the refusal.

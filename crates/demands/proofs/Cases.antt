@@ -21,7 +21,7 @@ use Rattle.records.specs.Format.{decodeThen}
 use Rattle.records.specs.JobFile.{JobFile, modeCausal, modePlanes, modePauli, rises, pairsRise, allows, allAllowed, openingAsks, edgesAsks, nodesAsks, measurementsAsks, readJob, hasEdge, jobOf}
 use Rattle.records.specs.FlowFile.{FlowFile, entriesIn, allEntries, entryBelow, entriesRise, entryBytes, setsAsks, readFlow, setIn, entryIn, flowOf}
 use Rattle.verdicts.specs.Verdict.{ask, eachFrom, nodeAsk, causalAsk, verify}
-use Rattle.demands.specs.Calls.{findAsks, verifyAsks}
+use Rattle.demands.specs.Calls.{findAsks, readBoth, judge, verifyAsks}
 use Rattle.records.specs.Encoding.{flowWith, entriesFor}
 use Rattle.demands.specs.Programs.{findProgram, verifyProgram}
 use Rattle.verdicts.specs.Published.{StrictOrder, Measured, NoInputs, PublishedFlow, byLayer}
@@ -172,7 +172,7 @@ all-hold : AllHold cases × AllHold differences
 unfolding
     bit parity anyBelow allBelow count lowestFrom membersFrom solve entryOf digits listOf matrixFits bothFit wellShaped solveAsks own branches firstSolvable rounds
     lengthField part checked decodeThen written all has rises pairsRise allows allAllowed openingAsks edgesAsks nodesAsks measurementsAsks readJob hasEdge
-    entriesIn allEntries entryBelow entriesRise entryBytes eachAsks inTwoBytes fromTwoBytes setsAsks readFlow setIn entryIn ask eachFrom nodeAsk causalAsk verify entriesFor findAsks verifyAsks findProgram verifyProgram equal
+    entriesIn allEntries entryBelow entriesRise entryBytes eachAsks inTwoBytes fromTwoBytes setsAsks readFlow setIn entryIn ask eachFrom nodeAsk causalAsk verify entriesFor findAsks readBoth judge verifyAsks findProgram verifyProgram equal
 all-hold = (
   (record { lower = tt }, ((fileF 2, itself (1 ∷ 0 ∷ []), refl, (refl, refl), forbidden 2), record { lower = tt })),
   (

@@ -81,7 +81,7 @@ module _ (file : List ℕ) (f : JobFile) (reads : readJob file ≡ gives f) (end
     fatal-needless = (domain-asked j (flowOf g) (modeOf f) found-verified, initial-asked j (flowOf g) (modeOf f) found-verified, definition-asked j (flowOf g) (modeOf f) found-verified)
 
     pub found-judged : Judged f (flowBytes j (some s)) g
-    found-judged = record { reads = found-reads j s (valid .few); nothing = refl; single = (true, one-member-other (f .mode) (g .sets) (λ e. not-causal (causal-works f e))); accepted = found-verified }
+    found-judged = record { reads = found-reads j s (valid .few); nothing = refl; single = (true, one-member-other (f .mode) (g .sets) (λ e. not-causal (causal-works f e))); accepted = found-verified; matches = refl }
 
   -- ---- (b) every accepted flow gives each node at least the layer of the found one
   module _ (p : T (premise f)) (other : List ℕ) (h : FlowFile) (q : Judged f other h) where

@@ -30,7 +30,7 @@ wrote-out : (l : JobLists) (out : List ℕ) (k : ℕ) (s : List ℕ) → Wrote l
 unfolding writeJobCall
 wrote-out l out k s (e, q) = by (writeJobAsks l) refl e q
   where
-    by : (m : Answer Bool) → writeJobAsks l ≡ m → outcome m (writtenJob l) out .answer ≡ gives k → take k (outcome m (writtenJob l) out .out) ≡ s → (listsAsk l ≡ gives true) × (givenOnce l ≡ true) × (writtenJob l ≡ s)
+    by : (m : Answer Bool) → writeJobAsks l ≡ m → outcome m (λ b. writtenJob l) out .answer ≡ gives k → take k (outcome m (λ b. writtenJob l) out .out) ≡ s → (listsAsk l ≡ gives true) × (givenOnce l ≡ true) × (writtenJob l ≡ s)
     by (refuses r) p e q = absurd (never e)
     by (gives b) p e q = let (asked, once) = write-job-asked l b p in (asked, once, sym (put-fits [] (writtenJob l) out k e) ∙ q)
 

@@ -1,6 +1,6 @@
 -- A job followed by a flow, `verifyAsks` of specs/Calls: what the verifier asks of the two together, and what reading tells of them.
 use Prim.Native.Nat.{ℕ, zero, suc, _+_, _≤_, _<_}
-use mathlib.Core.Path.{_≡_, refl, sym, _∙_, subst}
+use mathlib.Core.Path.{_≡_, refl, sym, ap, _∙_, subst}
 use mathlib.Core.Bool.{Bool, true, false, not, _&&_, _||_}
 use mathlib.Core.Option.{Option, none, some}
 use mathlib.Core.List.{List, [], _∷_, _++_}
@@ -12,14 +12,14 @@ use lib.ListN.{length, getD}
 use Rattle.nodes.specs.Lists.{has}
 use Rattle.nodes.proofs.Logic.{is-true, is-false, from-true, or-l, or-r, or-all, eqb-comm, and-out}
 use Rattle.flows.specs.Job.{planeXZ}
-use Rattle.answers.specs.Answer.{Refusal, Answer, gives, refuses, _>>_}
+use Rattle.answers.specs.Answer.{Refusal, Answer, gives, refuses, asks, _>>=_, _>>_}
 use Rattle.records.specs.JobFile.{JobFile, rises, readJob, jobOf, modeCausal, modePlanes, modePauli}
 use Rattle.records.specs.FlowFile.{SetEntry, FlowFile, allEntries, entriesRise, readFlow, flowOf, nothingLeft, oneMember, entryIn, setIn}
 use Rattle.records.specs.Encoding.{ValidJob, ValidFlow}
 use Rattle.verdicts.specs.Verdict.{verify}
-use Rattle.demands.specs.Calls.{modeOf, verdict, verifyAsks}
+use Rattle.demands.specs.Calls.{modeOf, Both, readBoth, verdict, listsMatch, judge, verifyAsks}
 use Rattle.verdicts.specs.Published.{Measured, NoInputs, PublishedFlow, byLayer, LayerRule, Domain, CausalAccepted, AcceptedFlow}
-use Rattle.answers.proofs.Answer.{never, bind-out}
+use Rattle.answers.proofs.Answer.{give-inj, never, bind-out, asks-yes}
 use Rattle.records.proofs.Encoding.{job-asked, job-append, flow-asked}
 use Rattle.records.proofs.JobFile.{measured-range, output-zero, measured-most, measured-plane}
 use Rattle.records.proofs.FlowFile.{set-entry, place-entry, set-at, nodes-below, members-below, nothing-left, one-member-asked, one-member-other, one-member}
@@ -30,9 +30,46 @@ verdict-out : (o : Option Refusal) (b : Bool) → verdict o ≡ gives b → o �
 verdict-out none b e = refl
 verdict-out (some r) b e = absurd (never e)
 
-then-out : {A B : Type 0} (m : Answer A) (k : Answer B) (b : B) → (m >> k) ≡ gives b → (a : A) × (m ≡ gives a) × (k ≡ gives b)
+pub then-out : {A B : Type 0} (m : Answer A) (k : Answer B) (b : B) → (m >> k) ≡ gives b → (a : A) × (m ≡ gives a) × (k ≡ gives b)
 then-out (gives a) k b e = (a, refl, e)
 then-out (refuses r) k b e = absurd (never e)
+
+-- ---- reading both
+-- what reading has asked of both
+pub record ReadBoth (file : List ℕ) (f : JobFile) (g : FlowFile) : Type 0 where
+  pub reads-job : readJob file ≡ gives f
+  pub reads-flow : readFlow (f .n) (f .after) ≡ gives g
+  pub ends : g .after ≡ []
+  pub single : (b : Bool) × (oneMember (f .mode) (g .sets) ≡ gives b)
+
+pub both-out : (file : List ℕ) (b : Both) → readBoth file ≡ gives b → ReadBoth file (b .job) (b .flow)
+unfolding readBoth
+both-out file b e =
+    let (f, p, q) = bind-out (readJob file) _ b e in
+    let (g, r, s) = bind-out (readFlow (f .n) (f .after)) _ b q in
+    let (x, t, u) = then-out (nothingLeft (g .after)) _ b s in
+    let (y, v, w) = then-out (oneMember (f .mode) (g .sets)) _ b u in
+    subst (λ (b : Both). ReadBoth file (b .job) (b .flow)) (give-inj w) (record { reads-job = p; reads-flow = r; ends = nothing-left (g .after) x t; single = (y, v) })
+
+pub both-in : (file : List ℕ) (f : JobFile) (g : FlowFile) → ReadBoth file f g → readBoth file ≡ gives (record { job = f; flow = g })
+unfolding readBoth
+both-in file f g h = rw (h .reads-job, h .reads-flow, h .ends, h .single .1)
+
+-- ---- judging both
+judge-out : (f : JobFile) (g : FlowFile) (b : Bool) → judge f g ≡ gives b → (verify (jobOf f) (flowOf g) (modeOf f) ≡ none) × (listsMatch f g ≡ true)
+unfolding judge
+judge-out f g b e =
+    let (x, p, q) = then-out (verdict (verify (jobOf f) (flowOf g) (modeOf f))) (asks 22 (listsMatch f g)) b e in
+    (verdict-out (verify (jobOf f) (flowOf g) (modeOf f)) x p, asks-yes 22 (listsMatch f g) b q)
+
+-- where the lists are those of the flow, 22 is no question
+pub judge-matching : (f : JobFile) (g : FlowFile) → listsMatch f g ≡ true → judge f g ≡ verdict (verify (jobOf f) (flowOf g) (modeOf f))
+unfolding judge
+judge-matching f g m = by (verify (jobOf f) (flowOf g) (modeOf f))
+  where
+    by : (o : Option Refusal) → (verdict o >> asks 22 (listsMatch f g)) ≡ verdict o
+    by none = rw m refl
+    by (some r) = refl
 
 -- all that the verifier asks of a file that reads as job and flow
 pub record Judged (f : JobFile) (flow : List ℕ) (g : FlowFile) : Type 0 where
@@ -40,22 +77,47 @@ pub record Judged (f : JobFile) (flow : List ℕ) (g : FlowFile) : Type 0 where
   pub nothing : g .after ≡ []
   pub single : (b : Bool) × (oneMember (f .mode) (g .sets) ≡ gives b)
   pub accepted : verify (jobOf f) (flowOf g) (modeOf f) ≡ none
+  pub matches : listsMatch f g ≡ true
+
+-- the verifier's questions, after both were read
+pub verify-read : (file : List ℕ) (f : JobFile) (g : FlowFile) → ReadBoth file f g → verifyAsks file ≡ judge f g
+unfolding verifyAsks
+verify-read file f g h = rw (both-in file f g h)
+
+verify-out : (file : List ℕ) (b : Bool) → verifyAsks file ≡ gives b → (f : JobFile) × (g : FlowFile) × ReadBoth file f g × (judge f g ≡ gives b)
+unfolding verifyAsks
+verify-out file b e = let (x, p, q) = bind-out (readBoth file) (λ b. judge (b .job) (b .flow)) b e in (x .job, x .flow, both-out file x p, q)
 
 module _ (file : List ℕ) (f : JobFile) (reads-job : readJob file ≡ gives f) (ends : f .after ≡ []) (flow : List ℕ) where
   pub whole : readJob (file ++ flow) ≡ gives (record { n = f .n; mode = f .mode; edges = f .edges; inputs = f .inputs; outputs = f .outputs; measurements = f .measurements; after = flow })
   whole = job-append file flow f reads-job ∙ rw ends
 
+  -- both, behind one another
+  abbrev before : JobFile
+  before = record { n = f .n; mode = f .mode; edges = f .edges; inputs = f .inputs; outputs = f .outputs; measurements = f .measurements; after = flow }
+
+  pub whole-both : (g : FlowFile) → readFlow (f .n) flow ≡ gives g → g .after ≡ [] → (b : Bool) × (oneMember (f .mode) (g .sets) ≡ gives b) → ReadBoth (file ++ flow) before g
+  whole-both g r e s = record { reads-job = whole; reads-flow = r; ends = e; single = s }
+
+  -- of a flow file the verifier asks 9, and then judges it
+  pub verify-flow : (g : FlowFile) → readFlow (f .n) flow ≡ gives g → g .after ≡ [] → verifyAsks (file ++ flow) ≡ (oneMember (f .mode) (g .sets) >> judge f g)
+  unfolding verifyAsks readBoth judge
+  verify-flow g r e = rw (whole, r, ap (λ (l : List ℕ). eqb (length l) 0) e) (by (oneMember (f .mode) (g .sets)))
+    where
+      by : (a : Answer Bool) → _>>=_ {A = Both} (a >> gives (record { job = before; flow = g })) (λ b. judge (b .job) (b .flow)) ≡ (a >> judge f g)
+      by (gives b) = refl
+      by (refuses r) = refl
+
   pub judged-out : (b : Bool) → verifyAsks (file ++ flow) ≡ gives b → (g : FlowFile) × Judged f flow g
-  unfolding verifyAsks
   judged-out b e =
-      let (g, p, q) = bind-out (readFlow (f .n) flow) (λ g. nothingLeft (g .after) >> (oneMember (f .mode) (g .sets) >> verdict (verify (jobOf f) (flowOf g) (modeOf f)))) b (rw whole at e) in
-      let (x, r, s) = then-out (nothingLeft (g .after)) (oneMember (f .mode) (g .sets) >> verdict (verify (jobOf f) (flowOf g) (modeOf f))) b q in
-      let (y, t, u) = then-out (oneMember (f .mode) (g .sets)) (verdict (verify (jobOf f) (flowOf g) (modeOf f))) b s in
-      (g, record { reads = p; nothing = nothing-left (g .after) x r; single = (y, t); accepted = verdict-out (verify (jobOf f) (flowOf g) (modeOf f)) b u })
+      let (h, g, r, q) = verify-out (file ++ flow) b e in
+      let same : h ≡ before = give-inj (sym (r .reads-job) ∙ whole) in
+      let r′ = subst (λ (h : JobFile). ReadBoth (file ++ flow) h g) same r in
+      let (a, m) = judge-out before g b (subst (λ (h : JobFile). judge h g ≡ gives b) same q) in
+      (g, record { reads = r′ .reads-flow; nothing = r′ .ends; single = r′ .single; accepted = a; matches = m })
 
   pub judged-in : (g : FlowFile) → Judged f flow g → verifyAsks (file ++ flow) ≡ gives true
-  unfolding verifyAsks
-  judged-in g h = rw (whole, h .reads, h .nothing, h .single .1, h .accepted)
+  judged-in g h = verify-read (file ++ flow) before g (whole-both g (h .reads) (h .nothing) (h .single)) ∙ judge-matching before g (h .matches) ∙ rw (h .accepted) refl
 
 -- ---- the mode to work with, from the mode of the file
 pub searched-works : (f : JobFile) → (f .mode ≡ modePlanes) ⊎ (f .mode ≡ modePauli) → (modeOf f ≡ modePlanes) ⊎ (modeOf f ≡ modePauli)
@@ -165,7 +227,7 @@ module _ (f : JobFile) (v : ValidJob f) (g : FlowFile) (w : ValidFlow (f .n) g) 
   published-verify (inr (inl (q, c))) = subst (λ (m : ℕ). verify (jobOf f) (flowOf g) m ≡ none) (sym q) (accepts-planes (jobOf f) (flowOf g) (readable f v g w) (planes f v q) c)
   published-verify (inr (inr (q, c))) = subst (λ (m : ℕ). verify (jobOf f) (flowOf g) m ≡ none) (sym q) (accepts-paulis (jobOf f) (flowOf g) (readable f v g w) c)
 
--- no question is answered no exactly where the mode's published conditions hold with the listed differences
+-- no question is answered no exactly where the mode's published conditions hold with the listed differences, and stored lists are those of the flow
 module _ (s : List ℕ) (f : JobFile) (g : FlowFile) (reads-job : readJob s ≡ gives f) (reads-flow : readFlow (f .n) (f .after) ≡ gives g) (ends : g .after ≡ []) where
   valid : ValidJob f
   valid = job-asked s f reads-job
@@ -173,20 +235,25 @@ module _ (s : List ℕ) (f : JobFile) (g : FlowFile) (reads-job : readJob s ≡ 
   valid-flow : ValidFlow (f .n) g
   valid-flow = flow-asked (f .n) (f .after) g (valid .few) reads-flow
 
-  pub verifier-published : verifyAsks s ≡ gives true ↔ AcceptedFlow (modeOf f) (jobOf f) (flowOf g)
-  unfolding verifyAsks
+  pub verifier-published : verifyAsks s ≡ gives true ↔ AcceptedFlow (modeOf f) (jobOf f) (flowOf g) × (listsMatch f g ≡ true)
   verifier-published = (
-    (λ e. let (b, t, a) = then-out (oneMember (f .mode) (g .sets)) (verdict (verify (jobOf f) (flowOf g) (modeOf f))) true (rw (reads-job, reads-flow, ends) at e) in
-        verify-published f valid g valid-flow (b, t) (verdict-out (verify (jobOf f) (flowOf g) (modeOf f)) true a)),
-    λ c. let t = one-passed f g valid-flow c in rw (reads-job, reads-flow, ends, t, published-verify f valid g valid-flow (true, t) c),
+    (λ e. let (h, k, r, q) = verify-out s true e in
+        let same : h ≡ f = give-inj (sym (r .reads-job) ∙ reads-job) in
+        let r′ = subst (λ (h : JobFile). ReadBoth s h k × (judge h k ≡ gives true)) same (r, q) in
+        let flow : k ≡ g = give-inj (sym (r′ .0 .reads-flow) ∙ reads-flow) in
+        let (r″, q″) = subst (λ (k : FlowFile). ReadBoth s f k × (judge f k ≡ gives true)) flow r′ in
+        let (a, m) = judge-out f g true q″ in
+        (verify-published f valid g valid-flow (r″ .single) a, m)),
+    λ (c, m). let t = one-passed f g valid-flow c in
+        verify-read s f g (record { reads-job = reads-job; reads-flow = reads-flow; ends = ends; single = (true, t) }) ∙ judge-matching f g m ∙ rw (published-verify f valid g valid-flow (true, t) c) refl,
   )
 
-  -- a flow by its paper, by an order that the layers give, is accepted where the layers are as the listed differences say
+  -- a flow by its paper, by an order that the layers give, is accepted where the layers are as the listed differences say and stored lists are its own
   pub published-accepted : Domain (jobOf f) (flowOf g .entry) → LayerRule (modeOf f) (jobOf f) (flowOf g .layer) → PublishedFlow (modeOf f) (jobOf f) (byLayer (flowOf g .layer)) (flowOf g .set)
-      → verifyAsks s ≡ gives true
-  published-accepted d r p = verifier-published .1 (published-conditions (modeOf f) (jobOf f) (flowOf g) d r p)
+      → listsMatch f g ≡ true → verifyAsks s ≡ gives true
+  published-accepted d r p m = verifier-published .1 (published-conditions (modeOf f) (jobOf f) (flowOf g) d r p, m)
 
   -- and an accepted flow that has no input in its own set is a flow by its paper: no other difference is left
   pub accepted-published : verifyAsks s ≡ gives true → NoInputs (jobOf f) (flowOf g .set)
       → Domain (jobOf f) (flowOf g .entry) × LayerRule (modeOf f) (jobOf f) (flowOf g .layer) × PublishedFlow (modeOf f) (jobOf f) (byLayer (flowOf g .layer)) (flowOf g .set)
-  accepted-published e i = conditions-published (modeOf f) (jobOf f) (flowOf g) i (verifier-published .0 e)
+  accepted-published e i = conditions-published (modeOf f) (jobOf f) (flowOf g) i (verifier-published .0 e .0)

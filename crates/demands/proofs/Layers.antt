@@ -1,9 +1,9 @@
 -- Layers of either kind: the same verdict for the same numbers; every flow file has one of the wide kind; the finder's reads back as what was found.
 use Prim.Native.Nat.{ℕ, _≤_, _<_}
 use mathlib.Core.Path.{_≡_, refl, sym, ap, _∙_, subst}
-use mathlib.Core.Bool.{not}
+use mathlib.Core.Bool.{Bool, not}
 use mathlib.Core.Option.{Option, none, some}
-use mathlib.Core.List.{List, [], append-nil}
+use mathlib.Core.List.{List, []}
 use mathlib.Core.Logic.{_⊎_}
 use native.Mathlib.Omega.{arith}
 use lib.Dec.{eqb}
@@ -12,32 +12,35 @@ use Rattle.nodes.specs.Lists.{zeros}
 use Rattle.nodes.proofs.Count.{count-le}
 use Rattle.flows.specs.Search.{Progress}
 use Rattle.flows.proofs.Flows.{found-most-layer}
-use Rattle.answers.specs.Answer.{Answer, gives, refuses}
+use Rattle.answers.specs.Answer.{Answer, gives, refuses, _>>_}
 use Rattle.answers.proofs.Answer.{never}
+use Rattle.records.specs.Records.{written, kindAccepted}
 use Rattle.records.specs.JobFile.{JobFile, mostNodes, readJob, jobOf, modePlanes, modePauli}
-use Rattle.records.specs.FlowFile.{readFlow}
-use Rattle.records.specs.Encoding.{ValidFlow, flowFileBytes, foundFlow}
+use Rattle.records.specs.FlowFile.{oneMember}
+use Rattle.records.specs.Encoding.{ValidFlow, foundFlow}
 use Rattle.records.specs.Writing.{flowBytes}
 use Rattle.records.proofs.Encoding.{job-asked, flow-asked, flow-decodes, flow-layers}
+use Rattle.records.proofs.SignalFiles.{flow-lists}
 use Rattle.records.proofs.Writing.{flow-file-bytes, found-reads, found-bytes, found-layer, found-entry, found-set}
-use Rattle.demands.specs.Calls.{modeOf, search, foundBytes, findAsks, findOutcome, findCall, verifyAsks, verifyCall}
+use Rattle.demands.specs.Calls.{modeOf, search, foundBytes, findAsks, findOutcome, findCall, judge, outcome, verifyCall}
 use Rattle.demands.specs.Layers.{SameVerdict, widened, Widens, WrittenFor, WritesFound}
-use Rattle.demands.proofs.Judging.{whole, searched-works}
+use Rattle.demands.proofs.Judging.{verify-flow, searched-works}
 use Rattle.demands.proofs.Demand.{by-mode, asked-find, put-fits}
 
 -- ---- either kind
 -- behind reading the verifier asks of the numbers, the sets and the bytes left alone
 pub same-verdict : SameVerdict
-unfolding verifyAsks verifyCall
-same-verdict job one other f g h reads ends r q layers sets out =
-    rw (whole job f reads ends one, whole job f reads ends other, r .0, q .0, layers, sets, r .1, q .1)
+unfolding judge verifyCall
+same-verdict job one other f g h reads ends r q layers sets signals out =
+    let same : (oneMember (f .mode) (g .sets) >> judge f g) ≡ (oneMember (f .mode) (h .sets) >> judge f h) = rw (layers, sets, signals) in
+    ap (λ (a : Answer Bool). outcome a (λ b. written kindAccepted []) out) (verify-flow job f reads ends one g (r .0) (r .1) ∙ same ∙ sym (verify-flow job f reads ends other h (q .0) (q .1)))
 
 pub widens : Widens
 widens n s g few bytes r =
     let v = flow-asked n s g few (r .0) in
-    let w : ValidFlow n (widened g) = record { count = v .count; below = v .below; rise = v .rise } in (
-      flow-file-bytes n (g .layers) (g .sets) w (omega arith) (flow-layers n s g few bytes (r .0)),
-      (ap (readFlow n) (sym (append-nil (flowFileBytes (widened g)))) ∙ flow-decodes n (widened g) few w, refl),
+    let w : ValidFlow n (widened g) = record { count = v .count; below = v .below; rise = v .rise; lists = v .lists } in (
+      flow-file-bytes n (widened g) (omega arith) w refl (flow-layers n s g few bytes (r .0)) (flow-lists n s g few bytes (r .0)),
+      (flow-decodes n (widened g) few w refl, refl),
     )
 
 -- ---- what the finder writes

@@ -1,16 +1,17 @@
--- Every refusal of `findAsks` and `verifyAsks`, specs/Calls, has a number from 1 to 19 and a byte a; its b fits two bytes, where the
--- file holds bytes.
+-- Every refusal of the questions in specs/Calls has a number from 1 to 22, but not the writer's 20, and a byte a; its b fits two bytes, where
+-- the file holds bytes.
 use Prim.Native.Nat.{ℕ, zero, suc, _+_, _≤_, _<_}
 use mathlib.Core.Path.{_≡_, refl}
 use mathlib.Core.Bool.{Bool, true, false, cond, not, _||_}
 use mathlib.Core.Option.{Option, none, some}
-use mathlib.Core.List.{List}
+use mathlib.Core.Logic.{_≢_}
+use mathlib.Core.List.{List, [], _∷_}
 use native.Mathlib.Omega.{arith}
 use lib.Dec.{eqb}
-use lib.ListN.{length}
+use lib.ListN.{length, getD}
 use Rattle.answers.specs.Answer.{Refusal, Answer, gives, refuses, refusal, asks, _>>=_, _>>_}
-use Rattle.records.specs.JobFile.{JobFile, mostNodes, readJob, jobOf, modeCausal}
-use Rattle.records.specs.FlowFile.{FlowFile, Flow, allEntries, readFlow, flowOf}
+use Rattle.records.specs.JobFile.{JobFile, mostNodes, rises, readJob, jobOf, modeCausal}
+use Rattle.records.specs.FlowFile.{FlowFile, Flow, allEntries, readFlow, flowOf, entryBelow, entryOf, entryAsks}
 use Rattle.records.specs.Encoding.{Bytes}
 use Rattle.records.proofs.Records.{below-at}
 use Rattle.records.proofs.ReadingRefusals.{ReadingRefusal}
@@ -19,11 +20,13 @@ use Rattle.flows.specs.Job.{Job}
 use Rattle.solver.specs.Solver.{workBytes}
 use Rattle.verdicts.specs.Verdict as Q
 use Rattle.verdicts.specs.Verdict.{ask, _next_, eachFrom, each}
-use Rattle.demands.specs.Calls.{modeOf, hasSearch, findAsks, verdict, verifyAsks}
+use Rattle.demands.specs.Calls.{modeOf, hasSearch, findAsks, readBoth, editAsks, verdict, listsMatch, judge, verifyAsks}
+use Rattle.demands.proofs.Judging.{both-out}
 
 pub record Numbered (bytes : Type 0) (r : Refusal) : Type 0 where
   pub number : 1 ≤ r .number
-  pub before : r .number < 20
+  pub most : r .number < 23
+  pub unwritten : r .number ≢ 20
   pub a : r .a < 256
   pub b : bytes → r .b < 65536
 
@@ -35,7 +38,7 @@ module _ (bytes : Type 0) where
   AllNumbered (refuses r) = Numbered bytes r
 
   unused : (q : ℕ) → 1 ≤ q → q < 20 → Numbered bytes (refusal q)
-  unused q h g = record { number = h; before = g; a = omega arith; b = λ x. omega arith }
+  unused q h g = record { number = h; most = omega arith; unwritten = λ e. omega arith; a = omega arith; b = λ x. omega arith }
 
   pub given : {A : Type 0} (a : A) → AllNumbered (gives a)
   unfolding AllNumbered
@@ -46,10 +49,26 @@ module _ (bytes : Type 0) where
   asks-then q true k h g t = t
   asks-then q false k h g t = unused q h g
 
+  pub asks-last : (q : ℕ) (c : Bool) → 1 ≤ q → q < 20 → AllNumbered (asks q c)
+  unfolding AllNumbered
+  asks-last q true h g = tt
+  asks-last q false h g = unused q h g
+
+  -- question 22 comes behind 13 to 19
+  signals-numbered : (c : Bool) → AllNumbered (asks 22 c)
+  unfolding AllNumbered
+  signals-numbered true = tt
+  signals-numbered false = record { number = omega arith; most = omega arith; unwritten = λ e. omega arith; a = omega arith; b = λ x. omega arith }
+
   bind-numbered : {A B : Type 0} (m : Answer A) (k : A → Answer B) → AllNumbered m → ((a : A) → m ≡ gives a → AllNumbered (k a)) → AllNumbered (m >>= k)
   unfolding AllNumbered
   bind-numbered (gives a) k t h = h a refl
   bind-numbered (refuses r) k t h = t
+
+  then-numbered : {A B : Type 0} (m : Answer A) (k : Answer B) → AllNumbered m → AllNumbered k → AllNumbered (m >> k)
+  unfolding AllNumbered
+  then-numbered (gives a) k t h = h
+  then-numbered (refuses r) k t h = t
 
   -- ---- reading: its refusals have numbers up to 7, and no a and b
   reading : (r : Refusal) → ReadingRefusal r → Numbered bytes r
@@ -88,7 +107,7 @@ module _ (bytes : Type 0) where
   asked : (c : Bool) (q a b : ℕ) → 1 ≤ q → q < 20 → a < 256 → (bytes → b < 65536) → Asked (ask c q a b)
   unfolding Asked ask
   asked true q a b h e g f = tt
-  asked false q a b h e g f = record { number = h; before = e; a = g; b = f }
+  asked false q a b h e g f = record { number = h; most = omega arith; unwritten = λ x. omega arith; a = g; b = f }
 
   next-asked : (p q : Option Refusal) → Asked p → Asked q → Asked (p next q)
   unfolding Asked
@@ -162,11 +181,30 @@ layer-small : (file : List ℕ) (f : JobFile) (g : FlowFile) → readJob file �
 layer-small file f g e h b u l =
     below-at 65536 (g .layers) u (flow-layers (f .n) (f .after) g (job-asked file f e .few) (job-after file f b e) h) (omega (arith, flow-asked (f .n) (f .after) g (job-asked file f e .few) h .count))
 
+-- ---- both files, and what is asked of them
+pub both-numbered : (bytes : Type 0) (file : List ℕ) → AllNumbered bytes (readBoth file)
+unfolding readBoth
+both-numbered bytes file =
+    bind-numbered bytes (readJob file) _ (job-numbered bytes file)
+    (λ f e. bind-numbered bytes (readFlow (f .n) (f .after)) _ (flow-numbered bytes (f .n) (f .after) (job-asked file f e .few))
+    (λ g h. asks-then bytes 8 (eqb (length (g .after)) 0) _ (omega arith) (omega arith)
+    (asks-then bytes 9 (not (eqb (f .mode) modeCausal) || allEntries (λ e. eqb (length (e .set)) 1) (g .sets)) _ (omega arith) (omega arith)
+    (given bytes _))))
+
+pub edit-numbered : (bytes : Type 0) (file entry : List ℕ) → AllNumbered bytes (editAsks file entry)
+unfolding editAsks entryAsks
+edit-numbered bytes file entry =
+    bind-numbered bytes (readBoth file) _ (both-numbered bytes file)
+    (λ b e. then-numbered bytes (entryAsks (b .job .n) entry) _
+    (asks-then bytes 3 (eqb (length entry) (2 + getD entry 1 0)) _ (omega arith) (omega arith)
+    (asks-then bytes 5 (entryBelow (b .job .n) (entryOf entry)) _ (omega arith) (omega arith) (asks-last bytes 6 (rises 0 (entryOf entry .set)) (omega arith) (omega arith))))
+    (asks-then bytes 9 (not (eqb (b .job .mode) modeCausal) || allEntries (λ e. eqb (length (e .set)) 1) (entryOf entry ∷ [])) _ (omega arith) (omega arith) (given bytes b)))
+
 pub verify-numbered : (file : List ℕ) → AllNumbered (Bytes file) (verifyAsks file)
-unfolding verifyAsks
+unfolding verifyAsks judge
 verify-numbered file =
-    bind-numbered (Bytes file) (readJob file) _ (job-numbered (Bytes file) file)
-    (λ f e. bind-numbered (Bytes file) (readFlow (f .n) (f .after)) _ (flow-numbered (Bytes file) (f .n) (f .after) (job-asked file f e .few))
-    (λ g h. asks-then (Bytes file) 8 (eqb (length (g .after)) 0) _ (omega arith) (omega arith)
-    (asks-then (Bytes file) 9 (not (eqb (f .mode) modeCausal) || allEntries (λ e. eqb (length (e .set)) 1) (g .sets)) _ (omega arith) (omega arith)
-    (verdict-numbered (Bytes file) (Q.verify (jobOf f) (flowOf g) (modeOf f)) (verify-asked (Bytes file) (jobOf f) (flowOf g) (job-asked file f e .few) (λ b. layer-small file f g e h b) (modeOf f))))))
+    bind-numbered (Bytes file) (readBoth file) _ (both-numbered (Bytes file) file)
+    (λ b e. let r = both-out file b e in
+    then-numbered (Bytes file) (verdict (Q.verify (jobOf (b .job)) (flowOf (b .flow)) (modeOf (b .job)))) _
+    (verdict-numbered (Bytes file) _ (verify-asked (Bytes file) (jobOf (b .job)) (flowOf (b .flow)) (job-asked file (b .job) (r .reads-job) .few) (λ y. layer-small file (b .job) (b .flow) (r .reads-job) (r .reads-flow) y) (modeOf (b .job))))
+    (signals-numbered (Bytes file) (listsMatch (b .job) (b .flow))))

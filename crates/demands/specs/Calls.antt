@@ -1,11 +1,11 @@
--- The calls of finder, verifier and job writer, for every argument: the answer and what each lent buffer then holds.
+-- The calls, for every argument: the answer and what each lent buffer then holds.
 use Prim.Native.Nat.{ℕ}
-use mathlib.Core.Bool.{Bool, true, cond, _||_}
+use mathlib.Core.Bool.{Bool, true, cond, _&&_, _||_}
 use mathlib.Core.Option.{Option, none, some}
-use mathlib.Core.List.{List, []}
+use mathlib.Core.List.{List, [], _∷_}
 use lib.Dec.{eqb}
 use lib.ListN.{length}
-use Rattle.nodes.specs.Lists.{zeros}
+use Rattle.nodes.specs.Lists.{equal, zeros}
 use Rattle.solver.specs.Solver.{workBytes}
 use Rattle.flows.specs.Job.{Job}
 use Rattle.flows.specs.Search.{Progress}
@@ -16,9 +16,10 @@ use Rattle.records.specs.Records.{written, kindAccepted}
 use Rattle.records.specs.Splice.{putAnswer, putFront}
 use Rattle.records.specs.Writing.{flowBytes}
 use Rattle.records.specs.JobFile.{JobFile, readJob, jobOf, workingOf, modePlanes, modePauli}
-use Rattle.records.specs.Encoding.{jobBytes}
+use Rattle.records.specs.Encoding.{jobBytes, flowFileBytes}
 use Rattle.records.specs.JobLists.{JobLists, listsAsk, givenOnce, meaning, ascending}
-use Rattle.records.specs.FlowFile.{readFlow, flowOf, nothingLeft, oneMember}
+use Rattle.records.specs.FlowFile.{FlowFile, Signals, readFlow, flowOf, entryOf, entryAsks, nothingLeft, oneMember}
+use Rattle.records.specs.SignalLists.{signalsOf, withSignals, edited}
 use Rattle.verdicts.specs.Verdict.{verify}
 
 -- Everything after reading goes by the mode and the measurements to work with: by `modeOf`, and by `jobOf`, which has the measurements.
@@ -51,18 +52,47 @@ findAsks file work = do
   asks 11 (eqb (length work) workBytes)
   gives f
 
--- the verifier's questions, the writer's aside
-abbrev pub verdict : Option Refusal → Answer Bool
-verdict none = gives true
-verdict (some r) = refuses r
+-- a job and the flow file behind it
+pub record Both : Type 0 where
+  pub job : JobFile
+  pub flow : FlowFile
 
-unfoldable pub verifyAsks : List ℕ → Answer Bool
-verifyAsks file = do
+-- reading both: each record in turn (1 to 7), is nothing left (8), has each causal entry one member (9)
+unfoldable pub readBoth : List ℕ → Answer Both
+readBoth file = do
   f ← readJob file
   g ← readFlow (f .n) (f .after)
   nothingLeft (g .after)
   oneMember (f .mode) (g .sets)
+  gives (record { job = f; flow = g })
+
+-- the verifier's questions, the writer's aside: 13 to 19, and then whether stored signal lists are those of the flow (22)
+abbrev pub verdict : Option Refusal → Answer Bool
+verdict none = gives true
+verdict (some r) = refuses r
+
+abbrev pub matching : Signals → Option Signals → Bool
+matching l none = true
+matching l (some stored) = equal (l .0) (stored .0) && equal (l .1) (stored .1)
+
+abbrev pub listsMatch : JobFile → FlowFile → Bool
+listsMatch f g = matching (signalsOf (jobOf f) (flowOf g)) (g .signals)
+
+unfoldable pub judge : JobFile → FlowFile → Answer Bool
+judge f g = do
   verdict (verify (jobOf f) (flowOf g) (modeOf f))
+  asks 22 (listsMatch f g)
+
+unfoldable pub verifyAsks : List ℕ → Answer Bool
+verifyAsks file = readBoth file >>= λ b. judge (b .job) (b .flow)
+
+-- those of editing: both are read, and then the lent entry, with its own 3, 5, 6 and 9
+unfoldable pub editAsks : (file entry : List ℕ) → Answer Both
+editAsks file entry = do
+  b ← readBoth file
+  entryAsks (b .job .n) entry
+  oneMember (b .job .mode) (entryOf entry ∷ [])
+  gives b
 
 -- the job writer's: those of each list (3, 4, 5, 7), and then whether each edge and node was given once (21)
 unfoldable pub writeJobAsks : JobLists → Answer Bool
@@ -89,13 +119,27 @@ findOutcome (gives f) work out = put (zeros (length work)) (foundBytes f) out
 unfoldable pub findCall : (file work out : List ℕ) → Outcome
 findCall file work out = findOutcome (findAsks file work) work out
 
--- a call without a work buffer
-abbrev pub outcome : Answer Bool → (result out : List ℕ) → Outcome
+-- a call without a work buffer: what it writes goes by what was asked
+abbrev pub outcome : {A : Type 0} → Answer A → (A → List ℕ) → (out : List ℕ) → Outcome
 outcome (refuses r) result out = record { answer = refuses r; work = []; out = out }
-outcome (gives b) result out = put [] result out
+outcome (gives a) result out = put [] (result a) out
 
 unfoldable pub verifyCall : (file out : List ℕ) → Outcome
-verifyCall file out = outcome (verifyAsks file) (written kindAccepted []) out
+verifyCall file out = outcome (verifyAsks file) (λ b. written kindAccepted []) out
 
 unfoldable pub writeJobCall : JobLists → (out : List ℕ) → Outcome
-writeJobCall l out = outcome (writeJobAsks l) (writtenJob l) out
+writeJobCall l out = outcome (writeJobAsks l) (λ b. writtenJob l) out
+
+-- adding: the flow file with its signal lists, anew where they stand
+abbrev pub addedBytes : Both → List ℕ
+addedBytes b = flowFileBytes (withSignals (jobOf (b .job)) (b .flow))
+
+unfoldable pub addSignalsCall : (file out : List ℕ) → Outcome
+addSignalsCall file out = outcome (readBoth file) addedBytes out
+
+-- editing: the flow file with the lent entry, and stored lists with the bits of its node
+abbrev pub editedBytes : (entry : List ℕ) → Both → List ℕ
+editedBytes entry b = flowFileBytes (edited (jobOf (b .job)) (entryOf entry) (b .flow))
+
+unfoldable pub editSetCall : (file entry out : List ℕ) → Outcome
+editSetCall file entry out = outcome (editAsks file entry) (editedBytes entry) out

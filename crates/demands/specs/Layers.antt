@@ -16,15 +16,15 @@ use Rattle.demands.specs.Calls.{modeOf, search, findCall, verifyCall}
 use Rattle.demands.specs.Demand.{FlowBytes}
 
 -- ---- either kind
--- Of two flow files with the same layers and sets the verifier's call answers the same, number, a and b, and leaves the same buffer.
+-- Of two flow files with the same layers, sets and signal lists the verifier's call answers the same, number, a and b, and leaves the same buffer.
 abbrev pub SameVerdict : Type 0
 SameVerdict = (job one other : List ℕ) (f : JobFile) (g h : FlowFile) → readJob job ≡ gives f → f .after ≡ []
-    → FlowBytes (f .n) one g → FlowBytes (f .n) other h → g .layers ≡ h .layers → g .sets ≡ h .sets
+    → FlowBytes (f .n) one g → FlowBytes (f .n) other h → g .layers ≡ h .layers → g .sets ≡ h .sets → g .signals ≡ h .signals
     → (out : List ℕ) → verifyCall (job ++ one) out ≡ verifyCall (job ++ other) out
 
--- the same layers and sets in the wide kind
+-- the same layers, sets and signal lists in the wide kind
 abbrev pub widened : FlowFile → FlowFile
-widened g = record { wide = true; layers = g .layers; sets = g .sets; after = [] }
+widened g = record { wide = true; layers = g .layers; sets = g .sets; signals = g .signals; after = [] }
 
 -- Every flow file of bytes has one of the wide kind, of bytes too, in which each layer keeps its number.
 abbrev pub Widens : Type 0

@@ -4,4 +4,5 @@ pub mod Demand
 pub mod JobWriter
 pub mod Layers
 pub mod Programs
+pub mod Signals
 pub mod Solutions

@@ -14,7 +14,7 @@ abbrev pub questions : List (ℕ × String)
 questions =
     (1, "the next record is missing or of another kind")
     ∷ (2, "the payload of a record is cut off")
-    ∷ (3, "the length of a record or list does not suit its kind")
+    ∷ (3, "the length of a record, list or entry does not suit its kind")
     ∷ (4, "the number of nodes or the mode is not allowed")
     ∷ (5, "a node is not below the number of nodes")
     ∷ (6, "nodes or edges are not strictly ascending")
@@ -33,6 +33,7 @@ questions =
     ∷ (19, "node A's set does not suit its or a Y measurement")
     ∷ (20, "the result does not fit the lent buffer")
     ∷ (21, "a loop, or an edge or node given twice")
+    ∷ (22, "the signal lists are not those of the flow")
     ∷ []
 
 abbrev pub unknown : String

@@ -169,7 +169,7 @@ pub fn message(q: Refusal, out: &mut [u8]) -> usize
         b"unknown question\n\
         the next record is missing or of another kind\n\
         the payload of a record is cut off\n\
-        the length of a record or list does not suit its kind\n\
+        the length of a record, list or entry does not suit its kind\n\
         the number of nodes or the mode is not allowed\n\
         a node is not below the number of nodes\n\
         nodes or edges are not strictly ascending\n\
@@ -187,7 +187,8 @@ pub fn message(q: Refusal, out: &mut [u8]) -> usize
         node B is not later than node A, or in mode 1 not its neighbour\n\
         node A's set does not suit its or a Y measurement\n\
         the result does not fit the lent buffer\n\
-        a loop, or an edge or node given twice\n",
+        a loop, or an edge or node given twice\n\
+        the signal lists are not those of the flow\n",
         q,
         out,
     )

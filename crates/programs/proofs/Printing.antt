@@ -137,8 +137,7 @@ module _ (input out o work : List ℕ) where
           rw (same, plain) (sym (printed-long none (foundBytes f) out long))
       by (refuses q) h e =
           let same : r ≡ q = refuse-inj (ap (λ (x : Outcome). x .answer) e) in
-          let number : r .number ≡ q .number = ap (λ (x : Refusal). x .number) same in
-          absurd (omega (arith, h .before, n, number))
+          absurd (h .unwritten (sym (ap (λ (x : Refusal). x .number) same) ∙ n))
 
   -- any other refusal is a question's
   pub find-refuses : (r : Refusal) → (r .number ≡ tooLong → ⊥) → _≡_ {A = Outcome} (record { answer = refuses r; work = work; out = o }) (findCall (take judgedBytes input) (zeros workBytes) out)
@@ -157,7 +156,7 @@ module _ (input out o work : List ℕ) where
   unfolding verifyCall verifyProgram
   verify-gives k e = by (verifyAsks (take judgedBytes input)) e
     where
-      by : (x : Answer Bool) → _≡_ {A = Outcome} (record { answer = gives k; work = work; out = o }) (outcome x (written kindAccepted []) out) → _≡_ {A = Printed} (record { refused = none; count = k; out = o }) (printed (refusalIn x) (verifyOutput x) out)
+      by : (x : Answer Bool) → _≡_ {A = Outcome} (record { answer = gives k; work = work; out = o }) (outcome x (λ b. written kindAccepted []) out) → _≡_ {A = Printed} (record { refused = none; count = k; out = o }) (printed (refusalIn x) (verifyOutput x) out)
       by (gives b) e = put-gives [] (written kindAccepted []) out o work k e
       by (refuses r) e = absurd (never (sym (ap (λ (x : Outcome). x .answer) e)))
 
@@ -167,7 +166,7 @@ module _ (input out o work : List ℕ) where
   unfolding verifyCall verifyProgram
   verify-refuses r e = by (verifyAsks (take judgedBytes input)) e
     where
-      by : (x : Answer Bool) → _≡_ {A = Outcome} (record { answer = refuses r; work = work; out = o }) (outcome x (written kindAccepted []) out) → printed (some r) (refusalBytes r) o ≡ printed (refusalIn x) (verifyOutput x) out
+      by : (x : Answer Bool) → _≡_ {A = Outcome} (record { answer = refuses r; work = work; out = o }) (outcome x (λ b. written kindAccepted []) out) → printed (some r) (refusalBytes r) o ≡ printed (refusalIn x) (verifyOutput x) out
       by (gives b) e =
           let (long, same, plain) = put-refuses [] (written kindAccepted []) out o work r e in
           let longer : length out < length (refusalBytes r) = omega (arith, long, refusal-length r, written-length kindAccepted []) in

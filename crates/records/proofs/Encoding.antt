@@ -3,7 +3,8 @@ use Prim.Native.Nat.{ℕ, _+_, _*_, _≤_, _<_, zero-le}
 use mathlib.Core.Path.{_≡_, refl, sym, ap, _∙_}
 use mathlib.Core.Bool.{Bool, true, false, cond, Bool·beq}
 use mathlib.Core.Logic.{_↔_}
-use mathlib.Core.List.{List, [], _∷_, _++_}
+use mathlib.Core.Option.{Option, none, some}
+use mathlib.Core.List.{List, [], _∷_, _++_, append-nil}
 use native.Mathlib.Omega.{arith}
 use native.Mathlib.Nat.{mul-le-mul}
 use borrow.Author.Tests.{eqb-true, eq-eqb}
@@ -13,16 +14,17 @@ use Rattle.nodes.proofs.Logic.{and-out}
 use Rattle.nodes.specs.Lists.{has, all}
 use Rattle.answers.specs.Answer.{Refusal, Answer, gives, refuses, refusal, _>>=_}
 use Rattle.answers.proofs.Answer.{give-inj, never, bind-out}
-use Rattle.records.specs.Records.{carries, allYes, written, kindOpening, kindEdges, kindInputs, kindOutputs, kindMeasurements, kindLayers, kindWideLayers, kindSets}
-use Rattle.records.specs.Format.{Front, front, PayloadFormat, plain, recordOf, decodeThen}
+use Rattle.records.specs.Records.{carries, allYes, written, kindOpening, kindEdges, kindInputs, kindOutputs, kindMeasurements, kindLayers, kindWideLayers, kindSets, kindSetSignals, kindOddSignals, eachAsks}
+use Rattle.records.specs.BitRows.{rowWidth}
+use Rattle.records.specs.Format.{Front, front, PayloadFormat, plain, recordOf, optional, decodeThen}
 use Rattle.records.specs.JobFile.{JobFile, mostNodes, openingAllowed, edgesAsks, nodesAsks, measurementsAsks, opening, JobValue, job, jobFile, jobValue, readJob}
-use Rattle.records.specs.FlowFile.{FlowFile, Layers, layerWidth, layerBytes, layerNumbers, layersAs, layers, entriesOf, listed, allEntries, entryBelow, entriesRise, entryBytes, sets, FlowValue, flow, flowFile, flowValue, readFlow}
-use Rattle.records.specs.Encoding.{Bytes, jobBytes, ValidJob, flowFileBytes, ValidFlow}
+use Rattle.records.specs.FlowFile.{FlowFile, Layers, layerWidth, layerBytes, layerNumbers, layersAs, layers, entriesOf, listed, allEntries, entryBelow, entriesRise, entryBytes, sets, Signals, signalRows, signals, FlowValue, flow, flowFile, flowValue, readFlow}
+use Rattle.records.specs.Encoding.{Bytes, jobBytes, ValidJob, flowFileBytes, ListsFit, ValidFlow}
 use Rattle.records.proofs.Records.{all-left, all-right, length-out, length-in}
 use Rattle.records.proofs.JobFile.{allowed-out, allowed-in, opening-out, opening-in, edges-out, edges-in, nodes-out, nodes-in, measurements-out, measurements-in, rises-length, pairs-length}
 use Rattle.records.proofs.FlowFile.{entries-back, entries-encode, sets-out, sets-in, entries-few, entry-bytes-length}
 use Rattle.records.proofs.Layers.{fitsTwoBytes, beq-self, beq-same, width-few, bytes-length, numbers-length, numbers-back, bytes-back, numbers-small}
-use Rattle.records.proofs.Format.{PayloadExact, Appends, Closed, Lawful, exact-iff, payload-bytes, record-appends, record-closed, record-starts, record-differs, plain-exact, then-closed, choice-closed, choice-neither, record-then-appends, record-lawful, _then-lawful_, choice-lawful}
+use Rattle.records.proofs.Format.{PayloadExact, Appends, Lawful, exact-iff, payload-bytes, record-appends, record-starts, record-differs, plain-exact, then-starts, choice-neither, record-then-appends, record-lawful, _then-lawful_, optional-lawful, choice-lawful}
 use Rattle.records.proofs.ReadingRefusals.{ReadingRefusal, numbered, Numbered, opening-numbered, edges-numbered, nodes-numbered, measurements-numbered, each-numbered, sets-numbered}
 
 -- ---- the payloads
@@ -98,6 +100,31 @@ module _ (n : ℕ) (small : n ≤ 256) where
       })
       (lawful kindLayers (layersAs false n) (layers-exact false) (each-numbered 1 n))
       (lawful kindWideLayers (layersAs true n) (layers-exact true) (each-numbered 2 n))
+
+  -- a list of n rows of n bits
+  rows-lawful : (kind : ℕ) → Lawful ReadingRefusal (recordOf kind (signalRows n))
+  rows-lawful kind = lawful kind (signalRows n) (plain-exact (eachAsks (rowWidth n) n) few) (each-numbered (rowWidth n) n)
+    where
+      few : (p : List ℕ) → allYes (eachAsks (rowWidth n) n p) ≡ true → length p < 4294967296
+      few p e =
+          let most : rowWidth n * n ≤ 32 * 256 = mul-le-mul {n₁ = rowWidth n} {m₁ = n} {n₂ = 32} {m₂ = 256} (omega arith) small in
+          omega (arith, length-out (rowWidth n) n p e, most)
+
+  signals-lawful : Lawful ReadingRefusal (optional kindSetSignals (signals n))
+  signals-lawful =
+      optional-lawful kindSetSignals (signals n) (then-starts kindSetSignals (recordOf kindSetSignals (signalRows n)) (λ s. recordOf kindOddSignals (signalRows n)) (record-starts kindSetSignals (signalRows n)))
+      (rows-lawful kindSetSignals then-lawful λ s v. rows-lawful kindOddSignals)
+
+-- of lists their length is asked
+lists-out : (n : ℕ) (o : Option Signals) → optional kindSetSignals (signals n) .valid o ≡ true → ListsFit n o
+lists-out n none v = tt
+lists-out n (some l) v =
+    let (a, b) = and-out (allYes (eachAsks (rowWidth n) n (l .0))) _ v in
+    (length-out (rowWidth n) n (l .0) a, length-out (rowWidth n) n (l .1) b)
+
+lists-in : (n : ℕ) (o : Option Signals) → ListsFit n o → optional kindSetSignals (signals n) .valid o ≡ true
+lists-in n none h = refl
+lists-in n (some l) (a, b) = rw (length-in (rowWidth n) n (l .0) a, length-in (rowWidth n) n (l .1) b)
 
 -- of layers of either kind their count is asked
 layers-valid : (n : ℕ) (wide : Bool) (numbers : List ℕ) → layers n .valid (record { wide = wide; numbers = numbers }) ≡ eqb (length numbers) n
@@ -201,7 +228,8 @@ job-append s g f e = job-reads (s ++ g) (behind f g) (job-appends .appends s (jo
 flow-lawful : (n : ℕ) → n ≤ mostNodes → Lawful ReadingRefusal (flow n)
 flow-lawful n h =
     layers-lawful n (omega arith) then-lawful λ l v.
-    lawful kindSets (sets n) (sets-exact n (omega arith)) (sets-numbered n)
+    lawful kindSets (sets n) (sets-exact n (omega arith)) (sets-numbered n) then-lawful λ e w.
+    signals-lawful n (omega arith)
 
 -- neither kind of layers stands there: question 1
 pub flow-neither : (n : ℕ) (s : List ℕ) → carries kindLayers s ≡ false → carries kindWideLayers s ≡ false → readFlow n s ≡ refuses (refusal 1)
@@ -219,11 +247,12 @@ flow-reads n s g e = ap (λ (m : Answer (Front FlowValue)). m >>= λ p. gives (f
 flow-valid-out : (n : ℕ) (g : FlowFile) → flow n .valid (flowValue g) ≡ true → ValidFlow n g
 flow-valid-out n g v =
     let (l, w) = and-out (layers n .valid (flowValue g .0)) _ v in
-    let (a, b) = and-out (allEntries (entryBelow n) (g .sets)) (entriesRise 0 (g .sets)) w in
-    record { count = eqb-true (length (g .layers)) n (sym (layers-valid n (g .wide) (g .layers)) ∙ l); below = a; rise = b }
+    let (e, o) = and-out (sets n .valid (g .sets)) _ w in
+    let (a, b) = and-out (allEntries (entryBelow n) (g .sets)) (entriesRise 0 (g .sets)) e in
+    record { count = eqb-true (length (g .layers)) n (sym (layers-valid n (g .wide) (g .layers)) ∙ l); below = a; rise = b; lists = lists-out n (g .signals) o }
 
 flow-valid-in : (n : ℕ) (g : FlowFile) → ValidFlow n g → flow n .valid (flowValue g) ≡ true
-flow-valid-in n g v = rw (layers-valid n (g .wide) (g .layers), eq-eqb (length (g .layers)) n (v .count), v .below, v .rise)
+flow-valid-in n g v = rw (layers-valid n (g .wide) (g .layers), eq-eqb (length (g .layers)) n (v .count), v .below, v .rise, lists-in n (g .signals) (v .lists))
 
 pub flow-exact : (n : ℕ) (s : List ℕ) (g : FlowFile) → n ≤ mostNodes → Bytes s
     → (readFlow n s ≡ gives g ↔ (s ≡ flow n .encode (flowValue g) ++ g .after) × (flow n .valid (flowValue g) ≡ true) × (flow n .mayFollow (flowValue g) (g .after) ≡ true))
@@ -239,7 +268,7 @@ flow-layers n s g k h e =
     small : (wide : Bool) → Bytes (layerBytes wide (g .layers)) → all fitsTwoBytes (g .layers) ≡ true
     small wide b = sym (ap (all fitsTwoBytes) (numbers-back wide (g .layers))) ∙ numbers-small wide (layerBytes wide (g .layers)) b
 
-    by : (wide : Bool) → Bytes (cond wide (written kindWideLayers (layerBytes true (g .layers))) (written kindLayers (layerBytes false (g .layers))) ++ written kindSets (entryBytes (g .sets))) → all fitsTwoBytes (g .layers) ≡ true
+    by : (wide : Bool) → Bytes (cond wide (written kindWideLayers (layerBytes true (g .layers))) (written kindLayers (layerBytes false (g .layers))) ++ (written kindSets (entryBytes (g .sets)) ++ optional kindSetSignals (signals n) .encode (g .signals))) → all fitsTwoBytes (g .layers) ≡ true
     by true b = small true (payload-bytes kindWideLayers (layerBytes true (g .layers)) _ b)
     by false b = small false (payload-bytes kindLayers (layerBytes false (g .layers)) _ b)
 
@@ -250,10 +279,16 @@ pub flow-refuses : (n : ℕ) (s : List ℕ) (r : Refusal) → n ≤ mostNodes �
 unfolding readFlow
 flow-refuses n s r k e = flow-lawful n k .refusing .refused s r (made-refuses (flow n .decode s) flowFile r e)
 
--- anything may follow it
-flow-closed : (n : ℕ) → Closed (flow n)
-flow-closed n = then-closed (layers n) _ (choice-closed (λ l. l .wide) _ kindWideLayers _ (record-closed kindLayers (layersAs false n)) (record-closed kindWideLayers (layersAs true n))) (λ l. record-closed kindSets (sets n))
+-- where nothing follows it
+flow-ends : (n : ℕ) (g : FlowFile) → flow n .mayFollow (flowValue g) [] ≡ true
+flow-ends n g = by (g .wide) (g .signals)
+  where
+    by : (wide : Bool) (o : Option Signals) → flow n .mayFollow (record { wide = wide; numbers = g .layers }, (g .sets, o)) [] ≡ true
+    by true none = refl
+    by true (some l) = refl
+    by false none = refl
+    by false (some l) = refl
 
 -- a valid flow is read back from its bytes, whatever its layers
-pub flow-decodes : (n : ℕ) (g : FlowFile) → n ≤ mostNodes → ValidFlow n g → readFlow n (flowFileBytes g ++ g .after) ≡ gives g
-flow-decodes n g h v = flow-reads n (flowFileBytes g ++ g .after) g (flow-lawful n h .exact .decodes (flowValue g) (g .after) (flow-valid-in n g v) (flow-closed n .closed (flowValue g) (g .after)))
+pub flow-decodes : (n : ℕ) (g : FlowFile) → n ≤ mostNodes → ValidFlow n g → g .after ≡ [] → readFlow n (flowFileBytes g) ≡ gives g
+flow-decodes n g h v e = flow-reads n (flowFileBytes g) g (rw (v .count, ← append-nil (flow n .encode (flowValue g)), e) (flow-lawful n h .exact .decodes (flowValue g) [] (flow-valid-in n g v) (flow-ends n g)))

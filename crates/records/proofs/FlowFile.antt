@@ -1,23 +1,23 @@
 -- Flows: the entries of a sets record and their bytes, the questions of the records as facts, and what follows for the nodes.
 use Prim.Native.Nat.{ℕ, zero, suc, _+_, _*_, _≤_, _<_, zero-le}
-use mathlib.Core.Path.{_≡_, refl, sym, ap, _∙_}
+use mathlib.Core.Path.{_≡_, refl, sym, ap, ap₂, _∙_}
 use mathlib.Core.Bool.{Bool, true, false, cond, _&&_, _||_, false≢true}
 use mathlib.Core.Logic.{_⊎_, inl, inr, _≢_}
 use mathlib.Core.Option.{Option, none, some, Option·some-injective, Option·none-ne-some}
-use mathlib.Core.List.{List, [], _∷_, _++_}
+use mathlib.Core.List.{List, [], _∷_, _++_, append-nil}
 use native.Mathlib.Omega.{arith}
 use native.Mathlib.Nat.{not-suc-le-zero, lt-suc-self, le-of-suc-le-suc}
-use borrow.Author.Tests.{leb-true, ltb-true, eqb-true, le-leb, lt-leb, lt-ltb, le-ltb, ne-eqb}
+use borrow.Author.Tests.{leb-true, ltb-true, eqb-true, le-leb, lt-leb, lt-ltb, le-ltb, eq-eqb, ne-eqb}
 use lib.Dec.{T, eqb, ltb, leb, eqb→eq, eqb-refl}
 use lib.ListN.{length, getD, take, drop, length-append, take-append-drop}
 use lib.Seq.{length-take-le, take-append-seam, drop-append-seam}
 use Rattle.nodes.specs.Options.{isSome}
-use Rattle.nodes.proofs.Logic.{and-out, is-false, from-false, and-none, and-l, and-r, or-l, or-r, or-out, or-none, eqb-yes}
-use Rattle.answers.specs.Answer.{gives, asks, _>>_}
+use Rattle.nodes.proofs.Logic.{and-out, and-all, is-false, from-false, and-none, and-l, and-r, or-l, or-r, or-out, or-none, eqb-yes}
+use Rattle.answers.specs.Answer.{gives, refuses, refusal, asks, _>>_}
 use Rattle.records.specs.Records.{allYes}
 use Rattle.nodes.specs.Lists.{has}
 use Rattle.records.specs.JobFile.{modeCausal, nodesBelow, rises}
-use Rattle.records.specs.FlowFile.{SetEntry, addEntry, entriesIn, entriesOf, listed, allEntries, entryBelow, entriesRise, setsAsks, entryBytes, setIn, entryIn, nothingLeft, oneMember}
+use Rattle.records.specs.FlowFile.{SetEntry, addEntry, entriesIn, entriesOf, listed, allEntries, entryBelow, entriesRise, setsAsks, entryBytes, entryOf, entryAsks, setIn, entryIn, nothingLeft, oneMember}
 use Rattle.answers.proofs.Answer.{asks-yes}
 use Rattle.records.proofs.Records.{asks-then, asks-last}
 use Rattle.records.proofs.JobFile.{has-below, rises-length}
@@ -58,7 +58,7 @@ pub entries-encode : (s : List ℕ) (es : List SetEntry) → entriesOf s ≡ som
 entries-encode s es e = bytes-of (suc (length s)) s es e
 
 -- ---- the questions of each record, as facts
-framed-out : (o : Option (List SetEntry)) → isSome o ≡ true → o ≡ some (listed o)
+pub framed-out : (o : Option (List SetEntry)) → isSome o ≡ true → o ≡ some (listed o)
 framed-out none e = absurd (false≢true e)
 framed-out (some es) e = refl
 
@@ -73,6 +73,38 @@ sets-out n p e =
 pub sets-in : (n : ℕ) (es : List SetEntry) → allEntries (entryBelow n) es ≡ true → entriesRise 0 es ≡ true → allYes (setsAsks n (entryBytes es)) ≡ true
 unfolding setsAsks
 sets-in n es a b = rw (entries-back es, a, b)
+
+-- ---- an entry that is lent alone
+pub entry-alone : (p : List ℕ) → length p ≡ 2 + getD p 1 0 → p ≡ entryBytes (entryOf p ∷ [])
+unfolding entryBytes
+entry-alone [] e = absurd (omega arith)
+entry-alone (u ∷ []) e = absurd (omega arith)
+entry-alone (u ∷ c ∷ s) e = let same : c ≡ length s = omega arith in rw (← same, append-nil s) refl
+
+pub entry-listed : (p : List ℕ) → length p ≡ 2 + getD p 1 0 → entriesOf p ≡ some (entryOf p ∷ [])
+entry-listed p e = ap entriesOf (entry-alone p e) ∙ entries-back (entryOf p ∷ [])
+
+pub entry-not : (n : ℕ) (p : List ℕ) → length p ≢ 2 + getD p 1 0 → entryAsks n p ≡ refuses (refusal 3)
+unfolding entryAsks
+entry-not n p f = rw (ne-eqb (length p) (2 + getD p 1 0) f)
+
+-- it is asked what a sets record of this entry is asked
+pub entry-sets : (n : ℕ) (p : List ℕ) → length p ≡ 2 + getD p 1 0 → setsAsks n p ≡ entryAsks n p
+unfolding setsAsks entryAsks allEntries entriesRise
+entry-sets n p e =
+    let below : entryBelow n (entryOf p) && true ≡ entryBelow n (entryOf p) = and-all (entryBelow n (entryOf p)) in
+    let rise : leb 0 (getD p 0 0) && rises 0 (drop 2 p) && true ≡ rises 0 (drop 2 p) = ap (λ (b : Bool). b && rises 0 (drop 2 p) && true) (le-leb 0 (getD p 0 0) zero-le) ∙ and-all (rises 0 (drop 2 p)) in
+    ap (λ (o : Option (List SetEntry)). asks 3 (isSome o) >> (asks 5 (allEntries (entryBelow n) (listed o)) >> asks 6 (entriesRise 0 (listed o)))) (entry-listed p e)
+    ∙ ap₂ (λ (a b : Bool). asks 5 a >> asks 6 b) below rise
+    ∙ ap (λ (a : Bool). asks 3 a >> (asks 5 (entryBelow n (entryOf p)) >> asks 6 (rises 0 (drop 2 p)))) (sym (eq-eqb (length p) (2 + getD p 1 0) e))
+
+pub entry-out : (n : ℕ) (p : List ℕ) (b : Bool) → entryAsks n p ≡ gives b → (length p ≡ 2 + getD p 1 0) × (entryBelow n (entryOf p) ≡ true) × (rises 0 (entryOf p .set) ≡ true)
+unfolding entryAsks
+entry-out n p b e =
+    let y : allYes (entryAsks n p) ≡ true = ap allYes e in
+    let (h, r) = asks-then 3 (eqb (length p) (2 + getD p 1 0)) (asks 5 (entryBelow n (entryOf p)) >> asks 6 (rises 0 (entryOf p .set))) y in
+    let (k, t) = asks-then 5 (entryBelow n (entryOf p)) (asks 6 (rises 0 (entryOf p .set))) r in
+    (eqb-true (length p) (2 + getD p 1 0) h, k, asks-last 6 (rises 0 (entryOf p .set)) t)
 
 -- ---- entries below n and entries that rise: their laws, by which all else goes
 pub below-out : (n : ℕ) (e : SetEntry) → entryBelow n e ≡ true → (e .node < n) × (nodesBelow n (e .set) ≡ true)

@@ -399,10 +399,10 @@ _then-lawful_ {P = P} {f = f} {g = g} x y = record {
   refusing = then-refuses P f g (x .exact .sound) (x .refusing) (λ a v. y a v .refusing);
 }
 
-pub optional-lawful : {P : Refusal → Type 0} {A : Type 0} (kind : ℕ) (p : PayloadFormat A) → Lawful P (recordOf kind p) → Lawful P (optional kind (recordOf kind p))
-optional-lawful {P = P} kind p x = record {
-  exact = optional-exact kind (recordOf kind p) (x .exact) (record-starts kind p);
-  refusing = optional-refuses P kind (recordOf kind p) (x .refusing);
+pub optional-lawful : {P : Refusal → Type 0} {A : Type 0} (kind : ℕ) (f : Format A) → Starts kind f → Lawful P f → Lawful P (optional kind f)
+optional-lawful {P = P} kind f starts x = record {
+  exact = optional-exact kind f (x .exact) starts;
+  refusing = optional-refuses P kind f (x .refusing);
 }
 
 pub choice-lawful : {P : Refusal → Type 0} {A : Type 0} {second : A → Bool} {f : Format A} {kind : ℕ} {g : Format A} → Apart second f kind g → Lawful P f → Lawful P g → Lawful P (choice second f kind g)

@@ -1,3 +1,4 @@
+pub mod BitRows
 pub mod Encoding
 pub mod FlowFile
 pub mod Format
@@ -14,6 +15,8 @@ pub mod ReadingLoops
 pub mod ReadingMeasurements
 pub mod ReadingRefusals
 pub mod Records
+pub mod SignalFiles
+pub mod SignalLists
 pub mod Splice
 pub mod Views
 pub mod Writing

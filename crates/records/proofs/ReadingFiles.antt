@@ -3,14 +3,15 @@ use Prim.Native.Nat.{ℕ, _≤_, zero-le}
 use mathlib.Core.Path.{_≡_, refl, sym, ap, subst, _∙_}
 use mathlib.Core.Bool.{Bool, true, false, cond}
 use mathlib.Core.List.{List, []}
-use lib.ListN.{getD, drop}
+use lib.ListN.{length, getD, drop}
 use Rattle.nodes.specs.Lists.{has, all}
 use Rattle.answers.specs.Answer.{Answer, gives, _>>=_}
-use Rattle.records.specs.Records.{allYes, eachAsks, kindOpening, kindEdges, kindInputs, kindOutputs, kindMeasurements, kindLayers, kindWideLayers, kindSets}
+use Rattle.records.specs.Records.{allYes, eachAsks, kindOpening, kindEdges, kindInputs, kindOutputs, kindMeasurements, kindLayers, kindWideLayers, kindSets, kindSetSignals, kindOddSignals}
+use Rattle.records.specs.BitRows.{rowWidth}
 use Rattle.records.specs.Format.{Front, front, plain, recordOf}
 use Rattle.records.specs.JobFile.{mostNodes, rises, openingAsks, edgesAsks, nodesAsks, measurementsAsks, Opening, opening, JobValue, job, jobFile, readJob}
 use Rattle.records.specs.FlowFile.{layersAs, layers, setsAsks, sets, FlowValue, flow, flowFile, readFlow}
-use Rattle.records.specs.Views.{startAt, restOf, placeOf, payloadOf, Next, NextChoice, jobOfRead, jobRead, JobPlaced, flowOfRead, flowRead, FlowPlaced}
+use Rattle.records.specs.Views.{startAt, restOf, placeOf, payloadFrom, payloadOf, pairIf, Next, NextOptional, Partner, NextChoice, jobOfRead, jobRead, JobPlaced, flowOfRead, flowRead, FlowPlaced}
 use Rattle.records.specs.declared.common.Place.{Place}
 use Rattle.records.specs.declared.common.JobPlaces.{JobPlaces}
 use Rattle.records.specs.declared.common.FlowPlaces.{FlowPlaces}
@@ -18,7 +19,7 @@ use Rattle.records.specs.declared.reader.RecordRead.{RecordRead}
 use Rattle.records.specs.declared.reader.RecordRead.the-variants.{Payload, Refused as NoRecord}
 use Rattle.records.specs.declared.reader.Branch.{Branch}
 use Rattle.records.proofs.JobFile.{allowed-out, opening-out, nodes-in}
-use Rattle.records.proofs.Views.{Took, then-took, WasRead, next-took, next-placed, choice-took, choice-placed, payload-passed}
+use Rattle.records.proofs.Views.{Took, then-took, WasRead, next-took, next-placed, pair-took, optional-placed, partner-placed, choice-took, choice-placed, payload-passed}
 
 -- the record that was read, by its place
 last-read : (r : RecordRead) (p : Place) → r ≡ Payload p → WasRead r
@@ -85,18 +86,20 @@ module _ (s : List ℕ) where
         job-promised = (job-steps, job-placed)
 
   -- ---- a flow
-  module _ (at n : ℕ) (l : Branch) (e : RecordRead)
+  module _ (at n : ℕ) (l : Branch) (e : RecordRead) (b : Branch) (r : RecordRead)
       (hl : NextChoice s (startAt at) kindLayers (eachAsks 1 n) kindWideLayers (eachAsks 2 n) l)
       (he : Next s (l .read) kindSets (setsAsks n) e)
+      (hb : NextOptional s e kindSetSignals (eachAsks (rowWidth n) n) b)
+      (hr : Partner s (b .taken) (b .read) kindOddSignals (eachAsks (rowWidth n) n) r)
     where
       abbrev flow-value : FlowValue
-      flow-value = (layersAs (l .taken) n .value (payloadOf s (l .read)), sets n .value (payloadOf s e))
+      flow-value = (layersAs (l .taken) n .value (payloadOf s (l .read)), (sets n .value (payloadOf s e), pairIf (b .taken) (payloadOf s (b .read)) (payloadOf s r)))
 
       abbrev flow-last : RecordRead
-      flow-last = e
+      flow-last = r
 
       abbrev flow-places : FlowPlaces
-      flow-places = record { wide = l .taken; layers = placeOf (l .read); sets = placeOf e; end = placeOf flow-last .end }
+      flow-places = record { wide = l .taken; layers = placeOf (l .read); sets = placeOf e; signals = b .taken; rows = placeOf (b .read); odds = placeOf r; end = placeOf flow-last .end }
 
       layers-took : Took (layers n) (gives (drop at s)) (layersAs (l .taken) n .value (payloadOf s (l .read))) (restOf s (l .read))
       layers-took = by (l .taken) (choice-took s (λ l. l .wide) kindLayers kindWideLayers (layersAs false n) (layersAs true n) (startAt at) l (hl .0))
@@ -109,7 +112,8 @@ module _ (s : List ℕ) where
       flow-took : Took (flow n) (gives (drop at s)) flow-value (restOf s flow-last)
       flow-took =
           then-took _ _ layers-took (
-          next-took s kindSets (sets n) (l .read) e he)
+          then-took _ _ (next-took s kindSets (sets n) (l .read) e he) (
+          pair-took s kindSetSignals kindOddSignals (eachAsks (rowWidth n) n) (eachAsks (rowWidth n) n) e b r hb hr))
 
       flow-steps : flowOfRead s (flowRead flow-last flow-places) ≡ readFlow n (drop at s)
       unfolding readFlow
@@ -122,12 +126,18 @@ module _ (s : List ℕ) where
       flow-placed : FlowPlaced s at (flowRead flow-last flow-places)
       flow-placed = by flow-last refl
         where
-          by : (r : RecordRead) → flow-last ≡ r → FlowPlaced s at (flowRead r flow-places)
+          inside : (there : Bool) → b .taken ≡ there → (b .taken ≡ true → placeOf r .end ≤ length s) → placeOf r ≡ cond there (payloadFrom s (placeOf (b .read) .end)) (placeOf (b .read)) → placeOf (b .read) .end ≤ length s → placeOf r .end ≤ length s
+          inside true t h q m = h t
+          inside false t h q m = rw q m
+
+          by : (x : RecordRead) → flow-last ≡ x → FlowPlaced s at (flowRead x flow-places)
           by (NoRecord q) h = tt
           by (Payload p) h =
-              let (wl, pe, b) = next-placed s _ _ (l .read) e he (last-read flow-last p h) in
+              let (wb, pr, lr) = partner-placed s _ _ (b .taken) (b .read) r hr (last-read flow-last p h) in
+              let (we, (tb, pb, lb)) = optional-placed s _ _ e b hb wb in
+              let (wl, pe, le) = next-placed s _ _ (l .read) e he we in
               let (ws, kl, pl, _) = choice-placed s _ _ _ _ (startAt at) l hl wl in
-              (rw (pe, pl, kl) refl, b)
+              (rw (pr, tb, pb, pe, pl, kl) refl, inside (b .taken) refl lr pr (lb le))
 
       pub flow-promised : (flowOfRead s (flowRead flow-last flow-places) ≡ readFlow n (drop at s)) × FlowPlaced s at (flowRead flow-last flow-places)
       flow-promised = (flow-steps, flow-placed)

@@ -1,30 +1,24 @@
 -- The views of what was read: one record, from what the code found and asked; and a format, record after record.
 use Prim.Native.Nat.{ℕ, _-_, _≤_}
-use mathlib.Core.Path.{_≡_, refl, sym, ap, ap₂, subst, _∙_}
-use mathlib.Core.Bool.{Bool, true, false, cond}
-use mathlib.Core.Option.{some}
-use mathlib.Core.List.{List, [], _++_}
-use native.Mathlib.Omega.{arith}
-use lib.Dec.{ltb}
-use lib.ListN.{length, take, drop, length-append, length-drop, take-append-drop}
-use lib.Seq.{take-append-seam}
-use Rattle.nodes.specs.Lists.{all}
+use mathlib.Core.Path.{_≡_, refl, sym, ap, subst, _∙_}
+use mathlib.Core.Bool.{Bool, true, false, cond, false≢true}
+use mathlib.Core.Option.{Option, none, some}
+use mathlib.Core.List.{List, []}
+use lib.ListN.{length, drop}
 use Rattle.answers.specs.Answer.{Refusal, Answer, gives, refuses, _>>=_}
 use Rattle.answers.specs.Refusals.{refusalOf}
 use Rattle.answers.specs.declared.Refusal as Code
 use Rattle.answers.proofs.Answer.{give-inj, never, bind-out}
 use Rattle.records.specs.Records.{carries, Part, allYes, part, checked}
-use Rattle.records.specs.Format.{Front, front, Format, PayloadFormat, plain, recordOf, decodeThen, _then_, optional, choice}
-use Rattle.records.specs.Views.{bytesAt, InFile, payloadFrom, keptAround, checkedOf, partAt, recordOfRead, RecordAt, restOf, placeOf, payloadOf, Next, startAt, someIf, optionalOfRead, optionalBehind, OptionalAt, NextOptional, marked, choiceOfRead, choiceBehind, NextChoice}
+use Rattle.records.specs.Format.{Front, front, Format, PayloadFormat, plain, recordOf, decodeThen, _then_, someOf, optional, choice}
+use Rattle.records.specs.Views.{bytesAt, payloadFrom, checkedOf, partAt, recordOfRead, RecordAt, restOf, placeOf, payloadOf, Next, startAt, someIf, optionalOfRead, optionalBehind, OptionalAt, NextOptional, Partner, pairIf, marked, choiceOfRead, choiceBehind, NextChoice}
 use Rattle.records.specs.declared.common.Place.{Place}
 use Rattle.records.specs.declared.questions.Checked.{Checked}
 use Rattle.records.specs.declared.questions.Checked.the-variants.{Passed, Refused as NotPassed}
 use Rattle.records.specs.declared.reader.RecordRead.{RecordRead}
 use Rattle.records.specs.declared.reader.RecordRead.the-variants.{Payload, Refused as NoRecord}
 use Rattle.records.specs.declared.reader.Branch.{Branch}
-use Rattle.records.specs.Encoding.{Bytes}
-use Rattle.records.proofs.Records.{all-right, checked-passed}
-use Rattle.records.proofs.Format.{Exact, Decoded}
+use Rattle.records.proofs.Records.{checked-passed}
 
 -- ---- the record, from what the code found and what it asked
 module _ (s t : List ℕ) (kind : ℕ) (r : RecordRead) (e : recordOfRead s r ≡ part kind t) (questions : List ℕ → Answer Bool) where
@@ -93,6 +87,52 @@ module _ (s : List ℕ) where
       → Took (optional kind (recordOf kind (plain questions))) (restOf s read) (someIf (b .taken) (payloadOf s (b .read))) (restOf s (b .read))
   optional-took kind questions read b (e, l) = record { took = e }
 
+  -- two records, both or neither
+  pub pair-took : (kind other : ℕ) (questions more : List ℕ → Answer Bool) (read : RecordRead) (b : Branch) (r : RecordRead) → NextOptional s read kind questions b → Partner s (b .taken) (b .read) other more r
+      → Took (optional kind (recordOf kind (plain questions) then λ p. recordOf other (plain more))) (restOf s read) (pairIf (b .taken) (payloadOf s (b .read)) (payloadOf s r)) (restOf s r)
+  unfolding decodeThen
+  pair-took kind other questions more read b r (e, l) h = record {
+    took =
+        second (b .taken) h
+        ∙ ap (λ (m : Answer (Front (Option (List ℕ)))). m >>= on) e
+        ∙ bind-assoc (restOf s read) (optional kind (recordOf kind (plain questions)) .decode) on
+        ∙ bind-ext (restOf s read) _ _ (λ t. by t (carries kind t));
+  }
+    where
+      on : Front (Option (List ℕ)) → Answer (Front (Option (List ℕ × List ℕ)))
+      on x = behind (x .value) (x .rest)
+        where
+          behind : Option (List ℕ) → List ℕ → Answer (Front (Option (List ℕ × List ℕ)))
+          behind none t = gives (front none t)
+          behind (some p) t = checked other more t >>= λ q. gives (front {A = Option (List ℕ × List ℕ)} (some (p, q .payload)) (q .rest))
+
+      part : (r : RecordRead) (p : List ℕ) → (restOf s r >>= λ t. gives (front {A = Option (List ℕ × List ℕ)} (some (p, payloadOf s r)) t)) ≡ (recordOfRead s r >>= λ q. gives (front {A = Option (List ℕ × List ℕ)} (some (p, q .payload)) (q .rest)))
+      part (Payload x) p = refl
+      part (NoRecord q) p = refl
+
+      second : (c : Bool) → Partner s c (b .read) other more r
+          → (restOf s r >>= λ t. gives (front (pairIf c (payloadOf s (b .read)) (payloadOf s r)) t)) ≡ (restOf s (b .read) >>= (λ t. gives (front (someIf c (payloadOf s (b .read))) t)) >>= on)
+      second true (g, _) =
+          part r (payloadOf s (b .read)) ∙ ap (λ (m : Answer Part). m >>= λ q. gives (front {A = Option (List ℕ × List ℕ)} (some (payloadOf s (b .read), q .payload)) (q .rest))) g
+          ∙ bind-assoc (restOf s (b .read)) (checked other more) (λ q. gives (front {A = Option (List ℕ × List ℕ)} (some (payloadOf s (b .read), q .payload)) (q .rest)))
+          ∙ sym (bind-assoc (restOf s (b .read)) (λ t. gives (front (some (payloadOf s (b .read))) t)) on)
+      second false g = ap (λ (r : RecordRead). restOf s r >>= λ t. gives (front none t)) g ∙ sym (bind-assoc (restOf s (b .read)) (λ t. gives (front none t)) on)
+
+      both : (m : Answer Part) → (m >>= (λ p. gives (front (p .payload) (p .rest))) >>= (λ p. gives (front (some (p .value)) (p .rest))) >>= on)
+          ≡ (m >>= (λ p. gives (front (p .payload) (p .rest))) >>= (λ p. checked other more (p .rest) >>= (λ q. gives (front (q .payload) (q .rest))) >>= λ q. gives (front {A = List ℕ × List ℕ} (p .value, q .value) (q .rest))) >>= λ p. gives (front (some (p .value)) (p .rest)))
+      both (gives p) = inner (checked other more (p .rest))
+        where
+          inner : (m : Answer Part) → (m >>= λ q. gives (front {A = Option (List ℕ × List ℕ)} (some (p .payload, q .payload)) (q .rest)))
+              ≡ (m >>= (λ q. gives (front (q .payload) (q .rest))) >>= (λ q. gives (front {A = List ℕ × List ℕ} (p .payload, q .value) (q .rest))) >>= λ p. gives (front (some (p .value)) (p .rest)))
+          inner (gives q) = refl
+          inner (refuses r) = refl
+      both (refuses r) = refl
+
+      by : (t : List ℕ) (c : Bool) → (cond c (someOf (recordOf kind (plain questions) .decode t)) (gives (front none t)) >>= on)
+          ≡ cond c (someOf ((recordOf kind (plain questions) then λ p. recordOf other (plain more)) .decode t)) (gives (front none t))
+      by t true = both (checked kind questions t)
+      by t false = refl
+
   pub choice-took : {A : Type 0} (second : A → Bool) (first kind : ℕ) (p q : PayloadFormat A) (read : RecordRead) (b : Branch) → choiceOfRead s b ≡ choiceBehind s read first (p .questions) kind (q .questions)
       → Took (choice second (recordOf first p) kind (recordOf kind q)) (restOf s read) (cond (b .taken) (q .value (payloadOf s (b .read))) (p .value (payloadOf s (b .read)))) (restOf s (b .read))
   choice-took {A = A} second first kind p q read b e = record {
@@ -153,6 +193,12 @@ module _ (s : List ℕ) where
   optional-placed kind questions read b h w =
       (took-read read (b .read) (optional-took kind questions read b h) w, subst (OptionalAt s kind (placeOf read .end) (b .taken)) w (h .1))
 
+  -- so does the one behind it, where both are there
+  pub partner-placed : (kind : ℕ) (questions : List ℕ → Answer Bool) (there : Bool) (read r : RecordRead) → Partner s there read kind questions r → WasRead r
+      → WasRead read × (placeOf r ≡ cond there (payloadFrom s (placeOf read .end)) (placeOf read)) × (there ≡ true → placeOf r .end ≤ length s)
+  partner-placed kind questions true read r h w = let (a, b, c) = next-placed kind questions read r h w in (a, b, λ _. c)
+  partner-placed kind questions false read r h w = (sym h ∙ w ∙ ap (λ (x : RecordRead). Payload (placeOf x)) h, ap placeOf h, λ e. absurd (false≢true e))
+
   -- ---- an optional record and one of two kinds, from what the code tests
   pub there-placed : (kind at : ℕ) (r : RecordRead) → carries kind (drop at s) ≡ true → RecordAt s at r → OptionalAt s kind at true r
   there-placed kind at (Payload p) c (e, l) = (sym c, rw c e, λ h. l)
@@ -191,17 +237,3 @@ module _ (s : List ℕ) where
 
       pub choice-refused : (q : Code.Refusal) → read ≡ NoRecord q → choiceOfRead s (record { taken = false; read = NoRecord q }) ≡ choiceBehind s read kind questions second others
       choice-refused q h = rw h refl
-
--- ---- parts of a file that are kept
--- a place between two steps of reading holds the bytes of the value that was read there
-pub place-encoded : {A : Type 0} (f : Format A) → Exact f → (s : List ℕ) (p : Place) (a : A) → InFile s p → Bytes s → f .decode (drop (p .start) s) ≡ gives (front a (drop (p .end) s)) → bytesAt p s ≡ f .encode a
-place-encoded f x s p a (h, l) b e =
-    let r : Decoded f (drop (p .start) s) a (drop (p .end) s) = x .encodes (drop (p .start) s) a (drop (p .end) s) (all-right (λ b. ltb b 256) (take (p .start) s) (drop (p .start) s) (ap (all (λ b. ltb b 256)) (take-append-drop (p .start) s) ∙ b)) e in
-    let size : p .end - p .start ≡ length (f .encode a) = omega (arith, ap length (r .same), length-append (f .encode a) (drop (p .end) s), length-drop (p .start) s, length-drop (p .end) s) in
-    ap₂ (λ (k : ℕ) (l : List ℕ). take k l) size (r .same) ∙ take-append-seam (f .encode a) (drop (p .end) s)
-
--- new bytes between two values that are kept
-pub kept-around : {A C : Type 0} (f : Format A) (h : Format C) → Exact f → Exact h → (s new : List ℕ) (p q : Place) (a : A) (c : C) → InFile s p → InFile s q → Bytes s
-    → f .decode (drop (p .start) s) ≡ gives (front a (drop (p .end) s)) → h .decode (drop (q .start) s) ≡ gives (front c (drop (q .end) s))
-    → keptAround s p new q ≡ f .encode a ++ (new ++ h .encode c)
-kept-around f h x y s new p q a c lp lq b e g = rw (place-encoded f x s p a lp b e, place-encoded h y s q c lq b g)

@@ -1,10 +1,10 @@
 -- What the finder writes: read back it is the flow that was found; its bytes, its length; and 0013 is no flow file.
 use Prim.Native.Nat.{ℕ, zero, suc, _+_, _*_, _≤_, _<_, zero-le}
-use mathlib.Core.Path.{_≡_, refl, sym, ap, ap₂, _∙_}
+use mathlib.Core.Path.{_≡_, refl, ap, ap₂, _∙_}
 use mathlib.Core.Bool.{Bool, true, false, cond, not, _&&_, _||_}
 use mathlib.Core.Logic.{_⊎_, inl, inr, _≢_}
 use mathlib.Core.Option.{some}
-use mathlib.Core.List.{List, [], _∷_, _++_, append-nil}
+use mathlib.Core.List.{List, [], _∷_, _++_}
 use native.Mathlib.Omega.{arith}
 use native.Mathlib.Nat.{mul-le-mul}
 use borrow.Author.Tests.{ltb-true, lt-ltb, ne-eqb}
@@ -24,12 +24,13 @@ use Rattle.records.specs.Format.{decodeThen}
 use Rattle.records.specs.JobFile.{mostNodes, rises}
 use Rattle.records.specs.FlowFile.{SetEntry, allEntries, entryBelow, entriesRise, entryBytes, FlowFile, readFlow, setIn, entryIn, flowOf}
 use Rattle.records.specs.Encoding.{Bytes, flowFileBytes, flowWith, ValidFlow, entriesFor, foundFlow}
-use Rattle.records.specs.Writing.{flowBytes, mostOutput}
+use Rattle.records.specs.Writing.{flowBytes, mostOutput, signalBytes}
 use Rattle.answers.proofs.Answer.{never}
 use Rattle.records.proofs.Records.{all-append, all-more, written-bytes}
 use Rattle.records.proofs.Layers.{fitsTwoBytes, in-bytes}
 use Rattle.records.proofs.Encoding.{flow-decodes}
-use Rattle.records.proofs.WritingLoops.{two-records, flow-length}
+use Rattle.records.proofs.WritingLoops.{flow-length}
+use Rattle.records.proofs.SignalFiles.{layersRecord, twoRecords, file-records}
 use Rattle.records.proofs.JobFile.{rises-none, rises-out, rises-in, rises-length}
 use Rattle.records.proofs.FlowFile.{below-out, below-in, each-none, each-cons, each-out, rise-none, rise-out, rise-cons, entries-few, entry-bytes-length}
 
@@ -40,7 +41,7 @@ list-all zero f p h = refl
 list-all (suc n) f p h = rw (h 0 (omega arith), list-all n (λ k. f (suc k)) p (λ k l. h (suc k) (omega arith)))
 
 -- ---- the members of a set as a list
-has-append : (l g : List ℕ) (k : ℕ) → has (l ++ g) k ≡ has l k || has g k
+pub has-append : (l g : List ℕ) (k : ℕ) → has (l ++ g) k ≡ has l k || has g k
 unfolding has
 has-append [] g k = refl
 has-append (x ∷ l) g k = by (eqb x k) (has-append l g k)
@@ -144,16 +145,16 @@ entry-bytes low n (e ∷ es) h a b =
     rw (lt-ltb (e .node) 256 (omega arith), lt-ltb (length (e .set)) 256 (omega arith))
     (all-append (λ b. ltb b 256) (e .set) (entryBytes es) (all-more (λ v. ltb v n) (λ v. ltb v 256) (e .set) (λ v x. let y : v < n = ltb-true v n x in lt-ltb v 256 (omega arith)) p2) (entry-bytes (e .node + 1) n es h q t))
 
--- a valid flow of two records
-module _ (n : ℕ) (layers : List ℕ) (es : List SetEntry) (v : ValidFlow n (flowWith layers es)) where
-  -- bytes, where its layers are below 65,536
-  pub flow-file-bytes : n < 256 → all fitsTwoBytes layers ≡ true → Bytes (flowFileBytes (flowWith layers es))
-  flow-file-bytes h a =
-      ap (all (λ b. ltb b 256)) (two-records layers es)
-      ∙ all-append (λ b. ltb b 256) (written kindWideLayers (inTwoBytes layers)) (written kindSets (entryBytes es))
-      (written-bytes kindWideLayers (inTwoBytes layers) (omega arith) (in-bytes layers a))
-      (written-bytes kindSets (entryBytes es) (omega arith) (entry-bytes 0 n es h (v .below) (v .rise)))
+-- a valid flow with layers of the wide kind is bytes, where its layers are below 65,536 and its lists are bytes
+pub flow-file-bytes : (n : ℕ) (g : FlowFile) → n < 256 → ValidFlow n g → g .wide ≡ true → all fitsTwoBytes (g .layers) ≡ true → Bytes (signalBytes (g .signals)) → Bytes (flowFileBytes g)
+flow-file-bytes n g h v w a b =
+    ap (all (λ b. ltb b 256)) (file-records g)
+    ∙ all-append (λ b. ltb b 256) (twoRecords g) (signalBytes (g .signals))
+    (all-append (λ b. ltb b 256) (layersRecord g) (written kindSets (entryBytes (g .sets))) (rw w (written-bytes kindWideLayers (inTwoBytes (g .layers)) (omega arith) (in-bytes (g .layers) a))) (written-bytes kindSets (entryBytes (g .sets)) (omega arith) (entry-bytes 0 n (g .sets) h (v .below) (v .rise))))
+    b
 
+-- how long one of two records is
+module _ (n : ℕ) (layers : List ℕ) (es : List SetEntry) (v : ValidFlow n (flowWith layers es)) where
   flow-file-length : length (flowFileBytes (flowWith layers es)) ≤ 2 * headBytes + 2 * n + n * (n + 2)
   flow-file-length =
       let few : length es + 0 ≤ n = entries-few 0 n es zero-le (v .below) (v .rise) in
@@ -168,11 +169,12 @@ module _ (j : Job) (s : Progress) where
     count = length-listOf (j .nodes) (s .layer);
     below = for-below (j .nodes) (s .set) (members (j .nodes) (λ u. not (j .output u))) (members-under (j .nodes) (λ u. not (j .output u)));
     rise = for-rise 0 (j .nodes) (s .set) (members (j .nodes) (λ u. not (j .output u))) (members-rise (j .nodes) (λ u. not (j .output u)));
+    lists = tt;
   }
 
   -- it is read back
   pub found-reads : j .nodes ≤ mostNodes → readFlow (j .nodes) (flowBytes j (some s)) ≡ gives (foundFlow j s)
-  found-reads h = ap (readFlow (j .nodes)) (sym (append-nil (flowFileBytes (foundFlow j s)))) ∙ flow-decodes (j .nodes) (foundFlow j s) h found-valid
+  found-reads h = flow-decodes (j .nodes) (foundFlow j s) h found-valid refl
 
   -- as the flow that was found
   pub found-layer : (u : ℕ) → u < j .nodes → flowOf (foundFlow j s) .layer u ≡ s .layer u
@@ -190,8 +192,9 @@ module _ (j : Job) (s : Progress) where
       (members-has (j .nodes) (s .set u) k ∙ ap (λ (b : Bool). b && s .set u k) (ltb-yes k (j .nodes) l))
 
   pub found-bytes : j .nodes ≤ mostNodes → ((u : ℕ) → u < j .nodes → s .layer u < 65536) → Bytes (flowBytes j (some s))
+  unfolding all
   found-bytes h a =
-      flow-file-bytes (j .nodes) _ _ found-valid (omega arith) (list-all (j .nodes) (s .layer) fitsTwoBytes (λ k l. lt-ltb (s .layer k) 65536 (a k l)))
+      flow-file-bytes (j .nodes) (foundFlow j s) (omega arith) found-valid refl (list-all (j .nodes) (s .layer) fitsTwoBytes (λ k l. lt-ltb (s .layer k) 65536 (a k l))) refl
 
   pub found-length : length (flowBytes j (some s)) ≤ 2 * headBytes + 2 * j .nodes + j .nodes * (j .nodes + 2)
   found-length = flow-file-length (j .nodes) _ _ found-valid

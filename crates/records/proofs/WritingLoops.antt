@@ -3,7 +3,7 @@ use Prim.Native.Nat.{ℕ, suc, _+_, _*_, _-_, _/_, _%_, _≤_, _<_}
 use mathlib.Core.Path.{_≡_, refl, sym, ap, ap₂, _∙_}
 use mathlib.Core.Bool.{Bool}
 use Rattle.answers.specs.Answer.{gives, refuses, refusal}
-use mathlib.Core.List.{List, [], _∷_, _++_}
+use mathlib.Core.List.{List, [], _∷_, _++_, append-nil}
 use native.Mathlib.Omega.{arith}
 use borrow.Author.Tests.{le-leb, lt-leb}
 use lib.Dec.{T, leb}
@@ -137,7 +137,7 @@ record-put at q kind p l m e h r = splice-next at q (headOf (length p) kind) p l
 
 -- the two records of a flow file
 pub two-records : (layers : List ℕ) (es : List SetEntry) → flowFileBytes (flowWith layers es) ≡ written kindWideLayers (inTwoBytes layers) ++ written kindSets (entryBytes es)
-two-records layers es = refl
+two-records layers es = ap (λ (x : List ℕ). written kindWideLayers (inTwoBytes layers) ++ x) (append-nil (written kindSets (entryBytes es)))
 
 layers-length : (layers : List ℕ) → length (written kindWideLayers (inTwoBytes layers)) ≡ headBytes + 2 * length layers
 layers-length layers = omega (arith, written-length kindWideLayers (inTwoBytes layers), in-length layers)

@@ -1,7 +1,8 @@
 -- The bytes of a job and of a flow, as they are written, and what reading asks of them.
-use Prim.Native.Nat.{ℕ, _%_, _≤_}
+use Prim.Native.Nat.{ℕ, _*_, _%_, _≤_}
 use mathlib.Core.Path.{_≡_}
 use mathlib.Core.Bool.{Bool, true, not}
+use mathlib.Core.Option.{Option, none, some}
 use mathlib.Core.List.{List, [], _∷_}
 use lib.Dec.{ltb}
 use lib.ListN.{length}
@@ -10,7 +11,8 @@ use Rattle.flows.specs.Job.{Job}
 use Rattle.flows.specs.Search.{Progress}
 use Rattle.nodes.specs.Lists.{has, listOf, all}
 use Rattle.records.specs.JobFile.{JobFile, mostNodes, modeCausal, modePauli, nodesBelow, rises, pairsRise, allAllowed, job, jobValue}
-use Rattle.records.specs.FlowFile.{SetEntry, FlowFile, allEntries, entryBelow, entriesRise, flow, flowValue}
+use Rattle.records.specs.FlowFile.{SetEntry, Signals, FlowFile, allEntries, entryBelow, entriesRise, flow, flowValue}
+use Rattle.records.specs.BitRows.{rowWidth}
 
 -- a file of bytes, as every file of a program is; the definitions of the calls take any numbers
 abbrev pub Bytes : List ℕ → Type 0
@@ -37,19 +39,25 @@ pub record ValidJob (f : JobFile) : Type 0 where
   pub allowed : allAllowed (f .mode) (has (f .outputs)) 0 (f .measurements) ≡ true
 
 -- ---- flows
--- the two records in order, with a layer for each node
+-- the records in order, with a layer for each node
 abbrev pub flowFileBytes : FlowFile → List ℕ
 flowFileBytes g = flow (length (g .layers)) .encode (flowValue g)
 
 -- a flow of these layers, in the kind that the finder writes, and entries, and of nothing more
 abbrev pub flowWith : List ℕ → List SetEntry → FlowFile
-flowWith layers es = record { wide = true; layers = layers; sets = es; after = [] }
+flowWith layers es = record { wide = true; layers = layers; sets = es; signals = none; after = [] }
+
+-- lists of n rows of n bits
+abbrev pub ListsFit : ℕ → Option Signals → Type 0
+ListsFit n none = Unit
+ListsFit n (some l) = (length (l .0) ≡ rowWidth n * n) × (length (l .1) ≡ rowWidth n * n)
 
 -- what reading has asked, for n nodes
 pub record ValidFlow (n : ℕ) (g : FlowFile) : Type 0 where
   pub count : length (g .layers) ≡ n
   pub below : allEntries (entryBelow n) (g .sets) ≡ true
   pub rise : entriesRise 0 (g .sets) ≡ true
+  pub lists : ListsFit n (g .signals)
 
 -- the entries of the nodes in the list, in its order
 unfoldable pub entriesFor : ℕ → (ℕ → ℕ → Bool) → List ℕ → List SetEntry

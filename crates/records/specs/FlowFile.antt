@@ -1,4 +1,4 @@
--- Reading a flow file: the records of layers and of sets, and the questions 8 and 9 that follow.
+-- Reading a flow file: the records of layers and of sets, the signal lists where they stand, and the questions 8 and 9 that follow.
 use Prim.Native.Nat.{ℕ, zero, suc, _+_}
 use mathlib.Core.Bool.{Bool, true, false, cond, not, _&&_, _||_, Bool·beq}
 use mathlib.Core.Option.{Option, none, some}
@@ -7,8 +7,9 @@ use lib.Dec.{eqb, ltb, leb}
 use lib.ListN.{length, getD, take, drop}
 use Rattle.nodes.specs.Options.{isSome}
 use Rattle.answers.specs.Answer.{Answer, gives, asks, _>>=_, _>>_}
-use Rattle.records.specs.Format.{Front, Format, PayloadFormat, recordOf, _then_, choice}
-use Rattle.records.specs.Records.{kindLayers, kindWideLayers, kindSets, eachAsks, inTwoBytes, fromTwoBytes}
+use Rattle.records.specs.Format.{Front, Format, PayloadFormat, plain, recordOf, _then_, optional, choice}
+use Rattle.records.specs.Records.{kindLayers, kindWideLayers, kindSets, kindSetSignals, kindOddSignals, eachAsks, inTwoBytes, fromTwoBytes}
+use Rattle.records.specs.BitRows.{rowWidth}
 use Rattle.nodes.specs.Lists.{has}
 use Rattle.records.specs.JobFile.{nodesBelow, rises, modeCausal}
 
@@ -58,11 +59,16 @@ setsAsks n p = do
   asks 5 (allEntries (entryBelow n) (listed (entriesOf p)))
   asks 6 (entriesRise 0 (listed (entriesOf p)))
 
--- whether the layers are of the wide kind, the layers as numbers, the sets, and the bytes behind them
+-- the signal lists, those of the sets (0022) and those of Odd (0023), as they are stored
+abbrev pub Signals : Type 0
+Signals = List ℕ × List ℕ
+
+-- whether the layers are of the wide kind, the layers as numbers, the sets, the signal lists where they stand, and the bytes behind them
 pub record FlowFile : Type 0 where
   pub wide : Bool
   pub layers : List ℕ
   pub sets : List SetEntry
+  pub signals : Option Signals
   pub after : List ℕ
 
 -- ---- the layers of the nodes: of kind 0011 a byte each, of the wide kind 0021 two
@@ -92,7 +98,7 @@ layersAs wide n = record {
 abbrev pub layers : ℕ → Format Layers
 layers n = choice (λ l. l .wide) (recordOf kindLayers (layersAs false n)) kindWideLayers (recordOf kindWideLayers (layersAs true n))
 
--- ---- a flow: the records of layers and of sets
+-- ---- a flow: the records of layers and of sets, and both signal lists or neither
 -- node, count and members of each entry
 unfoldable pub entryBytes : List SetEntry → List ℕ
 entryBytes [] = []
@@ -106,22 +112,43 @@ sets n = record {
   value = λ p. listed (entriesOf p);
 }
 
+-- one list: n rows of n bits; of its bits nothing is asked
+abbrev pub signalRows : ℕ → PayloadFormat (List ℕ)
+signalRows n = plain (eachAsks (rowWidth n) n)
+
+abbrev pub signals : ℕ → Format Signals
+signals n =
+    recordOf kindSetSignals (signalRows n) then λ s.
+    recordOf kindOddSignals (signalRows n)
+
 abbrev pub FlowValue : Type 0
-FlowValue = Layers × List SetEntry
+FlowValue = Layers × (List SetEntry × Option Signals)
 
 abbrev pub flow : ℕ → Format FlowValue
 flow n =
     layers n then λ l.
-    recordOf kindSets (sets n)
+    recordOf kindSets (sets n) then λ e.
+    optional kindSetSignals (signals n)
 
 abbrev pub flowFile : Front FlowValue → FlowFile
-flowFile p = record { wide = p .value .0 .wide; layers = p .value .0 .numbers; sets = p .value .1; after = p .rest }
+flowFile p = record { wide = p .value .0 .wide; layers = p .value .0 .numbers; sets = p .value .1 .0; signals = p .value .1 .1; after = p .rest }
 
 abbrev pub flowValue : FlowFile → FlowValue
-flowValue g = (record { wide = g .wide; numbers = g .layers }, g .sets)
+flowValue g = (record { wide = g .wide; numbers = g .layers }, (g .sets, g .signals))
 
 unfoldable pub readFlow : ℕ → List ℕ → Answer FlowFile
 readFlow n s = flow n .decode s >>= λ p. gives (flowFile p)
+
+-- ---- an entry that is lent alone, as it stands in a sets record
+abbrev pub entryOf : List ℕ → SetEntry
+entryOf p = record { node = getD p 0 0; set = drop 2 p }
+
+-- is it one entry, neither cut nor too long (3)? are its node and members below n (5)? do its members ascend (6)?
+unfoldable pub entryAsks : ℕ → List ℕ → Answer Bool
+entryAsks n p = do
+  asks 3 (eqb (length p) (2 + getD p 1 0))
+  asks 5 (entryBelow n (entryOf p))
+  asks 6 (rises 0 (entryOf p .set))
 
 -- ---- the questions that follow
 -- is nothing left (8)?

@@ -1,9 +1,11 @@
+pub mod BitRows
 pub mod Encoding
 pub mod FlowFile
 pub mod Format
 pub mod JobFile
 pub mod JobLists
 pub mod Records
+pub mod SignalLists
 pub mod Splice
 pub mod Views
 pub mod Writing

@@ -39,6 +39,12 @@ kindRefusal = 0x001F
 abbrev pub kindWideLayers : ℕ
 kindWideLayers = 0x0021
 
+abbrev pub kindSetSignals : ℕ
+kindSetSignals = 0x0022
+
+abbrev pub kindOddSignals : ℕ
+kindOddSignals = 0x0023
+
 -- the bytes of length and kind
 abbrev pub headBytes : ℕ
 headBytes = 6

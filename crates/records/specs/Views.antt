@@ -9,7 +9,7 @@ use Rattle.nodes.specs.Row.{count}
 use Rattle.nodes.specs.Lists.{has}
 use Rattle.answers.specs.Answer.{Answer, gives, refuses, _>>=_}
 use Rattle.answers.specs.Refusals.{refusalOf}
-use Rattle.records.specs.Records.{carries, lengthField, Part, allYes, checked, headBytes, eachAsks, kindWideLayers}
+use Rattle.records.specs.Records.{carries, lengthField, Part, allYes, checked, headBytes, eachAsks, kindWideLayers, kindSetSignals}
 use Rattle.records.specs.Format.{Front, front, plain, recordOf, optional}
 use Rattle.records.specs.JobFile.{JobFile, mostNodes, nodesBelow, openingAsks, edgesAsks, nodesAsks, measurementsAsks}
 use Rattle.records.specs.FlowFile.{FlowFile, layerNumbers, entriesOf, listed, setsAsks}
@@ -133,6 +133,16 @@ OptionalAt s kind at taken (NoRecord q) = Unit
 abbrev pub NextOptional : List ℕ → RecordRead → ℕ → (List ℕ → Answer Bool) → Branch → Type 0
 NextOptional s read kind questions b = (optionalOfRead s b ≡ optionalBehind s read kind questions) × OptionalAt s kind (placeOf read .end) (b .taken) (b .read)
 
+-- ---- a record that is there just where an optional one is, behind it
+abbrev pub Partner : List ℕ → (there : Bool) (read : RecordRead) → ℕ → (List ℕ → Answer Bool) → RecordRead → Type 0
+Partner s true read kind questions r = Next s read kind questions r
+Partner s false read kind questions r = r ≡ read
+
+-- both payloads, where they are there
+abbrev pub pairIf : Bool → List ℕ → List ℕ → Option (List ℕ × List ℕ)
+pairIf true p q = some (p, q)
+pairIf false p q = none
+
 -- ---- a record of one of two kinds: whether it is the second, and its payload
 abbrev pub choiceOfRead : List ℕ → Branch → Answer (Front (Bool × List ℕ))
 choiceOfRead s b = restOf s (b .read) >>= λ t. gives (front (b .taken, payloadOf s (b .read)) t)
@@ -197,6 +207,7 @@ flowAt s p = record {
   wide = p .wide;
   layers = layerNumbers (p .wide) (bytesAt (p .layers) s);
   sets = listed (entriesOf (bytesAt (p .sets) s));
+  signals = pairIf (p .signals) (bytesAt (p .rows) s) (bytesAt (p .odds) s);
   after = drop (p .end) s;
 }
 
@@ -213,7 +224,18 @@ abbrev pub flowPlaces : List ℕ → (at : ℕ) → FlowPlaces
 flowPlaces s at =
     let layers = payloadFrom s at in
     let sets = payloadFrom s (layers .end) in
-    record { wide = carries kindWideLayers (drop at s); layers = layers; sets = sets; end = sets .end }
+    let there = carries kindSetSignals (drop (sets .end) s) in
+    let first = optionalFrom s kindSetSignals (sets .end) in
+    let second = cond there (payloadFrom s (first .end)) first in
+    record {
+      wide = carries kindWideLayers (drop at s);
+      layers = layers;
+      sets = sets;
+      signals = there;
+      rows = first;
+      odds = second;
+      end = second .end;
+    }
 
 abbrev pub FlowPlaced : List ℕ → (at : ℕ) → FlowRead → Type 0
 FlowPlaced s at (Flow p) = (p ≡ flowPlaces s at) × (p .end ≤ length s)

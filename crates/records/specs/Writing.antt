@@ -1,13 +1,14 @@
--- What the finder writes for what its search found.
+-- What the finder writes for what its search found, and signal lists as they are written.
 use Prim.Native.Nat.{ℕ, _+_, _*_}
 use mathlib.Core.Bool.{Bool, true}
 use mathlib.Core.Option.{Option, none, some}
-use mathlib.Core.List.{List, []}
+use mathlib.Core.List.{List, [], _++_}
 use Rattle.flows.specs.Job.{Job}
 use Rattle.flows.specs.Search.{Progress}
-use Rattle.records.specs.Records.{headBytes, written, kindNoFlow}
+use Rattle.records.specs.Records.{headBytes, written, kindNoFlow, kindSetSignals, kindOddSignals}
 use Rattle.records.specs.JobFile.{mostNodes}
-use Rattle.records.specs.FlowFile.{layerWidth, entryBytes}
+use Rattle.records.specs.FlowFile.{layerWidth, entryBytes, Signals}
+use Rattle.records.specs.BitRows.{rowWidth}
 use Rattle.records.specs.Encoding.{flowFileBytes, flowWith, entriesFor, foundFlow}
 
 -- entries of the nodes in the list
@@ -26,3 +27,12 @@ flowBytes j (some s) = flowFileBytes (foundFlow j s)
 -- no file of a flow is longer: the heads of two records, a layer for each node, and entries of node, count and members
 abbrev pub mostOutput : ℕ
 mostOutput = 2 * headBytes + layerWidth true * mostNodes + mostNodes * (mostNodes + 2)
+
+-- both lists, or neither
+abbrev pub signalBytes : Option Signals → List ℕ
+signalBytes none = []
+signalBytes (some l) = written kindSetSignals (l .0) ++ written kindOddSignals (l .1)
+
+-- no flow file is longer, its signal lists included
+abbrev pub mostFlow : ℕ
+mostFlow = mostOutput + 2 * (headBytes + rowWidth mostNodes * mostNodes)

@@ -40,6 +40,10 @@ pub const KIND_REFUSAL: u16 = 0x001F;
 
 pub const KIND_WIDE_LAYERS: u16 = 0x0021;
 
+pub(crate) const KIND_SET_SIGNALS: u16 = 0x0022;
+
+pub(crate) const KIND_ODD_SIGNALS: u16 = 0x0023;
+
 // As many nodes as a set can have.
 pub const MOST_NODES: usize = CAPACITY;
 
@@ -71,11 +75,14 @@ pub enum JobRead {
     Refused(Refusal),
 }
 
-// Where the payloads of a flow lie, whether its layers are of the wide kind, and where it ends.
+// Where the payloads of a flow lie, whether its layers are of the wide kind, whether the signal lists are there, and where it ends.
 pub struct FlowPlaces {
     pub wide: bool,
     pub layers: Place,
     pub sets: Place,
+    pub signals: bool,
+    pub rows: Place,
+    pub odds: Place,
     pub end: usize,
 }
 

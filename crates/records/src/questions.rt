@@ -9,7 +9,7 @@ ghost use Rattle.nodes.specs.Lists.{has, all};
 ghost use Rattle.nodes.specs.Row.{count};
 ghost use Rattle.records.specs.Records.{eachAsks};
 ghost use Rattle.records.specs.JobFile.{mostNodes, rises, pairsRise, highestOf, allAllowed, openingAllowed, openingAsks, edgesAsks, nodesAsks, measurementsAsks};
-ghost use Rattle.records.specs.FlowFile.{entriesOf, listed, allEntries, entryBelow, entriesRise, setsAsks};
+ghost use Rattle.records.specs.FlowFile.{entriesOf, listed, allEntries, entryBelow, entriesRise, setsAsks, entryAsks};
 ghost use Rattle.records.specs.Views.{checkedOf, asksOf, Outputs, Granted};
 use crate::common::ENTRY_HEAD_BYTES;
 use crate::common::MODE_CAUSAL;
@@ -362,6 +362,19 @@ fn ask_sets(sets: &[u8], n: usize) -> Checked
         return Checked::Refused(Refusal::NOT_ASCENDING);
     }
     Checked::Passed
+}
+
+// The questions of an entry that is lent alone: those of a sets record that is this entry and nothing more.
+pub fn ask_entry(entry: &[u8], n: usize) -> Checked
+    ensures { λ r. ⌜ checkedOf r ≡ entryAsks n (now (entry .entry)) ⌝ }
+{
+    if entry.len() < ENTRY_HEAD_BYTES {
+        return Checked::Refused(Refusal::WRONG_LENGTH);
+    }
+    if number(entry[1]) != entry.len() - ENTRY_HEAD_BYTES {
+        return Checked::Refused(Refusal::WRONG_LENGTH);
+    }
+    ask_sets(entry, n)
 }
 
 // The questions of a payload of the file; those of the measurements are asked after those of the outputs.

@@ -9,7 +9,7 @@ ghost use Rattle.nodes.specs.Lists.{has};
 ghost use Rattle.records.specs.Records.{carries, lengthField, kindField, headBytes, part, checked, fromTwoBytes};
 ghost use Rattle.records.specs.JobFile.{readJob};
 ghost use Rattle.records.specs.FlowFile.{readFlow};
-ghost use Rattle.records.specs.Views.{asksOf, Granted, recordOfRead, recordBehind, startAt, placeOf, RecordAt, optionalOfRead, optionalBehind, OptionalAt, choiceOfRead, choiceBehind, jobOfRead, jobRead, JobPlaced, flowAt, flowOfRead, flowRead, FlowPlaced};
+ghost use Rattle.records.specs.Views.{asksOf, Granted, recordOfRead, recordBehind, startAt, placeOf, RecordAt, optionalOfRead, optionalBehind, OptionalAt, Partner, choiceOfRead, choiceBehind, jobOfRead, jobRead, JobPlaced, flowAt, flowOfRead, flowRead, FlowPlaced};
 use crate::common::FlowPlaces;
 use crate::common::FlowRead;
 use crate::common::HEAD_BYTES;
@@ -19,8 +19,10 @@ use crate::common::KIND_EDGES;
 use crate::common::KIND_INPUTS;
 use crate::common::KIND_LAYERS;
 use crate::common::KIND_MEASUREMENTS;
+use crate::common::KIND_ODD_SIGNALS;
 use crate::common::KIND_OPENING;
 use crate::common::KIND_OUTPUTS;
+use crate::common::KIND_SET_SIGNALS;
 use crate::common::KIND_SETS;
 use crate::common::KIND_WIDE_LAYERS;
 use crate::common::Place;
@@ -31,6 +33,7 @@ use crate::common::payload;
 use crate::questions::Checked;
 use crate::questions::Questions;
 use crate::questions::ask;
+use crate::signals::row_width;
 use answers::Refusal;
 use nodes::utils::NodeSet;
 
@@ -167,6 +170,18 @@ fn optional(file: &[u8], read: RecordRead, kind: u16, questions: Questions) -> B
     }
 }
 
+// The record behind an optional one, where that is there; else nothing more is read.
+fn partner(file: &[u8], first: Branch, kind: u16, questions: Questions) -> RecordRead
+    requires { ⌜ Granted (now file) questions ⌝ }
+    ensures { λ r. ⌜ Partner (now (file .entry)) (first .taken) (first .read) kind (asksOf (now (file .entry)) questions) r ⌝ }
+{
+    let read = first.read;
+    if first.taken {
+        return next(file, read, kind, questions);
+    }
+    read
+}
+
 // Of two kinds in one place the second, where the next six bytes carry it, else the first.
 fn choice(
     file: &[u8],
@@ -256,7 +271,7 @@ pub fn read_job(file: &[u8]) -> JobRead
     job_read(measurements, places)
 }
 
-// ---- A flow: the records of layers and of sets.
+// ---- A flow: the records of layers and of sets, and both signal lists or neither.
 
 fn flow_read(last: RecordRead, places: FlowPlaces) -> FlowRead
     ensures { λ r. ⌜ r ≡ flowRead last places ⌝ }
@@ -282,13 +297,20 @@ pub fn read_flow(file: &[u8], at: usize, n: usize) -> FlowRead
     );
     let first = layers.read;
     let sets = next(file, first, KIND_SETS, Questions::Sets(n));
+    let list = Questions::Each(row_width(n), n);
+    let signals = optional(file, sets, KIND_SET_SIGNALS, list);
+    let rows = signals.read;
+    let last = partner(file, signals, KIND_ODD_SIGNALS, list);
     let places = FlowPlaces {
         wide: layers.taken,
         layers: place_of(first),
         sets: place_of(sets),
-        end: end_of(sets),
+        signals: signals.taken,
+        rows: place_of(rows),
+        odds: place_of(last),
+        end: end_of(last),
     };
-    flow_read(sets, places)
+    flow_read(last, places)
 }
 
 // ---- What a payload holds.

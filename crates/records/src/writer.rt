@@ -12,7 +12,6 @@ ghost use Rattle.records.specs.Encoding.{jobBytes};
 ghost use Rattle.records.specs.JobLists.{pairsWith, pairsAmong, jobWith};
 ghost use Rattle.records.specs.Writing.{setBytes, flowRecords};
 ghost use Rattle.records.specs.Splice.{splice, putFront, putAnswer, putOf};
-ghost use Rattle.records.specs.Views.{keptAround};
 use crate::common::ENTRY_HEAD_BYTES;
 use crate::common::HEAD_BYTES;
 use crate::common::KIND_EDGES;
@@ -23,9 +22,7 @@ use crate::common::KIND_OUTPUTS;
 use crate::common::KIND_SETS;
 use crate::common::KIND_WIDE_LAYERS;
 use crate::common::OPENING_BYTES;
-use crate::common::Place;
 use crate::common::WIDE_LAYER_BYTES;
-use crate::common::payload;
 use nodes::utils::NodeSet;
 use nodes::utils::set_at;
 
@@ -51,7 +48,7 @@ fn put_pair(out: &mut [u8], at: usize, x: usize)
 }
 
 // A record's length and kind.
-fn put_head(out: &mut [u8], at: usize, len: usize, kind: u16)
+pub(crate) fn put_head(out: &mut [u8], at: usize, len: usize, kind: u16)
     requires { ⌜ at + headBytes ≤ length (now out) ⌝ }
     ensures { λ _. ⌜ now (out .exit) ≡ splice at (headOf len kind) (now (out .entry)) ⌝ }
 {
@@ -60,7 +57,7 @@ fn put_head(out: &mut [u8], at: usize, len: usize, kind: u16)
     put_pair(out, at + 4, kind as usize);
 }
 
-fn put_bytes(out: &mut [u8], at: usize, bytes: &[u8])
+pub(crate) fn put_bytes(out: &mut [u8], at: usize, bytes: &[u8])
     requires { ⌜ at + length (now bytes) ≤ length (now out) ⌝ }
     ensures { λ _. ⌜ now (out .exit) ≡ splice at (now (bytes .entry)) (now (out .entry)) ⌝ }
 {
@@ -71,7 +68,7 @@ fn put_bytes(out: &mut [u8], at: usize, bytes: &[u8])
     }
 }
 
-fn put_record(out: &mut [u8], at: usize, kind: u16, payload: &[u8])
+pub(crate) fn put_record(out: &mut [u8], at: usize, kind: u16, payload: &[u8])
     requires { ⌜ at + headBytes + length (now payload) ≤ length (now out) ⌝ }
     ensures { λ _. ⌜ now (out .exit) ≡ splice at (written kind (now (payload .entry))) (now (out .entry)) ⌝ }
 {
@@ -248,7 +245,7 @@ fn put_last_records(
 // ---- At the front of the buffer, where there is room for all of it.
 
 // Is there room for three lengths together?
-fn room_for(room: usize, a: usize, b: usize, c: usize) -> bool
+pub(crate) fn room_for(room: usize, a: usize, b: usize, c: usize) -> bool
     ensures { λ r. ⌜ r ≡ leb (a + b + c) room ⌝ }
 {
     if a > room {
@@ -319,22 +316,4 @@ pub fn write_job(
         measurements,
     );
     Put::Bytes(others + edges + measurements.len())
-}
-
-// New bytes between two parts of a file that are kept byte for byte.
-pub fn write_between(out: &mut [u8], file: &[u8], first: Place, bytes: &[u8], last: Place) -> Put
-    ensures { λ r. ⌜ putOf r ≡ putAnswer (keptAround (now (file .entry)) first (now (bytes .entry)) last) (now (out .entry)) ⌝ }
-    ensures { λ _. ⌜ now (out .exit) ≡ putFront (keptAround (now (file .entry)) first (now (bytes .entry)) last) (now (out .entry)) ⌝ }
-{
-    let front = payload(file, first);
-    let back = payload(file, last);
-    if !room_for(out.len(), front.len(), bytes.len(), back.len()) {
-        return Put::TooLong;
-    }
-    let start = front.len();
-    let end = start + bytes.len();
-    put_bytes(out, 0, front);
-    put_bytes(out, start, bytes);
-    put_bytes(out, end, back);
-    Put::Bytes(end + back.len())
 }

@@ -31,14 +31,14 @@ fn same_bytes(x: &[u8], y: &[u8]) -> bool {
     holds(x, y, 0) && holds(y, x, 0)
 }
 
-// Is the first, by layers of kind 0021 and with nothing behind it, the flow of n nodes that the second holds by either kind?
+// Is the first, by layers of kind 0021 and with nothing behind its sets, the flow of n nodes that the second holds by either kind?
 pub(crate) fn same_flow(file: &[u8], stored: &[u8], n: usize) -> bool {
     match read_flow(file, 0, n) {
         FlowRead::Flow(flow) => match read_flow(stored, 0, n) {
             FlowRead::Flow(wanted) => {
                 flow.wide
-                    && flow.end == file.len()
-                    && wanted.end == stored.len()
+                    && flow.sets.end == file.len()
+                    && wanted.sets.end == stored.len()
                     && same_layers(file, flow, stored, wanted, n)
                     && same_bytes(payload(file, flow.sets), payload(stored, wanted.sets))
             }

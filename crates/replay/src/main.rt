@@ -1,11 +1,13 @@
 // Stored answers, run again on the library through its entries for C. Standard input holds entries one after another, each a
 // call and what it should answer and leave: cases A to N of document 01 and its edges, by name; the original's answers; each refusal at
-// its boundary, flows by either kind of layers; jobs written from lists. oracle/README.md says how they were made. One entry is wrong on purpose: a run that does not
-// report it compares nothing.
+// its boundary, flows by either kind of layers; jobs written from lists; signal lists added, judged and edited. oracle/README.md says how they
+// were made. One entry is wrong on purpose: a run that does not report it compares nothing.
 mod entry; // entry.rt: what the head of an entry says
 mod flow; // flow.rt: the flow of the finder, compared after reading
 mod run; // run.rt: the call of one entry, compared
 
+ghost use Prim.Native.Nat.{_≤_};
+ghost use lib.ListN.{length};
 use entry::HEAD_BYTES;
 use entry::number;
 use entry::two_bytes;
@@ -15,11 +17,14 @@ const STANDARD_INPUT: i32 = 0;
 
 const STANDARD_OUTPUT: i32 = 1;
 
-// No file of entries is longer.
-const MOST_DATA: usize = 262144;
+// No entry is longer: its head, and a name, a query and a result of 65,535 bytes each.
+const MOST_ENTRY: usize = 196620;
+
+// No more entries are read.
+const MOST_ENTRIES: u64 = 1048576;
 
 // The numbers of all questions, and 0 for an answer.
-const NUMBERS: usize = 22;
+const NUMBERS: usize = 23;
 
 fn print(words: &[u8]) {
     io::write_all(STANDARD_OUTPUT, words);
@@ -47,7 +52,7 @@ fn count(equal: &mut [u64], number: u8) {
     if i >= equal.len() {
         return;
     }
-    if equal[i] < MOST_DATA as u64 {
+    if equal[i] < MOST_ENTRIES {
         equal[i] += 1;
     }
 }
@@ -66,17 +71,17 @@ fn tell(name: &[u8], entry: u64, same: bool) {
     }
 }
 
-// The entry that stands first, its number among all; the answer is how many bytes it takes.
-fn replay_one(bytes: &[u8], entry: u64, equal: &mut [u64]) -> usize {
+// One entry, its number among all; is it whole?
+fn replay_one(bytes: &[u8], entry: u64, equal: &mut [u64]) -> bool {
     let len = bytes.len();
     if len < HEAD_BYTES {
-        return 0;
+        return false;
     }
     let name = HEAD_BYTES + two_bytes(bytes[9], bytes[10]);
     let query = name + two_bytes(bytes[11], bytes[12]);
     let end = query + two_bytes(bytes[13], bytes[14]);
     if end > len {
-        return 0;
+        return false;
     }
     let head = &bytes[0..HEAD_BYTES];
     let same = as_stored(head, &bytes[name..query], &bytes[query..end]);
@@ -84,38 +89,60 @@ fn replay_one(bytes: &[u8], entry: u64, equal: &mut [u64]) -> usize {
     if same {
         count(equal, number(head));
     }
-    end
+    true
 }
 
-fn cut(entries: u64) -> u64 {
-    print(b"an entry is cut off\n");
-    entries
+// The next entry goes to the front of the buffer; the answer is how many of its bytes are there, 0 where the input has ended.
+fn next_entry(bytes: &mut [u8]) -> usize
+    ensures { λ r. ⌜ r ≤ length (now (bytes .exit)) ⌝ }
+{
+    let len = bytes.len();
+    if len < HEAD_BYTES {
+        return 0;
+    }
+    let got = io::read_full(STANDARD_INPUT, &mut bytes[0..HEAD_BYTES]);
+    if got < HEAD_BYTES {
+        return got;
+    }
+    let end = HEAD_BYTES
+        + two_bytes(bytes[9], bytes[10])
+        + two_bytes(bytes[11], bytes[12])
+        + two_bytes(bytes[13], bytes[14]);
+    if end > len {
+        return 0;
+    }
+    HEAD_BYTES + io::read_full(STANDARD_INPUT, &mut bytes[HEAD_BYTES..end])
+}
+
+// The next entry; was there a whole one?
+fn replay_next(bytes: &mut [u8], entry: u64, equal: &mut [u64]) -> bool {
+    let len = next_entry(bytes);
+    if len == 0 {
+        return false;
+    }
+    let whole = replay_one(&bytes[0..len], entry, equal);
+    if !whole {
+        print(b"an entry is cut off\n");
+    }
+    whole
 }
 
 // All entries in turn; the answer is how many there are.
-fn replay_all(bytes: &[u8], equal: &mut [u64]) -> u64 {
-    let len = bytes.len();
-    let mut at = 0;
-    let mut entries: u64 = 0;
-    while at < len {
-        let taken = replay_one(&bytes[at..len], entries, equal);
-        if taken == 0 {
-            return cut(entries);
-        }
-        if taken > len - at {
-            return cut(entries);
+fn replay_all(bytes: &mut [u8], equal: &mut [u64]) -> u64 {
+    let mut entries = 0;
+    while entries < MOST_ENTRIES {
+        if !replay_next(bytes, entries, equal) {
+            return entries;
         }
         entries += 1;
-        at += taken;
     }
     entries
 }
 
 fn main() {
-    let mut bytes = [0u8; MOST_DATA];
-    let n = io::read_full(STANDARD_INPUT, &mut bytes);
+    let mut bytes = [0u8; MOST_ENTRY];
     let mut equal = [0u64; NUMBERS];
-    let entries = replay_all(&bytes[..n], &mut equal);
+    let entries = replay_all(&mut bytes, &mut equal);
     tell_equal(&equal);
     print_count(b"entries: ", entries);
     print(b"\n");

@@ -10,6 +10,8 @@ use crate::entry::two_bytes;
 use crate::entry::work_len;
 use crate::flow::is_flow;
 use crate::flow::same_flow;
+use capi::bolz_add_signals;
+use capi::bolz_edit_set;
 use capi::bolz_find;
 use capi::bolz_solve;
 use capi::bolz_verify;
@@ -23,6 +25,10 @@ const VERIFY: u8 = 118; // v
 const SOLVE: u8 = 115; // s
 
 const WRITE: u8 = 119; // w
+
+const ADD: u8 = 97; // a
+
+const EDIT: u8 = 101; // e
 
 // r: the original's verdict. Its choice between 18 and 19 varies, and its nodes do: 18 is stored for either.
 const ORIGINAL: u8 = 114;
@@ -44,7 +50,7 @@ const FILL: u8 = 0xA5;
 // No buffer that is lent here is longer.
 const MOST_WORK: usize = 2304;
 
-const MOST_OUT: usize = 16928;
+const MOST_OUT: usize = 21036;
 
 // Where a job has its number of nodes.
 const NODES_AT: usize = 6;
@@ -54,6 +60,9 @@ const SHAPE_BYTES: usize = 8;
 
 // n and mode, eight bytes each, and the lengths of the four lists, two bytes each, stand before the lists.
 const LISTS_HEAD_BYTES: usize = 24;
+
+// The length of a lent entry, two bytes, stands before it.
+const LENT_HEAD_BYTES: usize = 2;
 
 // A size that two bytes cannot hold, and that adding one to it would wrap.
 const WRAPS: usize = 18446744073709551615;
@@ -232,6 +241,35 @@ fn write_as_stored(head: &[u8], query: &[u8], result: &[u8], outs: &mut [u8]) ->
     got == stored(head, result.len()) && holds(outs, result, FILL)
 }
 
+// The flow file with its lists, or a refusal.
+fn add_as_stored(head: &[u8], query: &[u8], result: &[u8], outs: &mut [u8]) -> bool {
+    let out_len = out_len(head);
+    if out_len > outs.len() {
+        return false;
+    }
+    let got = bolz_add_signals(query, &mut outs[0..out_len]);
+    got == stored(head, result.len()) && holds(outs, result, FILL)
+}
+
+// The flow file with the lent entry, or a refusal.
+fn edit_as_stored(head: &[u8], query: &[u8], result: &[u8], outs: &mut [u8]) -> bool {
+    let len = query.len();
+    let out_len = out_len(head);
+    if len < LENT_HEAD_BYTES || out_len > outs.len() {
+        return false;
+    }
+    let file = LENT_HEAD_BYTES + two_bytes(query[0], query[1]);
+    if file > len {
+        return false;
+    }
+    let got = bolz_edit_set(
+        &query[file..len],
+        &query[LENT_HEAD_BYTES..file],
+        &mut outs[0..out_len],
+    );
+    got == stored(head, result.len()) && holds(outs, result, FILL)
+}
+
 pub(crate) fn as_stored(head: &[u8], query: &[u8], result: &[u8]) -> bool {
     let mut works = [FILL; MOST_WORK];
     let mut outs = [FILL; MOST_OUT];
@@ -240,6 +278,8 @@ pub(crate) fn as_stored(head: &[u8], query: &[u8], result: &[u8]) -> bool {
         VERIFY => verify_as_stored(head, query, result, &mut outs),
         SOLVE => solve_as_stored(head, query, result, &mut works, &mut outs),
         WRITE => write_as_stored(head, query, result, &mut outs),
+        ADD => add_as_stored(head, query, result, &mut outs),
+        EDIT => edit_as_stored(head, query, result, &mut outs),
         ORIGINAL => verdict_as_stored(head, query, &mut outs),
         _ => false,
     }

@@ -16,6 +16,7 @@ pub const Z: u8 = 6;
 /// Layers in a byte for each node, and in two.
 pub const LAYERS: u16 = 0x0011;
 pub const WIDE_LAYERS: u16 = 0x0021;
+pub const SETS: u16 = 0x0012;
 /// The highest layer that 0021 can hold.
 pub const HIGHEST_LAYER: usize = 65_535;
 
@@ -85,14 +86,14 @@ impl Flow {
         let layers: Vec<u8> = self.layers.iter().flat_map(bytes_of).collect();
         let mut out = Vec::new();
         put_record(&mut out, self.kind, &layers);
-        put_record(&mut out, 0x0012, &sets);
+        put_record(&mut out, SETS, &sets);
         out
     }
 
     /// The flow of n nodes in these bytes; none where they are no flow file, with nothing left in it and of the right lengths: written again,
     /// the flow gives the same bytes.
     pub fn read(bytes: &[u8], n: usize) -> Option<Flow> {
-        let [layers, (0x0012, sets)] = records(bytes)?[..] else { return None };
+        let [layers, (SETS, sets)] = records(bytes)?[..] else { return None };
         let flow = Flow { kind: layers.0, layers: layers_of(layers)?, sets: entries(sets) };
         (flow.layers.len() == n && flow.bytes() == bytes).then_some(flow)
     }

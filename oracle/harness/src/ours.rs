@@ -1,12 +1,16 @@
 //! The proved library, called as C calls it.
 
 pub const WORK_BYTES: usize = 2048;
-/// Room for any result.
+/// Room for any result of finder, verifier and job writer.
 pub const OUT_BYTES: usize = 16908;
+/// Room for any flow file, its signal lists included.
+pub const FLOW_BYTES: usize = 21016;
 
 unsafe extern "C" {
     fn bolz_find(file: *const u8, len: usize, work: *mut u8, work_len: usize, out: *mut u8, out_len: usize) -> u64;
     fn bolz_verify(file: *const u8, len: usize, out: *mut u8, out_len: usize) -> u64;
+    fn bolz_add_signals(file: *const u8, len: usize, out: *mut u8, out_len: usize) -> u64;
+    fn bolz_edit_set(file: *const u8, len: usize, entry: *const u8, entry_len: usize, out: *mut u8, out_len: usize) -> u64;
     fn bolz_write_job(
         n: usize,
         mode: usize,
@@ -57,6 +61,16 @@ pub fn find(file: &[u8], work: &mut [u8], out: &mut [u8]) -> Answer {
 pub fn verify(file: &[u8], out: &mut [u8]) -> Answer {
     // SAFETY: each pointer goes with its slice's length.
     decoded(unsafe { bolz_verify(file.as_ptr(), file.len(), out.as_mut_ptr(), out.len()) })
+}
+
+pub fn add_signals(file: &[u8], out: &mut [u8]) -> Answer {
+    // SAFETY: each pointer goes with its slice's length.
+    decoded(unsafe { bolz_add_signals(file.as_ptr(), file.len(), out.as_mut_ptr(), out.len()) })
+}
+
+pub fn edit_set(file: &[u8], entry: &[u8], out: &mut [u8]) -> Answer {
+    // SAFETY: each pointer goes with its slice's length.
+    decoded(unsafe { bolz_edit_set(file.as_ptr(), file.len(), entry.as_ptr(), entry.len(), out.as_mut_ptr(), out.len()) })
 }
 
 /// The lists are edges, inputs, outputs and measurements.

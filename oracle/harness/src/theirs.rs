@@ -1,6 +1,6 @@
 //! The original, from bytes to bytes.
 
-use crate::jobs::{CAUSAL, LAYERS, PLANES, Record, X, XY, XZ, Y, YZ, Z, layers_of, put_record, records};
+use crate::jobs::{CAUSAL, LAYERS, PLANES, Record, SETS, X, XY, XZ, Y, YZ, Z, layers_of, put_record, records};
 use hashbrown::HashMap;
 use original::common::{FlowValidationError, Graph, Layer, Nodes};
 use original::flow;
@@ -79,7 +79,7 @@ fn write(found: Option<(Sets, Layer)>, out: &mut Vec<u8>) {
         entries[start..].sort_unstable();
     }
     put_record(out, LAYERS, &layers);
-    put_record(out, 0x0012, &entries);
+    put_record(out, SETS, &entries);
 }
 
 /// How many nodes and measurements the job in the records has, once the original's graph, sets and table are made of them.

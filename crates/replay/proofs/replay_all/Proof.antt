@@ -6,52 +6,28 @@ use Rattle.replay.proofs.replay_all.Statement.{statement}
 use Rattle.replay.proofs.replay_all.Tie as tie
 
 abbrev Inv-loop : tie.InvT-loop
-Inv-loop bytes equal₀ len at₀ entries₀ equal at entries = (len ≡ length bytes) × (at ≤ len) × (length equal ≡ length equal₀) × (entries ≤ at)
+Inv-loop bytes₀ equal₀ entries₀ bytes equal entries = (length bytes ≡ length bytes₀) × (length equal ≡ length equal₀) × (entries ≤ 1048576)
 
 abbrev μ-loop : tie.MeasureT-loop
-μ-loop bytes equal₀ len at₀ entries₀ equal at entries = len - at
+μ-loop bytes₀ equal₀ entries₀ bytes equal entries = 1048576 - entries
 
 loop-holds : tie.Need-loop-holds Inv-loop μ-loop
 loop-holds c = search needs
 
-sub-replay-one : tie.Need-sub-replay-one Inv-loop μ-loop
-sub-replay-one c = search needs
-
-part-replay-one-start : tie.Need-part-replay-one-start Inv-loop μ-loop
-part-replay-one-start c = search needs
-
-part-replay-one-end : tie.Need-part-replay-one-end Inv-loop μ-loop
-part-replay-one-end c = search needs
-
-replay-one-requires : tie.Need-replay-one-requires Inv-loop μ-loop
-replay-one-requires c κs = search needs
-
-cut-requires : tie.Need-cut-requires Inv-loop μ-loop
-cut-requires c κs = search needs
+replay-next-requires : tie.Need-replay-next-requires Inv-loop μ-loop
+replay-next-requires c κs = search needs
 
 same-length : tie.Need-same-length Inv-loop μ-loop
 same-length c = search needs
 
-returns : tie.Need-returns Inv-loop μ-loop
-returns c = search needs
-
-sub-if2 : tie.Need-sub-if2 Inv-loop μ-loop
-sub-if2 c = search needs
-
-cut-requires-2 : tie.Need-cut-requires-2 Inv-loop μ-loop
-cut-requires-2 c κs = search needs
-
 same-length-2 : tie.Need-same-length-2 Inv-loop μ-loop
 same-length-2 c = search needs
 
-returns-2 : tie.Need-returns-2 Inv-loop μ-loop
-returns-2 c = search needs
+returns : tie.Need-returns Inv-loop μ-loop
+returns c = search needs
 
 add-entries : tie.Need-add-entries Inv-loop μ-loop
 add-entries c = search needs
-
-add-at : tie.Need-add-at Inv-loop μ-loop
-add-at c = search needs
 
 loop-less : tie.Need-loop-less Inv-loop μ-loop
 loop-less c = search needs
@@ -62,8 +38,11 @@ loop-again c = search needs
 same-length-3 : tie.Need-same-length-3 Inv-loop μ-loop
 same-length-3 c = search needs
 
-returns-3 : tie.Need-returns-3 Inv-loop μ-loop
-returns-3 c = search needs
+same-length-4 : tie.Need-same-length-4 Inv-loop μ-loop
+same-length-4 c = search needs
+
+returns-2 : tie.Need-returns-2 Inv-loop μ-loop
+returns-2 c = search needs
 
 pub replay-all-spec : {M : Type 1} → statement M
 replay-all-spec =
@@ -72,20 +51,13 @@ replay-all-spec =
     Inv-loop
     μ-loop
     loop-holds
-    sub-replay-one
-    part-replay-one-start
-    part-replay-one-end
-    replay-one-requires
-    cut-requires
+    replay-next-requires
     same-length
-    returns
-    sub-if2
-    cut-requires-2
     same-length-2
-    returns-2
+    returns
     add-entries
-    add-at
     loop-less
     loop-again
     same-length-3
-    returns-3)
+    same-length-4
+    returns-2)

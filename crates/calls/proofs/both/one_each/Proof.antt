@@ -1,8 +1,8 @@
 use mathlib.Core.Path.{refl, _∙_}
 use borrow.Author.Tests.{eq-eqb, ne-eqb}
 use borrow.Author.Needs.{needs}
-use Rattle.calls.proofs.verify.one_each.Statement.{statement}
-use Rattle.calls.proofs.verify.one_each.Tie as tie
+use Rattle.calls.proofs.both.one_each.Statement.{statement}
+use Rattle.calls.proofs.both.one_each.Tie as tie
 
 returns : tie.Need-returns
 returns c = rw (ne-eqb _ 1 (c .if1 .taken)) refl
