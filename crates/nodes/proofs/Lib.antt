@@ -1,6 +1,7 @@
 pub mod Logic
 pub mod Row
 pub mod Lists
+pub mod MaskTable
 pub mod Count
 pub mod Members
 pub mod Remove

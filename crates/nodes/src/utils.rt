@@ -10,6 +10,8 @@ ghost use Rattle.nodes.specs.Row.{anyBelow, allBelow, count, lowest, mem
 ghost use Rattle.nodes.specs.NodeSet.{wordBits, highest, capacity, wordsOf, member};
 ghost use Rattle.nodes.specs.Lists.{zeros};
 ghost use Rattle.nodes.specs.SetTable.{setAt, putSet, addSet, addSets, raised};
+use crate::masks::MASKS;
+use crate::masks::entry;
 
 pub const WORD_BITS: usize = 64;
 
@@ -28,7 +30,7 @@ pub const TABLE_WORDS: usize = CAPACITY * SET_WORDS;
 pub fn mask(v: usize) -> u64
     ensures { λ r. ⌜ r ≡ 2 ^ (v % wordBits) ⌝ }
 {
-    1 << (v % WORD_BITS)
+    entry(MASKS, v % WORD_BITS)
 }
 
 pub struct NodeSet {
