@@ -12,7 +12,7 @@ use Rattle.nodes.specs.NodeSet.{wordBits}
 use Rattle.nodes.specs.Row.{allBelow}
 use Rattle.nodes.proofs.Row.{all-out}
 
--- the table, which the code's constant must be
+-- the table by a formula; that the code's constant is this table is computed in the proof of `mask`
 abbrev pub masks : List (List ℕ)
 masks = listOf (wordBits / rowLength) (λ r. listOf rowLength (λ i. 2 ^ (rowLength * r + i)))
 
