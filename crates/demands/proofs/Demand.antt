@@ -25,16 +25,15 @@ use Rattle.solver.specs.Solver.{workBytes}
 use Rattle.demands.specs.Calls.{modeOf, hasSearch, put, findOutcome, findAsks, findCall, foundBytes, search}
 use Rattle.records.specs.Splice.{fitsIn}
 use Rattle.records.specs.Writing.{flowBytes, mostOutput}
-use Rattle.demands.specs.Demand.{premise, Accepted, FlowBytes, layerIn, DemandHolds, Demand3}
+use Rattle.demands.specs.Demand.{Accepted, FlowBytes, layerIn, DemandHolds, Demand3}
 use Rattle.answers.proofs.Answer.{give-inj, never, bind-out, asks-out}
 use Rattle.records.proofs.Encoding.{job-asked, flow-asked}
-use Rattle.records.proofs.JobFile.{edge-loop}
 use Rattle.records.proofs.FlowFile.{nothing-left, one-member-other}
 use Rattle.records.proofs.Records.{written-length}
 use Rattle.records.proofs.Writing.{found-most, found-reads, found-valid, found-layer, found-entry, found-set, no-flow-unread}
 use Rattle.verdicts.proofs.Verdict.{domain-asked, initial-asked, definition-asked}
 use Rattle.verdicts.proofs.Rule.{Readable, verify-rule, found-rule, rule-smallest}
-use Rattle.demands.proofs.Judging.{Judged, judged-in, judged-out, searched-works, causal-works, readable, planes}
+use Rattle.demands.proofs.Judging.{Judged, judged-in, judged-out, searched-works, causal-works, readable}
 
 -- ---- a job in mode 2 or 3
 module _ (file : List ℕ) (f : JobFile) (reads : readJob file ≡ gives f) (ends : f .after ≡ []) (searched : (modeOf f ≡ modePlanes) ⊎ (modeOf f ≡ modePauli)) where
@@ -84,14 +83,13 @@ module _ (file : List ℕ) (f : JobFile) (reads : readJob file ≡ gives f) (end
     found-judged = record { reads = found-reads j s (valid .few); nothing = refl; single = (true, one-member-other (f .mode) (g .sets) (λ e. not-causal (causal-works f e))); accepted = found-verified; matches = refl }
 
   -- ---- (b) every accepted flow gives each node at least the layer of the found one
-  module _ (p : T (premise f)) (other : List ℕ) (h : FlowFile) (q : Judged f other h) where
+  module _ (other : List ℕ) (h : FlowFile) (q : Judged f other h) where
     reads-other : Readable j (flowOf h)
     reads-other = readable f valid h (flow-asked (f .n) other h (valid .few) (q .reads))
 
     pub smallest-found : (s : Progress) × (findAt j pauli ≡ some s) × ((u : ℕ) → u < j .nodes → s .layer u ≤ flowOf h .layer u)
     smallest-found =
-        rule-smallest j (flowOf h) reads-other (modeOf f) searched (planes f valid) (λ u. edge-loop f valid u) p
-        (verify-rule j (flowOf h) reads-other (modeOf f) searched .0 (q .accepted))
+        rule-smallest j (flowOf h) reads-other (modeOf f) searched (verify-rule j (flowOf h) reads-other (modeOf f) searched .0 (q .accepted))
 
   -- ---- the three parts, of the bytes that the finder writes
   bytes-of : (o : Option Progress) → search (modeOf f) j ≡ o → foundBytes f ≡ flowBytes j o
@@ -120,10 +118,10 @@ module _ (file : List ℕ) (f : JobFile) (reads : readJob file ≡ gives f) (end
   judged-flow : (other : List ℕ) (h : FlowFile) → FlowBytes (f .n) other h → Accepted file other → Judged f other h
   judged-flow other h r a = let (g, q) = judged-out file f reads ends other true a in subst (Judged f other) (give-inj (sym (q .reads) ∙ r .0)) q
 
-  other-smallest : T (premise f) → (other : List ℕ) (h : FlowFile) → FlowBytes (f .n) other h → Accepted file other
+  other-smallest : (other : List ℕ) (h : FlowFile) → FlowBytes (f .n) other h → Accepted file other
       → (g : FlowFile) × FlowBytes (f .n) (foundBytes f) g × ((u : ℕ) → u < f .n → layerIn g u ≤ layerIn h u)
-  other-smallest p other h r a =
-      let (s, e, l) = smallest-found p other h (judged-flow other h r a) in
+  other-smallest other h r a =
+      let (s, e, l) = smallest-found other h (judged-flow other h r a) in
       (foundFlow j s, reads-back s e, λ u m. subst (λ (x : ℕ). x ≤ layerIn h u) (sym (found-layer j s u m)) (l u m))
 
   pub demand-holds : DemandHolds file f (foundBytes f)
@@ -131,7 +129,7 @@ module _ (file : List ℕ) (f : JobFile) (reads : readJob file ≡ gives f) (end
     flowOrNone = flow-or-none found-cases;
     accepts = λ g r. accepts′ g (r .0) found-cases;
     smallest = other-smallest;
-    noFlow = λ p. ((λ e other h k a. let (g, r, l) = other-smallest p other h k a in no-flow-unread (f .n) g (subst (λ (x : List ℕ). readFlow (f .n) x ≡ gives g) e (r .0))), λ n. by-none n found-cases);
+    noFlow = ((λ e other h k a. let (g, r, l) = other-smallest other h k a in no-flow-unread (f .n) g (subst (λ (x : List ℕ). readFlow (f .n) x ≡ gives g) e (r .0))), λ n. by-none n found-cases);
   }
     where
       flow-or-none : (findAt j pauli ≡ none) ⊎ ((s : Progress) × (findAt j pauli ≡ some s)) → ((g : FlowFile) × FlowBytes (f .n) (foundBytes f) g) ⊎ (foundBytes f ≡ written kindNoFlow [])

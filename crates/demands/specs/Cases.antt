@@ -151,16 +151,16 @@ caseA = finder jobA flowA (flowA ∷ oldFlowA ∷ [])
 abbrev pub caseB : Case
 caseB = finder (job 0 2 [] [] [] []) (flow [] []) (flow [] [] ∷ [])
 
--- no flow; yet set {0}, layer 1 is accepted
+-- needs no column: set {0}, layer 1
 abbrev pub caseC : Case
-caseC = finder (alone 2 2) noFlow (aloneFlow 1 ∷ [])
+caseC = finder (alone 2 2) (aloneFlow 1) (aloneFlow 1 ∷ [])
 
 abbrev pub caseD : Case
 caseD = finder (isolated 2 2) (isolatedFlow 1) (isolatedFlow 1 ∷ [])
 
--- layer 1; yet layer 0 is accepted
+-- needs no column: layer 0; layer 1, the Rust's, is accepted too
 abbrev pub caseE : Case
-caseE = finder (isolated 3 6) (isolatedFlow 1) (isolatedFlow 1 ∷ isolatedFlow 0 ∷ [])
+caseE = finder (isolated 3 6) (isolatedFlow 0) (isolatedFlow 0 ∷ isolatedFlow 1 ∷ [])
 
 -- set {0}, accepted; and Backens forbids an input in any set
 abbrev pub caseF : Case
@@ -221,20 +221,21 @@ ownInput = finder (jobF 3) flowF (flowF ∷ [])
 abbrev pub ownInputForbidden : Case
 ownInputForbidden = unpublished (jobF 3) flowF
 
--- a Z node alone: no flow; yet set {0}, layer 0 is accepted
-abbrev pub missedFlow : Case
-missedFlow = finder (alone 3 6) noFlow (aloneFlow 0 ∷ [])
+-- ---- and of those between the Rust and ours
+-- a Z node alone, which needs no column: set {0}, layer 0
+abbrev pub loneZ : Case
+loneZ = finder (alone 3 6) (aloneFlow 0) (aloneFlow 0 ∷ [])
 
--- the flows that the finder misses here and in case C, and that of the smaller layer in case E, are flows by their papers
-abbrev pub missedZ : Case
-missedZ = published (alone 3 6) (aloneFlow 0) accepted
+-- the flows that the Rust misses, here and in case C, and that of the smaller layer in case E, are flows by their papers
+abbrev pub publishedZ : Case
+publishedZ = published (alone 3 6) (aloneFlow 0) accepted
 
-abbrev pub missedC : Case
-missedC = published (alone 2 2) (aloneFlow 1) accepted
+abbrev pub publishedC : Case
+publishedC = published (alone 2 2) (aloneFlow 1) accepted
 
-abbrev pub missedE : Case
-missedE = published (isolated 3 6) (isolatedFlow 0) accepted
+abbrev pub publishedE : Case
+publishedE = published (isolated 3 6) (isolatedFlow 0) accepted
 
 abbrev pub differences : List Case
 differences =
-    raisedOutput 1 ∷ raisedOutput 2 ∷ raisedOutput 3 ∷ lowNode ∷ ownInput ∷ ownInputForbidden ∷ missedFlow ∷ missedZ ∷ missedC ∷ missedE ∷ []
+    raisedOutput 1 ∷ raisedOutput 2 ∷ raisedOutput 3 ∷ lowNode ∷ ownInput ∷ ownInputForbidden ∷ loneZ ∷ publishedZ ∷ publishedC ∷ publishedE ∷ []

@@ -1,20 +1,15 @@
 -- Demand 3 as one proposition about the calls, over all jobs and all flows, both modes.
 use Prim.Native.Nat.{ℕ, _≤_, _<_}
 use mathlib.Core.Path.{_≡_}
-use mathlib.Core.Bool.{Bool, true}
+use mathlib.Core.Bool.{true}
 use mathlib.Core.List.{List, [], _++_}
 use mathlib.Core.Logic.{_↔_, _⊎_}
-use lib.Dec.{T, eqb}
 use lib.ListN.{getD, take}
-use Rattle.flows.specs.Premise.{premiseAt}
 use Rattle.answers.specs.Answer.{gives}
 use Rattle.records.specs.Records.{written, kindNoFlow}
-use Rattle.records.specs.JobFile.{JobFile, readJob, jobOf, modePauli}
+use Rattle.records.specs.JobFile.{JobFile, readJob}
 use Rattle.records.specs.FlowFile.{FlowFile, readFlow}
-use Rattle.demands.specs.Calls.{modeOf, findCall, verifyAsks}
-
-abbrev pub premise : JobFile → Bool
-premise f = premiseAt (jobOf f) (eqb (modeOf f) modePauli)
+use Rattle.demands.specs.Calls.{findCall, verifyAsks}
 
 -- a flow is accepted for a job: no question of the verifier, the writer's aside, is answered no
 abbrev pub Accepted : (job flow : List ℕ) → Type 0
@@ -32,9 +27,9 @@ layerIn g u = getD (g .layers) u 0
 pub record DemandHolds (file : List ℕ) (job : JobFile) (wrote : List ℕ) : Type 0 where
   pub flowOrNone : ((g : FlowFile) × FlowBytes (job .n) wrote g) ⊎ (wrote ≡ written kindNoFlow [])
   pub accepts : (g : FlowFile) → FlowBytes (job .n) wrote g → Accepted file wrote
-  pub smallest : T (premise job) → (other : List ℕ) (h : FlowFile) → FlowBytes (job .n) other h → Accepted file other
+  pub smallest : (other : List ℕ) (h : FlowFile) → FlowBytes (job .n) other h → Accepted file other
       → (g : FlowFile) × FlowBytes (job .n) wrote g × ((u : ℕ) → u < job .n → layerIn g u ≤ layerIn h u)
-  pub noFlow : T (premise job) → (wrote ≡ written kindNoFlow [] ↔ ((other : List ℕ) (h : FlowFile) → FlowBytes (job .n) other h → Accepted file other → ⊥))
+  pub noFlow : wrote ≡ written kindNoFlow [] ↔ ((other : List ℕ) (h : FlowFile) → FlowBytes (job .n) other h → Accepted file other → ⊥)
 
 -- Wherever no question refuses the finder's call, 20 included: the bytes written are the first `k` of the result buffer.
 abbrev pub Demand3 : Type 0

@@ -3,16 +3,15 @@ use Prim.Native.Nat.{ℕ, zero, suc, _+_, _<_}
 use mathlib.Core.Path.{_≡_, refl, sym, ap, subst}
 use mathlib.Core.Bool.{Bool, true, false, cond, _&&_}
 use mathlib.Core.Logic.{_⊎_, inl, inr}
-use mathlib.Core.Option.{Option, none, some, Option·none-ne-some}
+use mathlib.Core.Option.{Option, none, some}
 use lib.Dec.{T, eqb, eqb→eq}
-use Rattle.nodes.specs.Row.{anyBelow}
 use Rattle.nodes.proofs.Logic.{and-r, or-out}
 use Rattle.flows.specs.Job.{Job}
 use Rattle.flows.specs.Branch.{Context, inSet, branches, tryNode}
-use Rattle.flows.specs.Search.{Progress, start, solvedNow, orNone, round, rounds, begun, noNode}
-use Rattle.flows.specs.Tries.{contextAt, noColumnAt, tryAt}
+use Rattle.flows.specs.Search.{Progress, start, solvedNow, orNone, round, solvesSome, rounds, begun, noNode}
+use Rattle.flows.specs.Tries.{contextAt, tryAt}
 use Rattle.finder.specs.Searches.{progressAt}
-use Rattle.flows.proofs.Search.{never, rounds-step, Ended}
+use Rattle.flows.proofs.Search.{rounds-step}
 use Rattle.flows.proofs.Tries.{first-of, branch-answer}
 use Rattle.finder.proofs.Rounds.{progress-ended}
 
@@ -46,27 +45,22 @@ module _ (n : ℕ) (try : (ℕ → Bool) → ℕ → Option (ℕ → Bool)) (bel
       go true (some x) f = f x refl
       go false o f = h u l
 
-  pub rounds-below : (stops : Progress → Bool) (k r : ℕ) (s : Progress) → SetsBelow s → SetsBelow (rounds stops try n k r s)
+  pub rounds-below : (k r : ℕ) (s : Progress) → SetsBelow s → SetsBelow (rounds try n k r s)
   unfolding rounds
-  rounds-below stops zero r s h = h
-  rounds-below stops (suc k) r s h = go (rounds-step stops try n k r s) (rounds-below stops k (r + 1) (round (try (s .solved)) r s) (round-below (s .solved) r s h))
+  rounds-below zero r s h = h
+  rounds-below (suc k) r s h = go (rounds-step try n k r s) (rounds-below k (r + 1) (round (try (s .solved)) r s) (round-below (s .solved) r s h))
     where
-      go : (Ended stops try n s × (rounds stops try n (suc k) r s ≡ s))
-          ⊎ (T (anyBelow n (solvedNow (try (s .solved)) s)) × (rounds stops try n (suc k) r s ≡ rounds stops try n k (r + 1) (round (try (s .solved)) r s)))
-          → SetsBelow (rounds stops try n k (r + 1) (round (try (s .solved)) r s)) → SetsBelow (rounds stops try n (suc k) r s)
+      go : ((solvesSome try n s ≡ false) × (rounds try n (suc k) r s ≡ s)) ⊎ (T (solvesSome try n s) × (rounds try n (suc k) r s ≡ rounds try n k (r + 1) (round (try (s .solved)) r s)))
+          → SetsBelow (rounds try n k (r + 1) (round (try (s .solved)) r s)) → SetsBelow (rounds try n (suc k) r s)
       go (inl (e, p)) ih = rw p h
       go (inr (t, p)) ih = rw p ih
 
 -- ---- both searches
 try-below : (pauli : Bool) (j : Job) (later : ℕ → Bool) (u : ℕ) → u < j .nodes → (set : ℕ → Bool) → tryAt j pauli later u ≡ some set → Below (j .nodes) set
-try-below pauli j later u l set e = go (noColumnAt j pauli later u) e
-  where
-    go : (b : Bool) → cond b none (tryNode j (contextAt j pauli later u) u) ≡ some set → Below (j .nodes) set
-    go true e = absurd (Option·none-ne-some _ e)
-    go false e = node-below j (contextAt j pauli later u) u l set e
+try-below pauli j later u = node-below j (contextAt j pauli later u) u
 
 pub progress-below : (pauli : Bool) (j : Job) (u : ℕ) → u < j .nodes → Below (j .nodes) (progressAt pauli j .set u)
-progress-below pauli j = rw (progress-ended pauli j) (rounds-below (j .nodes) (tryAt j pauli) (try-below pauli j) never (j .nodes) 1 (begun pauli (tryAt j pauli) (j .output)) (first pauli))
+progress-below pauli j = rw (progress-ended pauli j) (rounds-below (j .nodes) (tryAt j pauli) (try-below pauli j) (j .nodes) 1 (begun pauli (tryAt j pauli) (j .output)) (first pauli))
   where
     first : (b : Bool) → SetsBelow (j .nodes) (tryAt j pauli) (try-below pauli j) (begun b (tryAt j pauli) (j .output))
     first true = round-below (j .nodes) (tryAt j pauli) (try-below pauli j) noNode 0 (start (j .output)) (start-below (j .nodes) (tryAt j pauli) (try-below pauli j) (j .output))

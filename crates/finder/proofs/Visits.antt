@@ -8,16 +8,16 @@ use mathlib.Core.Option.{none, Option, some}
 use native.Mathlib.Omega.{arith}
 use lib.Dec.{T, eqb, leb, ltb, eqb→eq, le→leb}
 use Rattle.nodes.specs.Bit.{_⊕_}
-use Rattle.nodes.specs.Row.{anyBelow, allBelow, count}
+use Rattle.nodes.specs.Row.{allBelow, count}
 use Rattle.nodes.specs.NodeSet.{capacity, highest, member, wordsOf}
 use Rattle.nodes.proofs.Logic.{is-true, is-false, from-true, from-false, both-ways, dec, and-l, and-r, and-in, and-none, and-all, or-l, or-r, or-none, not-in, not-out, eqb-yes, lt-or-ge, ⊕-eq, eqb-no}
 use Rattle.nodes.proofs.Row.{any-in, any-none, all-in, all-out, ltb-yes, ltb-no}
 use Rattle.nodes.proofs.Count.{Within, count-le, grows}
 use Rattle.nodes.proofs.Remove.{removed}
 use Rattle.nodes.specs.Options.{isSome}
-use Rattle.flows.specs.Search.{Progress, noNode, orNone, start, solvedNow, round, rounds, firstRound, searchFrom}
+use Rattle.flows.specs.Search.{Progress, noNode, orNone, start, solvedNow, round, solvesSome, rounds, firstRound, searchFrom}
 use Rattle.finder.specs.Visits.{cutTo, placed, visited, progressIn}
-use Rattle.flows.proofs.Search.{never, Ended, fresh-open, rounds-step, rounds-idle, rounds-enough}
+use Rattle.flows.proofs.Search.{fresh-open, rounds-step, rounds-idle, rounds-enough}
 use Rattle.flows.proofs.Progress.{SameProgress, progress-sym, progress-trans, round-agree, rounds-agree}
 use mathlib.Core.List.{List}
 use native.Mathlib.Decide.{ℕ-discrete}
@@ -212,7 +212,7 @@ module _ (try : ℕ → Option (ℕ → Bool)) (r : ℕ) (p : Progress) where
 module _ (try : (ℕ → Bool) → ℕ → Option (ℕ → Bool)) (n : ℕ) where
   -- what the rounds from r on make of s
   abbrev onward : ℕ → Progress → Progress
-  onward = rounds never try n n
+  onward = rounds try n n
 
   -- Before round r, with s found so far, the search is on its way to w: this round, where the nodes `later` are later than all of it,
   -- and those behind it lead there. They are no more than the nodes that can still become later.
@@ -226,26 +226,25 @@ module _ (try : (ℕ → Bool) → ℕ → Option (ℕ → Bool)) (n : ℕ) wher
 module _ (try : (ℕ → Bool) → ℕ → Option (ℕ → Bool)) (n : ℕ)
     (ext : (later later′ : ℕ → Bool) → ((v : ℕ) → v < n → later v ≡ later′ v) → (u : ℕ) → try later u ≡ try later′ u) where
   onward-agree : (r : ℕ) (s t : Progress) → SameProgress n s t → SameProgress n (onward try n r s) (onward try n r t)
-  onward-agree = rounds-agree never try n (λ x y q. refl) (λ x y q u l. ext x y q u) n
+  onward-agree = rounds-agree try n (λ x y q u l. ext x y q u) n
 
   -- the first of the rounds, which may be idle
   onward-step : (r : ℕ) (s : Progress) → SameProgress n (onward try n (r + 1) (round (try (s .solved)) r s)) (onward try n r s)
-  onward-step r s = by (rounds-step never try n n r s)
+  onward-step r s = by (rounds-step try n n r s)
     where
       next : Progress
       next = round (try (s .solved)) r s
 
-      by : (Ended never try n s × (rounds never try n (suc n) r s ≡ s)) ⊎ (T (anyBelow n (solvedNow (try (s .solved)) s)) × (rounds never try n (suc n) r s ≡ onward try n (r + 1) next))
+      by : ((solvesSome try n s ≡ false) × (rounds try n (suc n) r s ≡ s)) ⊎ (T (solvesSome try n s) × (rounds try n (suc n) r s ≡ onward try n (r + 1) next))
           → SameProgress n (onward try n (r + 1) next) (onward try n r s)
-      by (inl (inl x, p)) = absurd x
-      by (inl (inr e, p)) =
+      by (inl (e, p)) =
           progress-trans (onward-agree (r + 1) next s (record { solved = λ u l. rw (none′ u l) (or-none (s .solved u)); layer = λ u l. rw (none′ u l); set = λ u l. rw (none′ u l) }))
-          (progress-same (rounds-idle never try n n (r + 1) s e ∙ sym (rounds-idle never try n n r s e)))
+          (progress-same (rounds-idle try n n (r + 1) s e ∙ sym (rounds-idle try n n r s e)))
         where
           none′ : (u : ℕ) → u < n → solvedNow (try (s .solved)) s u ≡ false
-          none′ u l = is-false (solvedNow (try (s .solved)) s u) (λ a. from-false (anyBelow n (solvedNow (try (s .solved)) s)) e (any-in n (solvedNow (try (s .solved)) s) u l a))
+          none′ u l = is-false (solvedNow (try (s .solved)) s u) (λ a. from-false (solvesSome try n s) e (any-in n (solvedNow (try (s .solved)) s) u l a))
       by (inr (a, p)) =
-          let h = count-le n (λ u. not (s .solved u)) in progress-same (sym p ∙ rounds-enough never try n (suc n) n r s (omega arith) h)
+          let h = count-le n (λ u. not (s .solved u)) in progress-same (sym p ∙ rounds-enough try n (suc n) n r s (omega arith) h)
 
   -- what round r has made of s
   module _ (w : Progress) (r : ℕ) (later : ℕ → Bool) (s t : Progress) (g : Pending try n w r later s) (e : t ≡ cutTo n (round (try later) r s)) where
@@ -263,7 +262,7 @@ module _ (try : (ℕ → Bool) → ℕ → Option (ℕ → Bool)) (n : ℕ)
 
     -- no more nodes are later: the search is at its end
     pub pending-end : n ≤ capacity → unchanged ≡ true → t ≡ cutTo n w
-    pending-end h q = cut-again n t (round (try later) r s) e ∙ cut-ext n t w (rw (rounds-idle never try n n (r + 1) t quiet) at led)
+    pending-end h q = cut-again n t (round (try later) r s) e ∙ cut-ext n t w (rw (rounds-idle try n n (r + 1) t quiet) at led)
       where
         as-before : (u : ℕ) → u < n → t .solved u ≡ later u
         as-before u l =
@@ -271,7 +270,7 @@ module _ (try : (ℕ → Bool) → ℕ → Option (ℕ → Bool)) (n : ℕ)
             (is-false (t .solved u ⊕ later u)
             (not-out (t .solved u ⊕ later u) (all-out capacity (λ u. not (t .solved u ⊕ later u)) (from-true unchanged q) u (omega arith))))
 
-        quiet : anyBelow n (solvedNow (try (t .solved)) t) ≡ false
+        quiet : solvesSome try n t ≡ false
         quiet = any-none n (solvedNow (try (t .solved)) t) (λ u l a. fresh-open (try (t .solved)) t u (now-solved u l a (dec (s .solved u))) a)
           where
             now-solved : (u : ℕ) → u < n → T (solvedNow (try (t .solved)) t u) → T (s .solved u) ⊎ (T (s .solved u) → ⊥) → T (t .solved u)

@@ -7,7 +7,6 @@ use mathlib.Core.List.{List}
 use lib.Dec.{T, eqb}
 use lib.ListN.{length}
 use Rattle.nodes.specs.Bit.{_⊕_}
-use Rattle.nodes.specs.Row.{anyBelow}
 use Rattle.nodes.specs.NodeSet.{member, capacity}
 use Rattle.nodes.specs.SetTable.{setAt, tableWords}
 use Rattle.nodes.specs.declared.utils.NodeSet.{NodeSet}
@@ -76,6 +75,6 @@ tryListed n graph c u b = let tried = tryBranch (graphJob n graph) c u b in cond
 abbrev pub tryIn : (n : ℕ) (graph : List ℕ) → Context → (u m : ℕ) → Option (ℕ → Bool)
 tryIn n graph c u m = firstSolvable (graphJob n graph) c u (branches m)
 
--- where no column is left, u is passed over
+-- and that of u, which meets a context of its own
 abbrev pub tryFor : (n : ℕ) (graph : List ℕ) → Context → (u m : ℕ) → Option (ℕ → Bool)
-tryFor n graph c u m = let tried = tryIn n graph (forNode c u) u m in cond (not (anyBelow capacity (forNode c u .column))) none tried
+tryFor n graph c u m = tryIn n graph (forNode c u) u m

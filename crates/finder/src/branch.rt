@@ -160,7 +160,7 @@ fn try_branch(
 }
 
 // The branches of u's measurement m, by its row of the table, in order; the first that is solvable counts. 0 and numbers above 6 have
-// none. For u, u joins the upper rows and leaves the lower rows and the columns. Where no column is left, u is passed over.
+// none. For u, u joins the upper rows and leaves the lower rows and the columns.
 pub(crate) fn try_for(
     kernel: &[u64],
     reduced: &[u64],
@@ -177,10 +177,6 @@ pub(crate) fn try_for(
     requires { ⌜ Ready n (now graph) s echelon (now kernel) (now reduced) (now preimage) (now transposed) × Trying n s u alone ⌝ }
     ensures { λ r. ⌜ solutionOf r ≡ tryFor n (now (graph .entry)) (contextOf s) u m ⌝ }
 {
-    let columns = s.columns;
-    if columns.difference(alone).is_empty() {
-        return Solution::Nothing;
-    }
     if m < PLANE_XY {
         return Solution::Nothing;
     }

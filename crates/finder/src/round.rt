@@ -1,10 +1,8 @@
 // A round: one elimination serves all its nodes, which are visited one after the other.
 ghost use mathlib.Core.Path.{_≡_};
-ghost use mathlib.Core.Bool.{not, _&&_, _||_};
 ghost use Prim.Native.Nat.{ℕ, _≤_, _<_};
 ghost use lib.ListN.{length, getD};
 ghost use lib.Dec.{T, eqb};
-ghost use Rattle.nodes.specs.Row.{anyBelow};
 ghost use Rattle.nodes.specs.NodeSet.{member, capacity};
 ghost use Rattle.nodes.specs.SetTable.{tableWords};
 ghost use Rattle.solver.specs.Solver.{workBytes};
@@ -142,22 +140,7 @@ fn visit(
     q
 }
 
-// The search for planes stops where nothing is unsolved or no column exists: a round would solve nothing.
-fn stops(pauli: bool, s: Context) -> bool
-    ensures { λ r. ⌜ r ≡ (not pauli && (not (anyBelow capacity (member (s .upper))) || not (anyBelow capacity (member (s .columns))))) ⌝ }
-{
-    if pauli {
-        return false;
-    }
-    let upper = s.upper;
-    let columns = s.columns;
-    if upper.is_empty() {
-        return true;
-    }
-    columns.is_empty()
-}
-
-// One round, with the nodes that are later than all of it, solved ones.
+// One round, with the nodes that are later than all of it, solved ones. Where nothing is unsolved it would solve nothing.
 pub(crate) fn advance(
     pauli: bool,
     graph: &[u64],
@@ -181,10 +164,11 @@ pub(crate) fn advance(
     ensures { λ q. ⌜ Advanced pauli n (now (graph .entry)) inputs (now (measured .entry)) (member later) r (progressIn (state .solved) (now (layers .entry)) (now (sets .entry))) (progressIn (q .solved) (now (layers .exit)) (now (sets .exit))) ⌝ }
     ensures { λ q. ⌜ Sized n (now (measured .entry)) (now (work .exit)) (now (layers .exit)) (now (sets .exit)) × TablesFit (now (kernel .exit)) (now (reduced .exit)) (now (preimage .exit)) × Transposed (now (graph .entry)) (q .support) (now (transposed .exit)) ⌝ }
 {
-    let s = context(n, inputs, later, kinds);
-    if stops(pauli, s) {
+    let unsolved = NodeSet::below(n).difference(state.solved);
+    if unsolved.is_empty() {
         return state;
     }
+    let s = context(n, inputs, later, kinds);
     let plain = kinds.plain;
     let columns = s.columns;
     let support = transpose(graph, state.support, columns, transposed);

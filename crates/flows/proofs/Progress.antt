@@ -3,9 +3,8 @@ use Prim.Native.Nat.{ℕ, zero, suc, _+_, _<_}
 use mathlib.Core.Path.{_≡_, sym, _∙_}
 use mathlib.Core.Bool.{Bool, true, false, cond}
 use mathlib.Core.Option.{Option}
-use Rattle.nodes.specs.Row.{anyBelow}
 use Rattle.nodes.proofs.Row.{any-ext}
-use Rattle.flows.specs.Search.{Progress, solvedNow, round, rounds}
+use Rattle.flows.specs.Search.{Progress, solvedNow, round, solvesSome, rounds}
 
 pub record SameProgress (n : ℕ) (s t : Progress) : Type 0 where
   pub solved : (u : ℕ) → u < n → s .solved u ≡ t .solved u
@@ -28,20 +27,18 @@ round-agree n f g e r s t h = record {
   set = λ u l. rw (h .solved u l, h .set u l, e u l);
 }
 
-pub rounds-agree : (stops : Progress → Bool) (try : (ℕ → Bool) → ℕ → Option (ℕ → Bool)) (n : ℕ)
-    → ((s t : Progress) → SameProgress n s t → stops s ≡ stops t)
+pub rounds-agree : (try : (ℕ → Bool) → ℕ → Option (ℕ → Bool)) (n : ℕ)
     → ((later later′ : ℕ → Bool) → ((v : ℕ) → v < n → later v ≡ later′ v) → (u : ℕ) → u < n → try later u ≡ try later′ u)
-    → (k r : ℕ) (s t : Progress) → SameProgress n s t → SameProgress n (rounds stops try n k r s) (rounds stops try n k r t)
+    → (k r : ℕ) (s t : Progress) → SameProgress n s t → SameProgress n (rounds try n k r s) (rounds try n k r t)
 unfolding rounds
-rounds-agree stops try n p q zero r s t h = h
-rounds-agree stops try n p q (suc k) r s t h = go (stops s) (stops t) (p s t h) (anyBelow n (solvedNow (try (s .solved)) s)) (anyBelow n (solvedNow (try (t .solved)) t)) same-now (rounds-agree stops try n p q k (r + 1) (round (try (s .solved)) r s) (round (try (t .solved)) r t) (round-agree n (try (s .solved)) (try (t .solved)) (q (s .solved) (t .solved) (h .solved)) r s t h))
+rounds-agree try n q zero r s t h = h
+rounds-agree try n q (suc k) r s t h = go (solvesSome try n s) (solvesSome try n t) same-now (rounds-agree try n q k (r + 1) (round (try (s .solved)) r s) (round (try (t .solved)) r t) (round-agree n (try (s .solved)) (try (t .solved)) (q (s .solved) (t .solved) (h .solved)) r s t h))
   where
-    same-now : anyBelow n (solvedNow (try (s .solved)) s) ≡ anyBelow n (solvedNow (try (t .solved)) t)
+    same-now : solvesSome try n s ≡ solvesSome try n t
     same-now = any-ext n (solvedNow (try (s .solved)) s) (solvedNow (try (t .solved)) t) (now-agree n (try (s .solved)) (try (t .solved)) (q (s .solved) (t .solved) (h .solved)) s t h)
 
-    go : (a b : Bool) → a ≡ b → (c d : Bool) → c ≡ d
-        → SameProgress n (rounds stops try n k (r + 1) (round (try (s .solved)) r s)) (rounds stops try n k (r + 1) (round (try (t .solved)) r t))
-        → SameProgress n (cond a s (cond c (rounds stops try n k (r + 1) (round (try (s .solved)) r s)) s)) (cond b t (cond d (rounds stops try n k (r + 1) (round (try (t .solved)) r t)) t))
-    go true b e c d f ih = rw (← e) h
-    go false b e true d f ih = rw (← e, ← f) ih
-    go false b e false d f ih = rw (← e, ← f) h
+    go : (c d : Bool) → c ≡ d
+        → SameProgress n (rounds try n k (r + 1) (round (try (s .solved)) r s)) (rounds try n k (r + 1) (round (try (t .solved)) r t))
+        → SameProgress n (cond c (rounds try n k (r + 1) (round (try (s .solved)) r s)) s) (cond d (rounds try n k (r + 1) (round (try (t .solved)) r t)) t)
+    go true d f ih = rw (← f) ih
+    go false d f ih = rw (← f) h

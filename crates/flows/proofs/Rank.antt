@@ -8,13 +8,13 @@ use mathlib.Core.Option.{Option, none, some, Option·some-injective, Option·non
 use native.Mathlib.Omega.{arith}
 use native.Mathlib.Nat.{not-suc-le-zero, le-refl}
 use lib.Dec.{T}
-use Rattle.nodes.specs.Row.{anyBelow, allBelow, count}
+use Rattle.nodes.specs.Row.{allBelow, count}
 use Rattle.nodes.proofs.Logic.{is-true, dec, not-in, not-out, and-none}
 use Rattle.nodes.proofs.Row.{all-in, all-out, ltb-no}
 use Rattle.nodes.proofs.Count.{Within, count-le, grows}
 use Rattle.nodes.specs.Options.{isSome}
-use Rattle.flows.specs.Search.{Progress, noNode, start, solvedNow, rounds, firstRound, begun, searchFrom, ifSolved, laterThan}
-use Rattle.flows.proofs.Search.{never, Ended, rounds-end, rounds-enough, layers-below, Searched, step, searched-start, searched, SmallestTill, step-smallest, rounds-smallest}
+use Rattle.flows.specs.Search.{Progress, noNode, start, solvedNow, solvesSome, rounds, firstRound, begun, searchFrom, ifSolved, laterThan}
+use Rattle.flows.proofs.Search.{rounds-end, rounds-enough, layers-below, Searched, step, searched-start, searched, SmallestTill, step-smallest, rounds-smallest}
 
 -- a set within another has no more members
 count-within : (n : ℕ) (s t : ℕ → Bool) → Within n s t → count n s ≤ count n t
@@ -42,12 +42,8 @@ module _ (fromZero : Bool) (try : (ℕ → Bool) → ℕ → Option (ℕ → Boo
   ended = searchFrom fromZero try n output
 
   -- the end is a fixpoint: one more round would solve nothing; the bound on rounds is never what ends the search
-  pub fixpoint : anyBelow n (solvedNow (try (ended .solved)) ended) ≡ false
-  fixpoint = go (rounds-end never try n n 1 (begun fromZero try output) (count-le n (λ u. not (begun fromZero try output .solved u))))
-    where
-      go : Ended never try n ended → anyBelow n (solvedNow (try (ended .solved)) ended) ≡ false
-      go (inl t) = absurd t
-      go (inr e) = e
+  pub fixpoint : solvesSome try n ended ≡ false
+  fixpoint = rounds-end try n n 1 (begun fromZero try output) (count-le n (λ u. not (begun fromZero try output .solved u)))
 
   begun-searched : Searched n output try (firstRound fromZero) 1 (begun fromZero try output)
   begun-searched = go fromZero
@@ -63,13 +59,13 @@ module _ (fromZero : Bool) (try : (ℕ → Bool) → ℕ → Option (ℕ → Boo
   unsolved-most = count-within n (λ u. not (begun fromZero try output .solved u)) (λ u. not (output u)) (λ u l a. not-in (output u) (λ o. not-out (begun fromZero try output .solved u) a (begun-searched .outputs u o)))
 
   -- so that there are no more rounds than those, and round 0
-  ended-rounds : rounds never try n (count n (λ u. not (output u))) 1 (begun fromZero try output) ≡ ended
-  ended-rounds = rounds-enough never try n (count n (λ u. not (output u))) n 1 (begun fromZero try output) unsolved-most (count-le n (λ u. not (begun fromZero try output .solved u)))
+  ended-rounds : rounds try n (count n (λ u. not (output u))) 1 (begun fromZero try output) ≡ ended
+  ended-rounds = rounds-enough try n (count n (λ u. not (output u))) n 1 (begun fromZero try output) unsolved-most (count-le n (λ u. not (begun fromZero try output .solved u)))
 
   ended-searched : Searched n output try (firstRound fromZero) (1 + count n (λ u. not (output u))) ended
   ended-searched =
       subst (Searched n output try (firstRound fromZero) (1 + count n (λ u. not (output u)))) ended-rounds
-      (searched n output try (firstRound fromZero) never (count n (λ u. not (output u))) 1 (one-first fromZero) (begun fromZero try output) begun-searched)
+      (searched n output try (firstRound fromZero) (count n (λ u. not (output u))) 1 (one-first fromZero) (begun fromZero try output) begun-searched)
     where
       one-first : (c : Bool) → firstRound c ≤ 1
       one-first true = zero-le
@@ -78,7 +74,7 @@ module _ (fromZero : Bool) (try : (ℕ → Bool) → ℕ → Option (ℕ → Boo
   -- no layer exceeds the number of the nodes that are no outputs, found or not
   pub most-layer : (u : ℕ) → ended .layer u ≤ count n (λ u. not (output u))
   most-layer u =
-      omega (arith, subst (λ (s : Progress). s .layer u < 1 + count n (λ u. not (output u))) ended-rounds (layers-below never try n (count n (λ u. not (output u))) 1 (begun fromZero try output) (begun-layer fromZero) u))
+      omega (arith, subst (λ (s : Progress). s .layer u < 1 + count n (λ u. not (output u))) ended-rounds (layers-below try n (count n (λ u. not (output u))) 1 (begun fromZero try output) (begun-layer fromZero) u))
     where
       zero-either : (c : Bool) → cond c 0 0 < 1
       zero-either true = omega arith

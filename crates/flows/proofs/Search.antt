@@ -8,15 +8,12 @@ use mathlib.Core.Option.{Option, none, some}
 use native.Mathlib.Omega.{arith}
 use native.Mathlib.Nat.{not-suc-le-zero, le-step, lt-suc-self, le-of-suc-le-suc}
 use lib.Dec.{T, ltb, ltb→lt, lt→ltb}
-use Rattle.nodes.specs.Row.{anyBelow, count}
+use Rattle.nodes.specs.Row.{count}
 use Rattle.nodes.proofs.Logic.{is-true, is-false, from-false, dec, and-l, and-r, and-in, or-l, or-r, or-out, not-in, not-out, cond-t, cond-f, beq-eq, le-or-lt, and-none}
 use Rattle.nodes.proofs.Row.{any-in, any-out, any-none, ltb-no}
 use Rattle.nodes.proofs.Count.{Within, count-pos, grows}
 use Rattle.nodes.specs.Options.{isSome}
-use Rattle.flows.specs.Search.{Progress, noNode, orNone, start, solvedNow, round, rounds, laterThan}
-
-abbrev pub never : Progress → Bool
-never s = false
+use Rattle.flows.specs.Search.{Progress, noNode, orNone, start, solvedNow, round, solvesSome, rounds, laterThan}
 
 some-of : (o : Option (ℕ → Bool)) → T (isSome o) → o ≡ some (orNone o)
 some-of none t = absurd t
@@ -26,31 +23,23 @@ pub fresh-open : (try : ℕ → Option (ℕ → Bool)) (s : Progress) (u : ℕ) 
 fresh-open try s u t f = not-out (s .solved u) (and-l (not (s .solved u)) (isSome (try u)) f) t
 
 -- ---- how a search goes on
-module _ (stops : Progress → Bool) (try : (ℕ → Bool) → ℕ → Option (ℕ → Bool)) (n : ℕ) where
+module _ (try : (ℕ → Bool) → ℕ → Option (ℕ → Bool)) (n : ℕ) where
   abbrev after : ℕ → Progress → Progress
   after r s = round (try (s .solved)) r s
 
-  -- it ended where it stops or where a round solves nothing
-  abbrev pub Ended : Progress → Type 0
-  Ended s = T (stops s) ⊎ (anyBelow n (solvedNow (try (s .solved)) s) ≡ false)
-
   -- one step: an end, or a round and the rest
-  pub rounds-step : (k r : ℕ) (s : Progress) → (Ended s × (rounds stops try n (suc k) r s ≡ s))
-      ⊎ (T (anyBelow n (solvedNow (try (s .solved)) s)) × (rounds stops try n (suc k) r s ≡ rounds stops try n k (r + 1) (after r s)))
+  pub rounds-step : (k r : ℕ) (s : Progress) → ((solvesSome try n s ≡ false) × (rounds try n (suc k) r s ≡ s)) ⊎ (T (solvesSome try n s) × (rounds try n (suc k) r s ≡ rounds try n k (r + 1) (after r s)))
   unfolding rounds
-  rounds-step k r s = go (dec (stops s)) (dec (anyBelow n (solvedNow (try (s .solved)) s)))
+  rounds-step k r s = go (dec (solvesSome try n s))
     where
-      go : T (stops s) ⊎ (T (stops s) → ⊥) → T (anyBelow n (solvedNow (try (s .solved)) s)) ⊎ (T (anyBelow n (solvedNow (try (s .solved)) s)) → ⊥)
-          → (Ended s × (cond (stops s) s (cond (anyBelow n (solvedNow (try (s .solved)) s)) (rounds stops try n k (r + 1) (after r s)) s) ≡ s))
-          ⊎ (T (anyBelow n (solvedNow (try (s .solved)) s))
-          × (cond (stops s) s (cond (anyBelow n (solvedNow (try (s .solved)) s)) (rounds stops try n k (r + 1) (after r s)) s) ≡ rounds stops try n k (r + 1) (after r s)))
-      go (inl t) d = inl (inl t, rw (is-true (stops s) t))
-      go (inr f) (inl t) = inr (t, rw (is-false (stops s) f, is-true (anyBelow n (solvedNow (try (s .solved)) s)) t))
-      go (inr f) (inr g) =
-          inl (inr (is-false (anyBelow n (solvedNow (try (s .solved)) s)) g), rw (is-false (stops s) f, is-false (anyBelow n (solvedNow (try (s .solved)) s)) g))
+      go : T (solvesSome try n s) ⊎ (T (solvesSome try n s) → ⊥)
+          → ((solvesSome try n s ≡ false) × (cond (solvesSome try n s) (rounds try n k (r + 1) (after r s)) s ≡ s))
+          ⊎ (T (solvesSome try n s) × (cond (solvesSome try n s) (rounds try n k (r + 1) (after r s)) s ≡ rounds try n k (r + 1) (after r s)))
+      go (inl t) = inr (t, rw (is-true (solvesSome try n s) t))
+      go (inr f) = inl (is-false (solvesSome try n s) f, rw (is-false (solvesSome try n s) f))
 
   -- a round that solves some node leaves fewer unsolved
-  pub fewer : (r : ℕ) (s : Progress) → T (anyBelow n (solvedNow (try (s .solved)) s)) → count n (λ u. not (after r s .solved u)) < count n (λ u. not (s .solved u))
+  pub fewer : (r : ℕ) (s : Progress) → T (solvesSome try n s) → count n (λ u. not (after r s .solved u)) < count n (λ u. not (s .solved u))
   fewer r s t = go (grows n (λ u. not (after r s .solved u)) (λ u. not (s .solved u)) less)
     where
       less : Within n (λ u. not (after r s .solved u)) (λ u. not (s .solved u))
@@ -74,43 +63,43 @@ module _ (stops : Progress → Bool) (try : (ℕ → Bool) → ℕ → Option (�
       go (inl t) = t
       go (inr f) = absurd (none-of (count n (λ u. not (s .solved u))) (count-pos n (λ u. not (s .solved u)) u l (not-in (s .solved u) f)) c)
 
+  -- where nothing is unsolved a round solves nothing
+  pub solved-idle : (s : Progress) → ((u : ℕ) → u < n → T (s .solved u)) → solvesSome try n s ≡ false
+  solved-idle s h = any-none n (solvedNow (try (s .solved)) s) (λ u l t. fresh-open (try (s .solved)) s u (h u l) t)
+
   -- the bound on rounds is never what ends a search
-  pub rounds-end : (k r : ℕ) (s : Progress) → count n (λ u. not (s .solved u)) ≤ k → Ended (rounds stops try n k r s)
+  pub rounds-end : (k r : ℕ) (s : Progress) → count n (λ u. not (s .solved u)) ≤ k → solvesSome try n (rounds try n k r s) ≡ false
   unfolding rounds
-  rounds-end zero r s c = inr (any-none n (solvedNow (try (s .solved)) s) (λ u l t. fresh-open (try (s .solved)) s u (none-left s c u l) t))
+  rounds-end zero r s c = solved-idle s (none-left s c)
   rounds-end (suc k) r s c = go (rounds-step k r s) (rounds-end k)
     where
-      go : (Ended s × (rounds stops try n (suc k) r s ≡ s))
-          ⊎ (T (anyBelow n (solvedNow (try (s .solved)) s)) × (rounds stops try n (suc k) r s ≡ rounds stops try n k (r + 1) (after r s)))
-          → ((r : ℕ) (s : Progress) → count n (λ u. not (s .solved u)) ≤ k → Ended (rounds stops try n k r s)) → Ended (rounds stops try n (suc k) r s)
+      go : ((solvesSome try n s ≡ false) × (rounds try n (suc k) r s ≡ s))
+          ⊎ (T (solvesSome try n s) × (rounds try n (suc k) r s ≡ rounds try n k (r + 1) (after r s)))
+          → ((r : ℕ) (s : Progress) → count n (λ u. not (s .solved u)) ≤ k → solvesSome try n (rounds try n k r s) ≡ false) → solvesSome try n (rounds try n (suc k) r s) ≡ false
       go (inl (e, p)) ih = rw p e
       go (inr (t, p)) ih = let l = fewer r s t in rw p (ih (r + 1) (after r s) (omega arith))
 
   -- where a round solves nothing the search has ended, whatever the bound
-  pub rounds-idle : (k r : ℕ) (s : Progress) → anyBelow n (solvedNow (try (s .solved)) s) ≡ false → rounds stops try n k r s ≡ s
+  pub rounds-idle : (k r : ℕ) (s : Progress) → solvesSome try n s ≡ false → rounds try n k r s ≡ s
   unfolding rounds
   rounds-idle zero r s e = refl
-  rounds-idle (suc k) r s e = rw e (either (stops s))
-    where
-      either : (c : Bool) → cond c s s ≡ s
-      either true = refl
-      either false = refl
+  rounds-idle (suc k) r s e = rw e
 
   -- any bound that the unsolved nodes do not exceed gives the same
-  pub rounds-enough : (k m r : ℕ) (s : Progress) → count n (λ u. not (s .solved u)) ≤ k → count n (λ u. not (s .solved u)) ≤ m → rounds stops try n k r s ≡ rounds stops try n m r s
+  pub rounds-enough : (k m r : ℕ) (s : Progress) → count n (λ u. not (s .solved u)) ≤ k → count n (λ u. not (s .solved u)) ≤ m → rounds try n k r s ≡ rounds try n m r s
   unfolding rounds
-  rounds-enough zero m r s c d = sym (rounds-idle m r s (any-none n (solvedNow (try (s .solved)) s) (λ u l t. fresh-open (try (s .solved)) s u (none-left s c u l) t)))
-  rounds-enough (suc k) zero r s c d = rounds-idle (suc k) r s (any-none n (solvedNow (try (s .solved)) s) (λ u l t. fresh-open (try (s .solved)) s u (none-left s d u l) t))
-  rounds-enough (suc k) (suc m) r s c d = go (dec (anyBelow n (solvedNow (try (s .solved)) s))) (rounds-enough k m)
+  rounds-enough zero m r s c d = sym (rounds-idle m r s (solved-idle s (none-left s c)))
+  rounds-enough (suc k) zero r s c d = rounds-idle (suc k) r s (solved-idle s (none-left s d))
+  rounds-enough (suc k) (suc m) r s c d = go (dec (solvesSome try n s)) (rounds-enough k m)
     where
-      go : T (anyBelow n (solvedNow (try (s .solved)) s)) ⊎ (T (anyBelow n (solvedNow (try (s .solved)) s)) → ⊥)
-          → ((r : ℕ) (s : Progress) → count n (λ u. not (s .solved u)) ≤ k → count n (λ u. not (s .solved u)) ≤ m → rounds stops try n k r s ≡ rounds stops try n m r s)
-          → rounds stops try n (suc k) r s ≡ rounds stops try n (suc m) r s
+      go : T (solvesSome try n s) ⊎ (T (solvesSome try n s) → ⊥)
+          → ((r : ℕ) (s : Progress) → count n (λ u. not (s .solved u)) ≤ k → count n (λ u. not (s .solved u)) ≤ m → rounds try n k r s ≡ rounds try n m r s)
+          → rounds try n (suc k) r s ≡ rounds try n (suc m) r s
       go (inl t) ih = let l = fewer r s t in rw (ih (r + 1) (after r s) (omega arith) (omega arith))
       go (inr f) ih = rounds-idle (suc k) r s (is-false _ f) ∙ sym (rounds-idle (suc m) r s (is-false _ f))
 
   -- k rounds from r on give no node a layer from r + k on, solved or not
-  pub layers-below : (k r : ℕ) (s : Progress) → ((u : ℕ) → s .layer u < r) → (u : ℕ) → rounds stops try n k r s .layer u < r + k
+  pub layers-below : (k r : ℕ) (s : Progress) → ((u : ℕ) → s .layer u < r) → (u : ℕ) → rounds try n k r s .layer u < r + k
   unfolding rounds
   layers-below zero r s h u = omega (arith, h u)
   layers-below (suc k) r s h u = go (rounds-step k r s) (layers-below k)
@@ -119,9 +108,9 @@ module _ (stops : Progress → Bool) (try : (ℕ → Bool) → ℕ → Option (�
       kept true a l = omega arith
       kept false a l = omega arith
 
-      go : (Ended s × (rounds stops try n (suc k) r s ≡ s))
-          ⊎ (T (anyBelow n (solvedNow (try (s .solved)) s)) × (rounds stops try n (suc k) r s ≡ rounds stops try n k (r + 1) (after r s)))
-          → ((r : ℕ) (s : Progress) → ((u : ℕ) → s .layer u < r) → (u : ℕ) → rounds stops try n k r s .layer u < r + k) → rounds stops try n (suc k) r s .layer u < r + suc k
+      go : ((solvesSome try n s ≡ false) × (rounds try n (suc k) r s ≡ s))
+          ⊎ (T (solvesSome try n s) × (rounds try n (suc k) r s ≡ rounds try n k (r + 1) (after r s)))
+          → ((r : ℕ) (s : Progress) → ((u : ℕ) → s .layer u < r) → (u : ℕ) → rounds try n k r s .layer u < r + k) → rounds try n (suc k) r s .layer u < r + suc k
       go (inl (e, p)) ih = rw p (omega (arith, h u))
       go (inr (t, p)) ih = rw p (omega (arith, ih (r + 1) (after r s) (λ v. kept (solvedNow (try (s .solved)) s v) (s .layer v) (h v)) u))
 
@@ -140,26 +129,13 @@ round-ext f g r s h = ap₂ (λ (q : ℕ → Bool) (z : ℕ → ℕ → Bool). r
     go u (inl t) = rw (is-true (s .solved u) t)
     go u (inr m) = rw (h u m)
 
--- A search that stops is a search whose tries give nothing there.
-pub rounds-pass : (stops : Progress → Bool) (try pass : (ℕ → Bool) → ℕ → Option (ℕ → Bool)) (n : ℕ)
-    → ((s : Progress) → T (stops s) → anyBelow n (solvedNow (pass (s .solved)) s) ≡ false)
-    → ((s : Progress) → (T (stops s) → ⊥) → (u : ℕ) → (T (s .solved u) → ⊥) → pass (s .solved) u ≡ try (s .solved) u)
-    → (k r : ℕ) (s : Progress) → rounds stops try n k r s ≡ rounds never pass n k r s
+-- so tries that agree on them make the same search
+pub rounds-ext : (try other : (ℕ → Bool) → ℕ → Option (ℕ → Bool)) (n : ℕ) → ((s : Progress) (u : ℕ) → (T (s .solved u) → ⊥) → try (s .solved) u ≡ other (s .solved) u)
+    → (k r : ℕ) (s : Progress) → rounds try n k r s ≡ rounds other n k r s
 unfolding rounds
-rounds-pass stops try pass n idle same zero r s = refl
-rounds-pass stops try pass n idle same (suc k) r s = go (dec (stops s)) (rounds-pass stops try pass n idle same k)
-  where
-    go : T (stops s) ⊎ (T (stops s) → ⊥) → ((r : ℕ) (s : Progress) → rounds stops try n k r s ≡ rounds never pass n k r s)
-        → cond (stops s) s (cond (anyBelow n (solvedNow (try (s .solved)) s)) (rounds stops try n k (r + 1) (round (try (s .solved)) r s)) s)
-        ≡ cond (anyBelow n (solvedNow (pass (s .solved)) s)) (rounds never pass n k (r + 1) (round (pass (s .solved)) r s)) s
-    go (inl t) ih = rw (is-true (stops s) t, idle s t)
-    go (inr f) ih =
-        rw (
-          is-false (stops s) f,
-          now-ext (pass (s .solved)) (try (s .solved)) s (same s f),
-          round-ext (pass (s .solved)) (try (s .solved)) r s (same s f),
-          ih (r + 1) (round (try (s .solved)) r s),
-        )
+rounds-ext try other n same zero r s = refl
+rounds-ext try other n same (suc k) r s =
+    rw (now-ext (try (s .solved)) (other (s .solved)) s (same s), round-ext (try (s .solved)) (other (s .solved)) r s (same s), rounds-ext try other n same k (r + 1) (round (other (s .solved)) r s))
 
 -- ---- what is solved was solved by a try
 module _ (n : ℕ) (output : ℕ → Bool) (try : (ℕ → Bool) → ℕ → Option (ℕ → Bool)) (first : ℕ) where
@@ -256,13 +232,13 @@ module _ (n : ℕ) (output : ℕ → Bool) (try : (ℕ → Bool) → ℕ → Opt
   all-past r s g v l = beq-eq (s .solved v) (s .solved v && ltb (s .layer v) r) (λ t. and-in (s .solved v) (ltb (s .layer v) r) t (lt→ltb (s .layer v) r (g .below v l t))) (λ t. and-l (s .solved v) (ltb (s .layer v) r) t)
 
   -- k rounds from r on: the layers stay below r + k
-  pub searched : (stops : Progress → Bool) (k r : ℕ) → first ≤ r → (s : Progress) → Searched r s → Searched (r + k) (rounds stops try n k r s)
+  pub searched : (k r : ℕ) → first ≤ r → (s : Progress) → Searched r s → Searched (r + k) (rounds try n k r s)
   unfolding rounds
-  searched stops zero r from s g = rw (nothing r) g
+  searched zero r from s g = rw (nothing r) g
     where
       nothing : (r : ℕ) → r + 0 ≡ r
       nothing r = omega arith
-  searched stops (suc k) r from s g = go (rounds-step stops try n k r s) (searched stops k)
+  searched (suc k) r from s g = go (rounds-step try n k r s) (searched k)
     where
       more : (r k : ℕ) → r ≤ k → (s : Progress) → Searched r s → Searched k s
       more r k h s g = record { outputs = g .outputs; output-layer = g .output-layer; output-set = g .output-set; below = λ u l t. le-trans′ (s .layer u) r k (g .below u l t) h; above = g .above; tried = g .tried }
@@ -276,9 +252,9 @@ module _ (n : ℕ) (output : ℕ → Bool) (try : (ℕ → Bool) → ℕ → Opt
       shift : (r k : ℕ) → r + 1 + k ≡ r + suc k
       shift r k = omega arith
 
-      go : (Ended stops try n s × (rounds stops try n (suc k) r s ≡ s))
-          ⊎ (T (anyBelow n (solvedNow (try (s .solved)) s)) × (rounds stops try n (suc k) r s ≡ rounds stops try n k (r + 1) (round (try (s .solved)) r s)))
-          → ((r : ℕ) → first ≤ r → (s : Progress) → Searched r s → Searched (r + k) (rounds stops try n k r s)) → Searched (r + suc k) (rounds stops try n (suc k) r s)
+      go : ((solvesSome try n s ≡ false) × (rounds try n (suc k) r s ≡ s))
+          ⊎ (T (solvesSome try n s) × (rounds try n (suc k) r s ≡ rounds try n k (r + 1) (round (try (s .solved)) r s)))
+          → ((r : ℕ) → first ≤ r → (s : Progress) → Searched r s → Searched (r + k) (rounds try n k r s)) → Searched (r + suc k) (rounds try n (suc k) r s)
       go (inl (e, p)) ih = rw p (more r (r + suc k) (omega arith) s g)
       go (inr (t, p)) ih =
           rw (p, ← shift r k) (ih (r + 1) (omega arith) (round (try (s .solved)) r s) (rw (← suc-one r) (step (s .solved) r from s (later-bound r s g) (all-past r s g))))
@@ -330,7 +306,7 @@ module _
         smallest′ u l (inr m) (inr f) h = absurd (m f)
 
     -- a round that solves nothing is a fixpoint: by induction on a bound for the layer, all is solved
-    fixpoint : (r : ℕ) (s : Progress) → SmallestTill r s → (T (anyBelow n (solvedNow (try (s .solved)) s)) → ⊥) → (m u : ℕ) → u < n → layer u < m → T (s .solved u)
+    fixpoint : (r : ℕ) (s : Progress) → SmallestTill r s → (T (solvesSome try n s) → ⊥) → (m u : ℕ) → u < n → layer u < m → T (s .solved u)
     fixpoint r s b f zero u l h = absurd (not-suc-le-zero h)
     fixpoint r s b f (suc m) u l h = go (dec (s .solved u)) (fixpoint r s b f m)
       where
@@ -341,27 +317,23 @@ module _
             (f (any-in n (solvedNow (try (s .solved)) s) u l
             (can (s .solved) s u l (b .outputs u l) (λ v k d. let e : layer v < layer u = ltb→lt (layer v) (layer u) d in ih v k (omega arith)) g)))
 
-    end-smallest : (r : ℕ) (s : Progress) → SmallestTill r s → anyBelow n (solvedNow (try (s .solved)) s) ≡ false → Smallest s
+    end-smallest : (r : ℕ) (s : Progress) → SmallestTill r s → solvesSome try n s ≡ false → Smallest s
     end-smallest r s b e =
-        let all′ : (u : ℕ) → u < n → T (s .solved u) = λ u l. fixpoint r s b (from-false (anyBelow n (solvedNow (try (s .solved)) s)) e) (suc (layer u)) u l (lt-suc-self (layer u)) in
+        let all′ : (u : ℕ) → u < n → T (s .solved u) = λ u l. fixpoint r s b (from-false (solvesSome try n s) e) (suc (layer u)) u l (lt-suc-self (layer u)) in
         record { all = all′; smallest = λ u l. b .smallest u l (all′ u l) }
 
-    pub rounds-smallest : (k r : ℕ) (s : Progress) → SmallestTill r s → count n (λ u. not (s .solved u)) ≤ k → Smallest (rounds never try n k r s)
+    pub rounds-smallest : (k r : ℕ) (s : Progress) → SmallestTill r s → count n (λ u. not (s .solved u)) ≤ k → Smallest (rounds try n k r s)
     unfolding rounds
-    rounds-smallest zero r s b c = end-smallest r s b (any-none n (solvedNow (try (s .solved)) s) (λ u l t. fresh-open (try (s .solved)) s u (none-left never try n s c u l) t))
-    rounds-smallest (suc k) r s b c = go (rounds-step never try n k r s) (rounds-smallest k)
+    rounds-smallest zero r s b c = end-smallest r s b (solved-idle try n s (none-left try n s c))
+    rounds-smallest (suc k) r s b c = go (rounds-step try n k r s) (rounds-smallest k)
       where
         suc-one : (r : ℕ) → suc r ≡ r + 1
         suc-one r = omega arith
 
-        ended : Ended never try n s → anyBelow n (solvedNow (try (s .solved)) s) ≡ false
-        ended (inl t) = absurd t
-        ended (inr e) = e
-
-        go : (Ended never try n s × (rounds never try n (suc k) r s ≡ s))
-            ⊎ (T (anyBelow n (solvedNow (try (s .solved)) s)) × (rounds never try n (suc k) r s ≡ rounds never try n k (r + 1) (round (try (s .solved)) r s)))
-            → ((r : ℕ) (s : Progress) → SmallestTill r s → count n (λ u. not (s .solved u)) ≤ k → Smallest (rounds never try n k r s)) → Smallest (rounds never try n (suc k) r s)
-        go (inl (e, p)) ih = rw p (end-smallest r s b (ended e))
+        go : ((solvesSome try n s ≡ false) × (rounds try n (suc k) r s ≡ s))
+            ⊎ (T (solvesSome try n s) × (rounds try n (suc k) r s ≡ rounds try n k (r + 1) (round (try (s .solved)) r s)))
+            → ((r : ℕ) (s : Progress) → SmallestTill r s → count n (λ u. not (s .solved u)) ≤ k → Smallest (rounds try n k r s)) → Smallest (rounds try n (suc k) r s)
+        go (inl (e, p)) ih = rw p (end-smallest r s b e)
         go (inr (t, p)) ih =
-            let l = fewer never try n r s t in
+            let l = fewer try n r s t in
             rw p (ih (r + 1) (round (try (s .solved)) r s) (rw (← suc-one r) (step-smallest (s .solved) r s b (b .solved))) (omega arith))

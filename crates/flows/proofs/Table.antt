@@ -11,7 +11,7 @@ use Rattle.nodes.specs.Bit.{_⊕_}
 use Rattle.nodes.specs.Row.{allBelow}
 use Rattle.nodes.proofs.Logic.{and-l, and-r, or-out, not-out}
 use Rattle.nodes.proofs.Row.{all-out}
-use Rattle.flows.specs.Job.{own, isYorZ, planeXY, planeYZ, planeXZ}
+use Rattle.flows.specs.Job.{own, planeXY, planeYZ, planeXZ}
 use Rattle.flows.specs.Branch.{branches, inSet, inOdd}
 
 -- the elements that pass
@@ -92,23 +92,6 @@ own-branch m s o l t = go (own m s o) (has (branches m) (branchOf s o)) (not (s 
     go true true false d f g t q = absurd q
     go true false c d f g t q = absurd q
     go false b c d f g t q = absurd t
-
--- a measurement other than YZ, Y and Z asks for the node in Odd
-abbrev alone : ℕ → Bool
-alone m = eqb m planeYZ || isYorZ m
-
-odd-test : T (allBelow 7 (λ m. alone m || not (own m true false) && not (own m false false)))
-unfolding allBelow own
-odd-test = tt
-
-pub needs-odd : (m : ℕ) (s o : Bool) → m < 7 → (T (eqb m planeYZ || isYorZ m) → ⊥) → T (own m s o) → T o
-needs-odd m s true l f t = tt
-needs-odd m s false l f t = go s (or-out (alone m) (not (own m true false) && not (own m false false)) (all-out 7 (λ m. alone m || not (own m true false) && not (own m false false)) odd-test m l)) t
-  where
-    go : (s : Bool) → T (alone m) ⊎ T (not (own m true false) && not (own m false false)) → T (own m s false) → ⊥
-    go s (inl q) t = f q
-    go true (inr q) t = not-out (own m true false) (and-l (not (own m true false)) (not (own m false false)) q) t
-    go false (inr q) t = not-out (own m false false) (and-r (not (own m true false)) (not (own m false false)) q) t
 
 -- a right set has a member or an odd neighbour
 none-test : T (allBelow 7 (λ m. not (own m false false)))

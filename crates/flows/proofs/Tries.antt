@@ -7,9 +7,7 @@ use mathlib.Core.Option.{Option, none, some, Option·some-injective, Option·non
 use mathlib.Core.List.{List, [], _∷_, _++_}
 use native.Mathlib.Omega.{arith}
 use lib.Dec.{T, eqb, ltb, eqb→eq, eqb-refl, ltb→lt, nltb→le}
-use Rattle.nodes.specs.Row.{anyBelow}
 use Rattle.nodes.proofs.Logic.{is-true, is-false, dec, and-l, and-r, and-in, or-l, or-r, or-out, not-in, not-out, eqb-yes, and-all, or-none}
-use Rattle.nodes.proofs.Row.{parity-none, any-in, any-out, any-ext}
 use Rattle.nodes.proofs.Count.{Within}
 use Rattle.nodes.specs.Options.{isSome, firstOf}
 use Rattle.solver.specs.System.{BasicSolution, solve}
@@ -223,16 +221,8 @@ module _ (j : Job) (pauli : Bool) (later : ℕ → Bool) (u : ℕ) where
           by (inr (inl g)) = absurd (not-out (later v) (and-l (not (later v)) (yAsked j pauli v) asked) g)
           by (inr (inr e)) = e
 
-  -- ---- a column, where none is passed over
-  passed-over : (set : ℕ → Bool) → tryAt j pauli later u ≡ some set → T (anyBelow (j .nodes) (here .column)) × (tryNode j here u ≡ some set)
-  passed-over set e = go (anyBelow (j .nodes) (here .column)) e
-    where
-      go : (c : Bool) → cond (not c) none (tryNode j here u) ≡ some set → T c × (tryNode j here u ≡ some set)
-      go true e = (tt, e)
-      go false e = absurd (Option·none-ne-some _ e)
-
   pub try-first : (set : ℕ → Bool) → tryAt j pauli later u ≡ some set → FirstOf j here u (branches (j .measured u)) set
-  try-first set e = first-of j here u (branches (j .measured u)) set (passed-over set e .1)
+  try-first = first-of j here u (branches (j .measured u))
 
   module _ (h : u < j .nodes) (m : j .measured u < 7) where
     pub try-sound : (set : ℕ → Bool) → tryAt j pauli later u ≡ some set → T (corrects j pauli later set u)
@@ -243,61 +233,27 @@ module _ (j : Job) (pauli : Bool) (later : ℕ → Bool) (u : ℕ) where
         (fits-corrects (f .branch) (branch-own (j .measured u) (f .branch) m (rw (f .row) (has-in (f .earlier) (f .branch) (f .later)))) h set
         (subst (λ (z : ℕ → Bool). Fits j here u (f .branch) z) (sym w) (some-fits j here u (f .branch) h no-lower-u no-column-u x a)))
 
-    -- where a column is left, a node with a right set is solved
-    pub try-complete : T (anyBelow (j .nodes) (here .column)) → (set : ℕ → Bool) → T (corrects j pauli later set u) → T (isSome (tryAt j pauli later u))
-    try-complete q set c =
+    -- a node with a right set is solved
+    pub try-complete : (set : ℕ → Bool) → T (corrects j pauli later set u) → T (isSome (tryAt j pauli later u))
+    try-complete set c =
         let holds = corrects-out j pauli later set u c in
         let (l, s, o) = own-branch (j .measured u) (set u) (odd j set u) m (holds .owns) in
-        rw (is-true (anyBelow (j .nodes) (here .column)) q)
-        (first-some j here u (branches (j .measured u)) (branchOf (set u) (odd j set u)) l
-        (fits-some j here u (branchOf (set u) (odd j set u)) h no-lower-u set (corrects-fits (branchOf (set u) (odd j set u)) set holds s o)))
+        first-some j here u (branches (j .measured u)) (branchOf (set u) (odd j set u)) l
+        (fits-some j here u (branchOf (set u) (odd j set u)) h no-lower-u set (corrects-fits (branchOf (set u) (odd j set u)) set holds s o))
 
-    -- a node that is solved has a column and a right set
-    pub try-right : T (isSome (tryAt j pauli later u)) → (set : ℕ → Bool) × T (anyBelow (j .nodes) (here .column)) × T (corrects j pauli later set u)
+    -- and a node that is solved has one
+    pub try-right : T (isSome (tryAt j pauli later u)) → (set : ℕ → Bool) × T (corrects j pauli later set u)
     try-right t = go (tryAt j pauli later u) refl t
       where
-        go : (o : Option (ℕ → Bool)) → tryAt j pauli later u ≡ o → T (isSome o) → (set : ℕ → Bool) × T (anyBelow (j .nodes) (here .column)) × T (corrects j pauli later set u)
+        go : (o : Option (ℕ → Bool)) → tryAt j pauli later u ≡ o → T (isSome o) → (set : ℕ → Bool) × T (corrects j pauli later set u)
         go none e t = absurd t
-        go (some set) e t = (set, passed-over set e .0, try-sound set e)
+        go (some set) e t = (set, try-sound set e)
 
-    -- Where no column is left, only YZ, Y and Z can be right: a node in Odd of its set has a member as neighbour, which is a
-    -- column, since no node is its own neighbour.
-    pub needs-column : j .edge u u ≡ false → (set : ℕ → Bool) → T (corrects j pauli later set u) → T (odd j set u) → T (anyBelow (j .nodes) (here .column))
-    needs-column e set c t = go (dec (anyBelow (j .nodes) (λ k. j .edge k u && set k)))
-      where
-        go : T (anyBelow (j .nodes) (λ k. j .edge k u && set k)) ⊎ (T (anyBelow (j .nodes) (λ k. j .edge k u && set k)) → ⊥) → T (anyBelow (j .nodes) (here .column))
-        go (inr f) = absurd (rw (parity-none (j .nodes) (λ k. j .edge k u && set k) (λ k l. is-false (j .edge k u && set k) (λ a. f (any-in (j .nodes) (λ k. j .edge k u && set k) k l a)))) at t)
-        go (inl q) =
-            let (k, l, a) = any-out (j .nodes) (λ k. j .edge k u && set k) q in
-            any-in (j .nodes) (here .column) k l (by k l (and-l (j .edge k u) (set k) a) (and-r (j .edge k u) (set k) a))
-          where
-            by : (k : ℕ) → k < j .nodes → T (j .edge k u) → T (set k) → T (here .column k)
-            by k l a b =
-                let holds = corrects-out j pauli later set u c in
-                let (r, s, o) = own-branch (j .measured u) (set u) (odd j set u) m (holds .owns) in
-                from (corrects-fits (branchOf (set u) (odd j set u)) set holds s o .taken k l b)
-              where
-                from : (k ≡ u) ⊎ T (here .column k) → T (here .column k)
-                from (inl p) = absurd (rw (p, e) at a)
-                from (inr c) = c
-
--- ---- a node that is solved is still solved where more nodes are later: its columns stay, and so does its set
+-- ---- a node that is solved is still solved where more nodes are later: by the same set
 pub try-monotone : (j : Job) (pauli : Bool) (s t : ℕ → Bool) → Within (j .nodes) s t → (u : ℕ) → u < j .nodes → j .measured u < 7 → T (isSome (tryAt j pauli s u)) → T (isSome (tryAt j pauli t u))
 try-monotone j pauli s t w u h m a =
-    let (set, q, c) = try-right j pauli s u h m a in
-    let (k, l, b) = any-out (j .nodes) (contextAt j pauli s u .column) q in
-    try-complete j pauli t u h m (any-in (j .nodes) (contextAt j pauli t u .column) k l (stays k l b)) set (more-later j pauli s t w set u c)
-  where
-    stays : (k : ℕ) → k < j .nodes → T (contextAt j pauli s u .column k) → T (contextAt j pauli t u .column k)
-    stays k l b =
-        let d = and-l ((s k || memberExcused j pauli k) && not (j .input k)) (not (eqb k u)) b in
-        and-in ((t k || memberExcused j pauli k) && not (j .input k)) (not (eqb k u))
-        (and-in (t k || memberExcused j pauli k) (not (j .input k)) (more (or-out (s k) (memberExcused j pauli k) (and-l (s k || memberExcused j pauli k) (not (j .input k)) d))) (and-r (s k || memberExcused j pauli k) (not (j .input k)) d))
-        (and-r ((s k || memberExcused j pauli k) && not (j .input k)) (not (eqb k u)) b)
-      where
-        more : T (s k) ⊎ T (memberExcused j pauli k) → T (t k || memberExcused j pauli k)
-        more (inl a) = or-l (t k) (memberExcused j pauli k) (w k l a)
-        more (inr a) = or-r (t k) (memberExcused j pauli k) a
+    let (set, c) = try-right j pauli s u h m a in
+    try-complete j pauli t u h m set (more-later j pauli s t w set u c)
 
 -- ---- a try depends on the later nodes below n only
 module _ (j : Job) (pauli : Bool) (later later′ : ℕ → Bool) (same : (v : ℕ) → v < j .nodes → later v ≡ later′ v) (u : ℕ) where
@@ -305,8 +261,4 @@ module _ (j : Job) (pauli : Bool) (later later′ : ℕ → Bool) (same : (v : �
   contexts-agree = record { column = λ k l. rw (same k l); upper = λ v l. rw (same v l); lower = λ v l. rw (same v l) }
 
   pub try-ext : tryAt j pauli later u ≡ tryAt j pauli later′ u
-  try-ext =
-      rw (
-        any-ext (j .nodes) (contextAt j pauli later u .column) (contextAt j pauli later′ u .column) (contexts-agree .column),
-        node-ext j (contextAt j pauli later u) (contextAt j pauli later′ u) contexts-agree u,
-      )
+  try-ext = node-ext j (contextAt j pauli later u) (contextAt j pauli later′ u) contexts-agree u

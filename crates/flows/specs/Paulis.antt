@@ -3,20 +3,17 @@ use Prim.Native.Nat.{ℕ}
 use mathlib.Core.Bool.{Bool, true}
 use mathlib.Core.Option.{Option}
 use Rattle.flows.specs.Job.{Job}
-use Rattle.flows.specs.Branch.{Context}
+use Rattle.flows.specs.Branch.{Context, tryNode}
 use Rattle.flows.specs.Search.{Progress, searchFrom, ifSolved}
-use Rattle.flows.specs.Tries.{contextAt, noColumnAt, tryAt}
+use Rattle.flows.specs.Tries.{contextAt}
 
 -- `later` are the nodes that have left the rows and, inputs aside, joined the columns: none in round 0, then the outputs
 -- and the solved nodes
 abbrev pub context : Job → (later : ℕ → Bool) → ℕ → Context
 context j = contextAt j true
 
-abbrev pub noColumnFor : Job → (later : ℕ → Bool) → ℕ → Bool
-noColumnFor j = noColumnAt j true
-
 abbrev pub try : Job → (later : ℕ → Bool) → ℕ → Option (ℕ → Bool)
-try j = tryAt j true
+try j later u = tryNode j (context j later u) u
 
 -- how far the search comes, and what it finds; round 0 never ends it
 abbrev pub progress : Job → Progress

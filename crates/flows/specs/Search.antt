@@ -35,14 +35,17 @@ round try r s = record {
   set = λ u. cond (solvedNow try s u) (orNone (try u)) (s .set u);
 }
 
--- Rounds from r on. A search ends where it `stops` or where a round solves nothing; that it never ends by the bound on
--- their number is a law (rounds-end). `try later u` tries u when the nodes `later` were solved before.
-unfoldable pub rounds : (Progress → Bool) → ((ℕ → Bool) → ℕ → Option (ℕ → Bool)) → ℕ → ℕ → ℕ → Progress → Progress
-rounds stops try n zero r s = s
-rounds stops try n (suc bound) r s =
-    let on = rounds stops try n bound (r + 1) (round (try (s .solved)) r s) in
-    let here = cond (anyBelow n (solvedNow (try (s .solved)) s)) on s in
-    cond (stops s) s here
+-- the round that begins with s solves some node
+abbrev pub solvesSome : ((ℕ → Bool) → ℕ → Option (ℕ → Bool)) → ℕ → Progress → Bool
+solvesSome try n s = anyBelow n (solvedNow (try (s .solved)) s)
+
+-- Rounds from r on. A round that solves nothing ends the search; where nothing is unsolved it does so too. That the search never
+-- ends by the bound on their number is a law (rounds-end). `try later u` tries u when the nodes `later` were solved before.
+unfoldable pub rounds : ((ℕ → Bool) → ℕ → Option (ℕ → Bool)) → ℕ → ℕ → ℕ → Progress → Progress
+rounds try n zero r s = s
+rounds try n (suc bound) r s =
+    let on = rounds try n bound (r + 1) (round (try (s .solved)) r s) in
+    cond (solvesSome try n s) on s
 
 -- v is later than u: its layer is smaller
 abbrev pub laterThan : (layer : ℕ → ℕ) → ℕ → ℕ → Bool
@@ -58,7 +61,7 @@ abbrev pub begun : (fromZero : Bool) → ((ℕ → Bool) → ℕ → Option (ℕ
 begun fromZero try output = cond fromZero (round (try noNode) 0 (start output)) (start output)
 
 abbrev pub searchFrom : (fromZero : Bool) → ((ℕ → Bool) → ℕ → Option (ℕ → Bool)) → ℕ → (output : ℕ → Bool) → Progress
-searchFrom fromZero try n output = rounds (λ s. false) try n n 1 (begun fromZero try output)
+searchFrom fromZero try n output = rounds try n n 1 (begun fromZero try output)
 
 -- a node still unsolved at the end means no flow
 abbrev pub ifSolved : ℕ → Progress → Option Progress

@@ -1,10 +1,9 @@
 -- One try for modes 2 and 3: what u meets when the nodes `later` were solved before its round, so that they are later than u.
 -- Mode 2 is mode 3 with nobody excused.
 use Prim.Native.Nat.{ℕ}
-use mathlib.Core.Bool.{Bool, cond, not, _&&_, _||_}
-use mathlib.Core.Option.{Option, none}
+use mathlib.Core.Bool.{Bool, not, _&&_, _||_}
+use mathlib.Core.Option.{Option}
 use lib.Dec.{eqb}
-use Rattle.nodes.specs.Row.{anyBelow}
 use Rattle.flows.specs.Job.{Job}
 use Rattle.flows.specs.Conditions.{memberExcused, oddExcused, yAsked}
 use Rattle.flows.specs.Branch.{Context, tryNode}
@@ -18,10 +17,5 @@ contextAt j pauli later u = record {
   lower = λ v. (not (later v) && yAsked j pauli v) && not (eqb v u);
 }
 
--- no column is left for u
-abbrev pub noColumnAt : Job → Bool → (later : ℕ → Bool) → ℕ → Bool
-noColumnAt j pauli later u = not (anyBelow (j .nodes) (contextAt j pauli later u .column))
-
--- where no column is left, u is passed over
 abbrev pub tryAt : Job → Bool → (later : ℕ → Bool) → ℕ → Option (ℕ → Bool)
-tryAt j pauli later u = let tried = tryNode j (contextAt j pauli later u) u in cond (noColumnAt j pauli later u) none tried
+tryAt j pauli later u = tryNode j (contextAt j pauli later u) u

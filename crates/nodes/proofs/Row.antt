@@ -8,7 +8,7 @@ use native.Mathlib.Nat.{le-of-suc-le-suc, not-suc-le-zero, le-step, lt-suc-self,
 use lib.Dec.{T, eqb, ltb, ltb→lt, lt→ltb}
 use Rattle.nodes.specs.Bit.{_⊕_}
 use Rattle.nodes.specs.Row.{parity, dot, anyBelow, allBelow}
-use Rattle.nodes.proofs.Logic.{is-true, is-false, from-false, lt-or-ge, and-l, and-r, and-in, or-l, or-r, or-out, eqb-no, eqb-yes, and-none, and-all, and-comm, and-turn, or-none, or-turn, ⊕-none, ⊕-swap, &&-⊕, ⊕-&&}
+use Rattle.nodes.proofs.Logic.{is-true, is-false, lt-or-ge, and-l, and-r, and-in, or-l, or-r, or-out, eqb-no, eqb-yes, and-none, and-all, and-comm, and-turn, or-none, or-turn, ⊕-none, ⊕-swap, &&-⊕, ⊕-&&}
 
 -- equal below n: the parity is equal
 pub parity-ext : (n : ℕ) (f g : ℕ → Bool) → ((k : ℕ) → k < n → f k ≡ g k) → parity n f ≡ parity n g
@@ -153,12 +153,6 @@ pub any-split : (m n : ℕ) (s : ℕ → Bool) → anyBelow (m + n) s ≡ anyBel
 unfolding anyBelow
 any-split m zero s = ap (λ (x : ℕ). anyBelow x s) (add-zero m) ∙ sym (or-none (anyBelow m s))
 any-split m (suc n) s = ap (λ (x : ℕ). anyBelow x s) (add-suc m n) ∙ ap (λ (b : Bool). s (m + n) || b) (any-split m n s) ∙ or-turn (s (m + n)) (anyBelow m s) (anyBelow n (λ k. s (m + k)))
-
-pub any-past : (n w : ℕ) (s : ℕ → Bool) → n ≤ w → ((k : ℕ) → n ≤ k → s k ≡ false) → anyBelow w s ≡ anyBelow n s
-any-past n w s h z =
-    let e : w ≡ n + (w - n) = omega arith in
-    ap (λ (x : ℕ). anyBelow x s) e ∙ any-split n (w - n) s
-    ∙ ap (λ (b : Bool). anyBelow n s || b) (any-none (w - n) (λ k. s (n + k)) (λ k l. from-false (s (n + k)) (z (n + k) (omega arith)))) ∙ or-none (anyBelow n s)
 
 pub all-split : (m n : ℕ) (s : ℕ → Bool) → allBelow (m + n) s ≡ allBelow m s && allBelow n (λ k. s (m + k))
 unfolding allBelow

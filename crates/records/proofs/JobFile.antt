@@ -277,6 +277,3 @@ module _ (f : JobFile) (v : ValidJob f) where
 
   pub measured-plane : f .mode ≡ modePlanes → (u : ℕ) → u < f .n → jobOf f .output u ≡ false → (1 ≤ jobOf f .measured u) × (jobOf f .measured u ≤ planeXZ)
   measured-plane m u h o = rw m at (measured-range u h o)
-
-  pub edge-loop : (u : ℕ) → jobOf f .edge u u ≡ false
-  edge-loop u = no-loop 0 (f .edges) u (v .edgesRise)

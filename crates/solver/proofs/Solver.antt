@@ -1,7 +1,8 @@
 -- What the solver's calls promise, from the laws of the elimination: here the bytes of a row become rowBytes.
-use mathlib.Core.Path.{_≡_, sym, ap, _∙_, fun-ext}
-use mathlib.Core.Bool.{Bool, true, false, not, _&&_, _||_}
+use mathlib.Core.Path.{_≡_, refl, sym, ap, _∙_, fun-ext}
+use mathlib.Core.Bool.{Bool, true, false, cond, not, _&&_, _||_}
 use mathlib.Core.List.{List}
+use mathlib.Core.Option.{none, some}
 use mathlib.Core.Logic.{_⊎_, inl, inr}
 use Prim.Native.Nat.{ℕ, _+_, _*_, _<_, _≤_}
 use native.Mathlib.Decide.{decLt}
@@ -9,14 +10,17 @@ use native.Mathlib.Omega.{arith}
 use borrow.Author.Tests.{leb-true, eqb-true}
 use lib.Dec.{T, eqb, leb, ltb}
 use lib.ListN.{length}
+use Rattle.answers.specs.Answer.{gives}
+use Rattle.nodes.specs.Bit.{digits}
+use Rattle.nodes.specs.Lists.{zeros, listOf}
 use Rattle.nodes.specs.Row.{allBelow}
 use Rattle.nodes.proofs.Logic.{is-false, and-out, or-l, or-r, or-out, not-in, not-out, from-false, dec}
-use Rattle.nodes.proofs.Row.{all-in, all-out, dot-one, ltb-no}
+use Rattle.nodes.proofs.Row.{all-in, all-out, dot-one, ltb-yes, ltb-no}
 use Rattle.solver.specs.System.{solve, pivot}
 use Rattle.solver.specs.Reduced.{leads, readOff}
 use Rattle.solver.specs.WorkMatrix.{entryOf, systemOf, sideOf, withinWidth}
 use Rattle.solver.specs.Steps.{eliminateColumns}
-use Rattle.solver.specs.Solver.{rowBytes, mostRows, mostColumns, matrixFits, bothFit, columnExists, wellShaped, Eliminated}
+use Rattle.solver.specs.Solver.{rowBytes, mostRows, mostColumns, matrixFits, bothFit, wellShaped, Eliminated, solveAsks, outcome, solveCall}
 use Rattle.solver.proofs.Reduced.{read-off}
 use Rattle.solver.proofs.Elimination.{Same, same-sym, solutions-kept, solve-kept, partly-reduced, eliminated-pivots}
 use Rattle.solver.proofs.Steps.{Good, good-eliminated}
@@ -86,7 +90,7 @@ unfolding wellShaped
 well-shaped-out matrix out rows cols sides e =
     let rest = bothFit matrix out rows cols sides && withinWidth rowBytes matrix rows (cols + sides) in
     and-out (bothFit matrix out rows cols sides) (withinWidth rowBytes matrix rows (cols + sides))
-    (and-out (columnExists cols) rest (and-out (ltb 0 sides) (columnExists cols && rest) (and-out (ltb 0 rows) (ltb 0 sides && (columnExists cols && rest)) e .1) .1) .1) .0
+    (and-out (ltb 0 sides) rest (and-out (ltb 0 rows) (ltb 0 sides && rest) e .1) .1) .0
 
 -- ---- what is read off the eliminated matrix
 pub pivots-read : (rows cols sides : ℕ) (l : List ℕ) → rows * rowBytes ≤ length l → cols + sides ≤ mostColumns
@@ -110,3 +114,14 @@ pub reads-answer : (rows cols sides : ℕ) (before after : List ℕ) → Elimina
     → readOff rows cols (entryOf rowBytes after) (sideOf rowBytes after cols side) ≡ solve (systemOf rowBytes before rows) cols (sideOf rowBytes before cols side)
 reads-answer rows cols sides before after e side h =
     read-off rows cols (entryOf rowBytes after) (e .reduced) (sideOf rowBytes after cols side) ∙ e .answers side h
+
+-- ---- with no column: solvable exactly where no row asks for 1, and then by no column
+pub no-column-call : (matrix out : List ℕ) (rows sides side : ℕ) → wellShaped matrix out rows 0 sides ≡ true → side < sides
+    → solveCall matrix out rows 0 sides side
+    ≡ cond (allBelow rows (λ i. not (sideOf rowBytes matrix 0 side i))) (record { answer = gives true; out = zeros rowBytes }) (record { answer = gives false; out = out })
+unfolding solveAsks solve listOf digits
+no-column-call matrix out rows sides side e h = rw (e, ltb-yes side sides h) (by (allBelow rows (λ i. not (sideOf rowBytes matrix 0 side i))))
+  where
+    by : (c : Bool) → outcome (gives (cond c (some (λ k. false)) none)) out ≡ cond c (record { answer = gives true; out = zeros rowBytes }) (record { answer = gives false; out = out })
+    by true = refl
+    by false = refl

@@ -43,18 +43,13 @@ matrixFits matrix rows cols sides =
 unfoldable pub bothFit : List ℕ → List ℕ → ℕ → ℕ → ℕ → Bool
 bothFit matrix out rows cols sides = matrixFits matrix rows cols sides && eqb (length out) rowBytes
 
--- is there a column?
-abbrev pub columnExists : ℕ → Bool
-columnExists cols = ltb 0 cols
-
--- is there a row, a right side, a column, matrix and out bits of exact length, no larger than the limits either way, and no
--- matrix bit beyond the width (11)?
+-- is there a row, a right side, matrix and out bits of exact length, no larger than the limits either way, and no matrix bit
+-- beyond the width (11)?
 unfoldable pub wellShaped : List ℕ → List ℕ → ℕ → ℕ → ℕ → Bool
 wellShaped matrix out rows cols sides =
     ltb 0 rows
     && (ltb 0 sides
-    && (columnExists cols
-    && (bothFit matrix out rows cols sides && withinWidth rowBytes matrix rows (cols + sides))))
+    && (bothFit matrix out rows cols sides && withinWidth rowBytes matrix rows (cols + sides)))
 
 -- is the equation's number below the count of right sides (12)?
 abbrev pub equationExists : ℕ → ℕ → Bool

@@ -348,16 +348,13 @@ fn well_shaped(matrix: &[u8], out: &[u8], rows: usize, cols: usize, sides: usize
     if sides == 0 {
         return false;
     }
-    if cols == 0 {
-        return false;
-    }
     if !both_fit(matrix, out, rows, cols, sides) {
         return false;
     }
     within_width(matrix, rows, cols + sides)
 }
 
-// The matrix is addPivotRow to reduced form by adding rows to each other; the answer is the set of its pivot columns.
+// The matrix is brought to reduced form by adding rows to each other; the answer is the set of its pivot columns.
 pub fn eliminate(matrix: &mut [u8], rows: usize, cols: usize, sides: usize) -> Elimination
     ensures { λ r. ⌜ eliminationOf r ≡ eliminateCall (now (matrix .entry)) rows cols sides ⌝ }
     ensures { λ _. ⌜ MatrixAfter (eliminateCall (now (matrix .entry)) rows cols sides) rows cols sides

@@ -1,5 +1,5 @@
 -- The verifier accepts exactly what obeys the rule of its mode.
-use Prim.Native.Nat.{ℕ, _≤_, _<_, zero-le}
+use Prim.Native.Nat.{ℕ, _≤_, _<_}
 use mathlib.Core.Path.{_≡_, sym, ap₂, _∙_, subst}
 use mathlib.Core.Bool.{Bool, false, _&&_}
 use mathlib.Core.Option.{none, some}
@@ -9,11 +9,10 @@ use lib.Dec.{T, eqb, ltb, eqb→eq, eqb-refl, ltb→lt, lt→ltb}
 use Rattle.nodes.specs.Row.{anyBelow}
 use Rattle.nodes.proofs.Logic.{is-false, from-false, dec, and-none}
 use Rattle.nodes.proofs.Row.{any-in, any-out, parity-none}
-use Rattle.flows.specs.Job.{Job, odd, own, planeXZ}
+use Rattle.flows.specs.Job.{Job, odd, own}
 use Rattle.flows.specs.Conditions.{corrects}
 use Rattle.flows.specs.Search.{Progress, firstRound, laterThan}
 use Rattle.flows.specs.Flows.{findAt}
-use Rattle.flows.specs.Premise.{premiseAt}
 use Rattle.flows.proofs.Conditions.{own-inputs, own-measured, corrects-by, corrects-own, corrects-later, corrects-ext, causal-in, causal-inputs, causal-adjacent, needs-member}
 use Rattle.flows.proofs.Table.{needs-one}
 use Rattle.flows.proofs.Flows.{FoundAt, found-flow, found-corrects, found-smallest}
@@ -140,22 +139,12 @@ module _ (j : Job) (f : Flow) (r : Readable j f) where
         positive : {x : ℕ} → mode ≡ modePlanes → firstRound pauli ≤ x → 0 < x
         positive q h = rw q at h
 
-    -- ---- under the premise the search finds a flow wherever one obeys the rule, and no layer of that one is smaller
-    pub rule-smallest : (mode ≡ modePlanes → (u : ℕ) → Measured j u → j .measured u ≤ planeXZ) → ((u : ℕ) → j .edge u u ≡ false) → T (premiseAt j pauli)
-        → FlowRule mode j f → (s : Progress) × (findAt j pauli ≡ some s) × ((u : ℕ) → u < j .nodes → s .layer u ≤ f .layer u)
-    rule-smallest planes loopless premise p =
-        found-smallest j pauli measured-known low loopless premise (f .layer) (f .set) (p .layers .outputs)
-        (λ e u l o. p .layers .others (is-planes e) u (l, o)) (λ u l o. rule-corrects p u (l, o))
+    -- ---- the search finds a flow wherever one obeys the rule, and no layer of that one is smaller
+    pub rule-smallest : FlowRule mode j f → (s : Progress) × (findAt j pauli ≡ some s) × ((u : ℕ) → u < j .nodes → s .layer u ≤ f .layer u)
+    rule-smallest p = found-smallest j pauli measured-known (f .layer) (f .set) (λ e u l o. p .layers .others (is-planes e) u (l, o)) (λ u l o. rule-corrects p u (l, o))
       where
         is-planes : pauli ≡ false → mode ≡ modePlanes
         is-planes e = planes-or (λ q. from-false pauli e (subst (λ (m : ℕ). T (eqb m modePauli)) (sym q) tt))
-
-        low : pauli ≡ false → (u : ℕ) → u < j .nodes → j .measured u ≤ planeXZ
-        low e u l = go (dec (j .output u))
-          where
-            go : T (j .output u) ⊎ (T (j .output u) → ⊥) → j .measured u ≤ planeXZ
-            go (inl t) = rw (r .unmeasured u l t) zero-le
-            go (inr o) = planes (is-planes e) u (l, o)
 
   -- ---- mode 1, where each entry has one member
   module _ (single : (u : ℕ) → T (f .entry u) → (k : ℕ) × (k < j .nodes) × ((v : ℕ) → f .set u v ≡ eqb v k)) where

@@ -1,5 +1,5 @@
 use mathlib.Core.Path.{sym, ap, _∙_}
-use mathlib.Core.Bool.{Bool, _&&_}
+use mathlib.Core.Bool.{Bool, not, _&&_}
 use Prim.Native.Nat.{ℕ, _<_}
 use lib.Dec.{T}
 use Rattle.nodes.specs.NodeSet.{member}
@@ -7,17 +7,17 @@ use Rattle.nodes.specs.SetTable.{setAt}
 use Rattle.nodes.proofs.Logic.{is-true}
 use Rattle.finder.specs.WorkMatrix.{Seeing}
 use Rattle.finder.specs.Visits.{RoundContext}
-use Rattle.finder.proofs.Rounds.{cut-inside, round-context, round-advanced, stop-advanced}
+use Rattle.finder.proofs.Rounds.{cut-inside, round-context, round-advanced, solved-advanced}
 use borrow.Author.Needs.{needs}
 use Rattle.finder.proofs.round.advance.Statement.{statement}
 use Rattle.finder.proofs.round.advance.Tie as tie
 
 -- ---- the places on the way back to the function's entry
 abbrev entry : tie.After-context → tie.Start
-entry c = c .before .before .before .before .before .before .before .before .before .before
+entry c = c .before .before .before .before .before .before .before .before .before .before .before .before .before .before
 
 abbrev met : tie.After-transpose → tie.After-context
-met c = c .before .before .before .before .before .before
+met c = c .before .before .before .before
 
 abbrev seen : tie.After-open-round → tie.After-transpose
 seen c = c .before .before .before .before .before .before .before .before .before
@@ -41,14 +41,13 @@ fitting d =
 
 returns : tie.Need-returns
 returns c =
-    let d = c .before .before in
-    let a = entry d .args in
-    let p = entry d .pre in
-    let e = d .context .ensures in
-    (stop-advanced (a .pauli) (a .n) (a .graph .now) (a .inputs) (a .measured .now) (a .later) (a .kinds) (d .context .result) (p .0 .0 .nodes) (p .1 .0) (inside d) (e .0) (e .1) (e .2) (a .state .solved) (p .1 .1) (a .layers .now) (a .sets .now) (p .1 .2) (a .r) (c .before .stops .result) (c .before .stops .ensures) (c .if1 .taken), p .0)
+    let d = c .before .before .before in
+    let b = d .before .before .before .before .before .before .before .before .before .before in
+    let a = b .args in
+    (solved-advanced (a .pauli) (a .n) (a .graph .now) (a .inputs) (a .measured .now) (member (a .later)) (a .r) (b .pre .0 .0 .nodes) (a .state .solved) (a .layers .now) (a .sets .now) (b .pre .1 .2) _ (c .before .before .difference .ensures ∙ ap {B = ℕ → Bool} (λ (f : ℕ → Bool) (v : ℕ). f v && not (member (a .state .solved) v)) (d .below .ensures)) _ (c .before .is-empty .ensures) (c .if1 .taken), b .pre .0)
 
 transpose-requires : tie.Need-transpose-requires
-transpose-requires c κs = entry (c .before .before .before .before .before) .pre .0 .2
+transpose-requires c κs = entry (c .before .before .before) .pre .0 .2
 
 open-round-requires : tie.Need-open-round-requires
 open-round-requires c κs =
@@ -88,7 +87,9 @@ advance-spec =
     (tie.spec
     (λ c κs. search needs)
     (λ c κs. search needs)
+    (λ c κs. search needs)
     returns
+    (λ c κs. search needs)
     transpose-requires
     open-round-requires
     visit-requires

@@ -27,11 +27,25 @@ returns-2 c =
 returns-3 : tie.Need-returns-3
 unfolding wellShaped
 returns-3 c =
-    let a = c .before .before .before .before .before .args in
+    let a = c .before .before .before .before .before .before .args in
     let row : 0 < a .rows = omega arith in
     let side : 0 < a .sides = omega arith in
-    let none : a .cols ≤ 0 = omega arith in
-    simp (lt-ltb _ _ row, lt-ltb _ _ side, le-ltb _ _ none)
+    let fit : bothFit (a .matrix .now) (a .out .now) (a .rows) (a .cols) (a .sides) ≡ false = sym (c .before .both-fit .ensures) ∙ not-true _ (c .if3 .taken) in
+    simp (lt-ltb _ _ row, lt-ltb _ _ side, fit)
+
+add-within-width : tie.Need-add-within-width
+add-within-width c =
+    let a = c .before .before .before .before .before .before .args in
+    let fit : bothFit (a .matrix .now) (a .out .now) (a .rows) (a .cols) (a .sides) ≡ true = sym (c .before .both-fit .ensures) ∙ not-false _ (c .if3 .left) in
+    let sizes = fits-out _ _ _ _ (both-fit-out _ _ _ _ _ fit .0) in
+    omega arith
+
+within-width-requires : tie.Need-within-width-requires
+within-width-requires c κs =
+    let a = c .before .before .before .before .before .before .args in
+    let fit : bothFit (a .matrix .now) (a .out .now) (a .rows) (a .cols) (a .sides) ≡ true = sym (c .before .both-fit .ensures) ∙ not-false _ (c .if3 .left) in
+    let sizes = fits-out _ _ _ _ (both-fit-out _ _ _ _ _ fit .0) in
+    (omega arith, sizes .1)
 
 returns-4 : tie.Need-returns-4
 unfolding wellShaped
@@ -39,33 +53,8 @@ returns-4 c =
     let a = c .before .before .before .before .before .before .before .args in
     let row : 0 < a .rows = omega arith in
     let side : 0 < a .sides = omega arith in
-    let column : 0 < a .cols = omega arith in
-    let fit : bothFit (a .matrix .now) (a .out .now) (a .rows) (a .cols) (a .sides) ≡ false = sym (c .before .both-fit .ensures) ∙ not-true _ (c .if4 .taken) in
-    simp (lt-ltb _ _ row, lt-ltb _ _ side, lt-ltb _ _ column, fit)
-
-add-within-width : tie.Need-add-within-width
-add-within-width c =
-    let a = c .before .before .before .before .before .before .before .args in
-    let fit : bothFit (a .matrix .now) (a .out .now) (a .rows) (a .cols) (a .sides) ≡ true = sym (c .before .both-fit .ensures) ∙ not-false _ (c .if4 .left) in
-    let sizes = fits-out _ _ _ _ (both-fit-out _ _ _ _ _ fit .0) in
-    omega arith
-
-within-width-requires : tie.Need-within-width-requires
-within-width-requires c κs =
-    let a = c .before .before .before .before .before .before .before .args in
-    let fit : bothFit (a .matrix .now) (a .out .now) (a .rows) (a .cols) (a .sides) ≡ true = sym (c .before .both-fit .ensures) ∙ not-false _ (c .if4 .left) in
-    let sizes = fits-out _ _ _ _ (both-fit-out _ _ _ _ _ fit .0) in
-    (omega arith, sizes .1)
-
-returns-5 : tie.Need-returns-5
-unfolding wellShaped
-returns-5 c =
-    let a = c .before .before .before .before .before .before .before .before .args in
-    let row : 0 < a .rows = omega arith in
-    let side : 0 < a .sides = omega arith in
-    let column : 0 < a .cols = omega arith in
-    let fit : bothFit (a .matrix .now) (a .out .now) (a .rows) (a .cols) (a .sides) ≡ true = sym (c .before .before .both-fit .ensures) ∙ not-false _ (c .before .if4 .left) in
-    simp (lt-ltb _ _ row, lt-ltb _ _ side, lt-ltb _ _ column, fit) (c .within-width .ensures)
+    let fit : bothFit (a .matrix .now) (a .out .now) (a .rows) (a .cols) (a .sides) ≡ true = sym (c .before .before .both-fit .ensures) ∙ not-false _ (c .before .if3 .left) in
+    simp (lt-ltb _ _ row, lt-ltb _ _ side, fit) (c .within-width .ensures)
 
 pub well-shaped-spec : {M : Type 1} → statement M
 well-shaped-spec =
@@ -73,9 +62,8 @@ well-shaped-spec =
     (tie.spec
     returns
     returns-2
-    returns-3
     (λ c κs. search needs)
-    returns-4
+    returns-3
     add-within-width
     within-width-requires
-    returns-5)
+    returns-4)
