@@ -164,13 +164,13 @@ pub(crate) fn advance(
     ensures { λ q. ⌜ Advanced pauli n (now (graph .entry)) inputs (now (measured .entry)) (member later) r (progressIn (state .solved) (now (layers .entry)) (now (sets .entry))) (progressIn (q .solved) (now (layers .exit)) (now (sets .exit))) ⌝ }
     ensures { λ q. ⌜ Sized n (now (measured .entry)) (now (work .exit)) (now (layers .exit)) (now (sets .exit)) × TablesFit (now (kernel .exit)) (now (reduced .exit)) (now (preimage .exit)) × Transposed (now (graph .entry)) (q .support) (now (transposed .exit)) ⌝ }
 {
+    let s = context(n, inputs, later, kinds);
+    let columns = s.columns;
+    let plain = kinds.plain;
     let unsolved = NodeSet::below(n).difference(state.solved);
     if unsolved.is_empty() {
         return state;
     }
-    let s = context(n, inputs, later, kinds);
-    let plain = kinds.plain;
-    let columns = s.columns;
     let support = transpose(graph, state.support, columns, transposed);
     let rows = support.rows;
     let echelon = open_round(work, transposed, s, rows, kernel, reduced, preimage);

@@ -14,10 +14,10 @@ use Rattle.finder.proofs.round.advance.Tie as tie
 
 -- ---- the places on the way back to the function's entry
 abbrev entry : tie.After-context → tie.Start
-entry c = c .before .before .before .before .before .before .before .before .before .before .before .before .before .before
+entry c = c .before .before .before .before .before .before .before .before .before .before
 
 abbrev met : tie.After-transpose → tie.After-context
-met c = c .before .before .before .before
+met c = c .before .before .before .before .before .before .before .before
 
 abbrev seen : tie.After-open-round → tie.After-transpose
 seen c = c .before .before .before .before .before .before .before .before .before
@@ -41,13 +41,14 @@ fitting d =
 
 returns : tie.Need-returns
 returns c =
-    let d = c .before .before .before in
-    let b = d .before .before .before .before .before .before .before .before .before .before in
-    let a = b .args in
-    (solved-advanced (a .pauli) (a .n) (a .graph .now) (a .inputs) (a .measured .now) (member (a .later)) (a .r) (b .pre .0 .0 .nodes) (a .state .solved) (a .layers .now) (a .sets .now) (b .pre .1 .2) _ (c .before .before .difference .ensures ∙ ap {B = ℕ → Bool} (λ (f : ℕ → Bool) (v : ℕ). f v && not (member (a .state .solved) v)) (d .below .ensures)) _ (c .before .is-empty .ensures) (c .if1 .taken), b .pre .0)
+    let b = c .before .before .before in
+    let d = b .before .before .before in
+    let a = entry d .args in
+    let p = entry d .pre in
+    (solved-advanced (a .pauli) (a .n) (a .graph .now) (a .inputs) (a .measured .now) (member (a .later)) (a .r) (p .0 .0 .nodes) (a .state .solved) (a .layers .now) (a .sets .now) (p .1 .2) _ (c .before .before .difference .ensures ∙ ap {B = ℕ → Bool} (λ (f : ℕ → Bool) (v : ℕ). f v && not (member (a .state .solved) v)) (b .below .ensures)) _ (c .before .is-empty .ensures) (c .if1 .taken), p .0)
 
 transpose-requires : tie.Need-transpose-requires
-transpose-requires c κs = entry (c .before .before .before) .pre .0 .2
+transpose-requires c κs = entry (c .before .before .before .before .before .before .before) .pre .0 .2
 
 open-round-requires : tie.Need-open-round-requires
 open-round-requires c κs =
@@ -88,8 +89,8 @@ advance-spec =
     (λ c κs. search needs)
     (λ c κs. search needs)
     (λ c κs. search needs)
-    returns
     (λ c κs. search needs)
+    returns
     transpose-requires
     open-round-requires
     visit-requires
