@@ -8,6 +8,7 @@ use harness::jobs::{Flow, Job, PAULI, PLANES, records};
 use harness::many::{self, KINDS};
 use harness::ours::{self, Answer, OUT_BYTES, WORK_BYTES};
 use harness::random::Random;
+use harness::rule::Rule;
 use harness::theirs;
 
 /// A run takes at least so many microseconds, on families and on single jobs.
@@ -88,10 +89,20 @@ pub fn print_families() -> Vec<Row> {
     rows
 }
 
+/// A random job inside the old premise: outside it the original may do something else.
+fn comparable(kind: &str, mode: u8, n: usize, random: &mut Random) -> Job {
+    loop {
+        let job = many::job_of(kind, mode, n, random);
+        if Rule::new(&job).in_old_premise() {
+            return job;
+        }
+    }
+}
+
 /// The times of random jobs, one of each kind after the other, several times over.
 fn single_jobs(mode: u8, n: usize, random: &mut Random) -> Vec<(&'static str, Times)> {
     let one = |&kind: &&'static str| {
-        let files = [many::job_of(kind, mode, n, random).bytes()];
+        let files = [comparable(kind, mode, n, random).bytes()];
         agree(&files);
         (kind, times(&files, SINGLE_RUN))
     };

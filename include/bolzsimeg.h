@@ -23,7 +23,7 @@ extern "C" {
 typedef char bolz_size_t_has_64_bits[sizeof(size_t) == 8 ? 1 : -1];
 
 /* Grows with each change of a file's format, of a size or of a refusal. */
-#define BOLZ_VERSION 4
+#define BOLZ_VERSION 5
 
 #define BOLZ_MOST_NODES 128
 #define BOLZ_ROW_BYTES 16      /* a row of the work matrix, and the solver's out bits, lowest bit first */
@@ -125,7 +125,7 @@ uint64_t bolz_write_job(size_t n, size_t mode, const uint8_t *edges, size_t edge
                         const uint8_t *outputs, size_t outputs_len, const uint8_t *measurements, size_t measurements_len,
                         uint8_t *out, size_t out_len);
 
-/* The solver: matrix of rows times 16 bytes, cols coefficients and then `sides` right sides in each row; it is eliminated in place.
+/* The solver: matrix of rows times 16 bytes, cols coefficients, which may be none, and then `sides` right sides in each row; it is eliminated in place.
    1: right side `side` has a solution, which is in `bits`; 0: it has none, and `bits` are as they were; or a refusal. */
 uint64_t bolz_solve(uint8_t *matrix, size_t matrix_len, uint8_t *bits, size_t bits_len, size_t rows, size_t cols, size_t sides, size_t side);
 

@@ -2,7 +2,7 @@
 """Makes the data of crate replay, stdin and what the program should print: python3 oracle/replay.py SAMPLE crates/replay
 
 First stand cases A to N of document 01 and its edges, each claim by its name. SAMPLE is what oracle/export wrote: jobs and flows with the
-original's answers. Behind them stands a table, made here from documents 01 and 02 alone as the cases are, that reaches every refusal at each record or
+original's answers, or, where a search may lack columns, those of the papers' rule. Behind them stands a table, made here from documents 01 and 02 alone as the cases are, that reaches every refusal at each record or
 list where it can occur, on both sides of its boundary; and one entry that is wrong on purpose.
 An entry: kind, number, a, then two bytes each, lowest first: b, length of work buffer, of result buffer, of name, of query, of result; then
 name, query and result. Number 0 is an answer. Kinds: f finder, v verifier, s solver, w job writer, r the original's verdict (18 stands for 18
@@ -80,12 +80,6 @@ def found(name, query, result, *others):
     yield from accepted(name, query, result, *others)
 
 
-def not_found(name, query, *others):
-    """The finder says that there is no flow, and yet each of these is accepted."""
-    yield entry("f", query, NO_FLOW, name=f"{name} no flow")
-    yield from accepted(name, query, *others)
-
-
 def accepted(name, query, *flows):
     for at, flow in enumerate(flows):
         yield entry("v", query + flow, ACCEPTED, name=f"{name} accepted" + " too" * at)
@@ -98,16 +92,15 @@ def refused(name, query, number, a, b):
 def cases():
     old_flow = bytes.fromhex("02000000 1100 0100 03000000 1200 000101")
     own = flow([1, 0], (0, [0]))
-    alone = job(1, PLANES, measured=[YZ])
     yield from found("A", EDGE, EDGE_FLOW, old_flow)
     yield entry("w", lists(2, PLANES, [1, 0], [0], [1], [XY, 0]), EDGE, name="A written")
     yield from found("B", job(0, PLANES), flow([]))
-    yield from not_found("C", alone, flow([1], (0, [0])))
+    yield from found("C", job(1, PLANES, measured=[YZ]), flow([1], (0, [0])))
     yield from found("D", isolated(PLANES, YZ), own)
-    yield from found("E", isolated(PAULI, Z), own, flow([0, 0], (0, [0])))
+    yield from found("E", isolated(PAULI, Z), flow([0, 0], (0, [0])), own)
     yield from found("F", job(2, PLANES, [(0, 1)], [0], [1], [YZ, 0]), own)
     yield from found("G", path_job(PLANES, XY, XY), path_flow(2, 1, 0))
-    yield from not_found("H", job(2, PLANES, [(0, 1)], [0, 1], [1], [XY, 0]))
+    yield entry("f", job(2, PLANES, [(0, 1)], [0, 1], [1], [XY, 0]), NO_FLOW, name="H no flow")
     yield from found("I", path_job(PAULI, XY, X), path_flow(1, 1, 0))
     yield solve(1, 2, 1, 0, row(0, 1, 2), 0, row(0), name="J")
     yield solve(1, 1, 1, 0, row(1), 0, name="K")
@@ -128,10 +121,10 @@ def differences():
     yield from refused("an output in layer 1 (15)", job(1, PLANES, outputs=[0], measured=[0]) + flow([1]), 15, 0, 1)
     yield from refused("a YZ node in layer 0 (16)", job(1, PLANES, measured=[YZ]) + one, 16, 0, 0)
     yield from found("F in mode 3", job(2, PAULI, [(0, 1)], [0], [1], [YZ, 0]), flow([1, 0], (0, [0])))
-    yield from not_found("a Z node alone", job(1, PAULI, measured=[Z]), one)
+    yield from found("a Z node alone", job(1, PAULI, measured=[Z]), one)
 
 
-# ---- The original's answers.
+# ---- The sample.
 
 def original(sample):
     at = 0
@@ -261,7 +254,7 @@ def layers_places():
 def finder():
     edge = job(2, PLANES, [(0, 1)], [0], [1], [XY, 0])
     found = flow([1, 0], (0, [1]))
-    none = job(1, PLANES, measured=[YZ])
+    none = job(1, PLANES, measured=[XY])
     for mode, number in [(CAUSAL, 10), (PLANES, 0), (PAULI, 0)]:
         query = job(2, mode, [(0, 1)], [0], [1], [XY, 0])
         yield entry("f", query, b"" if number else found, number)
@@ -438,7 +431,6 @@ def row(*bits):
 def solver():
     first = row(0)
     yield solve(0, 1, 1, 0, b"", 11)
-    yield solve(1, 0, 1, 0, row(0), 11)
     yield solve(1, 1, 0, 0, row(0), 11)
     yield solve(1, 127, 1, 0, row(0, 127), 0, first)
     yield solve(1, 128, 1, 0, row(0), 11)
@@ -460,6 +452,54 @@ def solver():
     yield solve(1, 1, WRAPS, 0, row(0), 11)
     yield solve(WRAPS, 1, 1, 0, row(0, 1), 11)
     yield solve(1, 1, 1, WRAPS, row(0, 1), 12)
+
+
+# ---- Without columns, request 2026-05 of document 02.
+
+def solver_without_columns():
+    """Solvable exactly where the right side is zero: then the out bits become zero, and else they keep."""
+    none = row()
+    yield solve(1, 0, 1, 0, none, 0, none)
+    yield solve(1, 0, 1, 0, row(0), 0)
+    yield solve(2, 0, 2, 0, row(1) + none, 0, none)
+    yield solve(2, 0, 2, 1, row(1) + none, 0)
+    yield solve(2, 0, 2, 1, none + row(1), 0)
+    yield solve(1, 0, 128, 127, row(*range(127)), 0, none)
+    yield solve(1, 0, 128, 127, row(127), 0)
+    yield solve(1, 0, 129, 0, none, 11)
+    yield solve(128, 0, 1, 0, none * 128, 0, none)
+    yield solve(128, 0, 1, 0, none * 127 + row(0), 0)
+    yield solve(129, 0, 1, 0, none * 129, 11)
+    # neither a row, nor a right side, nor an exact length, nor the width is forgone with the columns
+    yield solve(0, 0, 1, 0, b"", 11)
+    yield solve(1, 0, 0, 0, none, 11)
+    yield solve(0, 0, 0, 0, b"", 11)
+    yield solve(1, 0, 1, 0, none[:15], 11)
+    yield solve(1, 0, 1, 0, none, 11, out=15)
+    yield solve(1, 0, 1, 0, row(1), 11)
+    yield solve(1, 0, 1, 1, none, 12)
+    yield solve(1, 0, 2, 2, none, 12)
+
+
+def finder_without_columns():
+    """A node alone has the set {0} where its measurement asks for no node in Odd, an input too; so has one that meets only an output."""
+    for inputs in ([], [0]):
+        for mode, measurements in ((PLANES, (XY, YZ, XZ)), (PAULI, (XY, YZ, XZ, X, Y, Z))):
+            for measured in measurements:
+                first = int(mode == PLANES)
+                answer = flow([first], (0, [0])) if measured in (YZ, Y, Z) else NO_FLOW
+                yield entry("f", job(1, mode, inputs=inputs, measured=[measured]), answer)
+    # the one output is an input, so no column; it is later from round 1 on
+    beside = ([(0, 1)], [1], [1])
+    yield entry("f", job(2, PLANES, *beside, [YZ, 0]), flow([1, 0], (0, [0])))
+    yield entry("f", job(2, PAULI, *beside, [YZ, 0]), flow([1, 0], (0, [0])))
+    yield entry("f", job(3, PAULI, *beside, [YZ, 0, Y]), flow([1, 0, 0], (0, [0]), (2, [2])))
+    # two that are neighbours are in Odd of each other's set, and neither can be first; for a Z node that is no harm
+    pair = [(0, 1)]
+    yield entry("f", job(2, PLANES, pair, measured=[YZ, YZ]), NO_FLOW)
+    yield entry("f", job(2, PAULI, pair, measured=[YZ, YZ]), NO_FLOW)
+    yield entry("f", job(2, PAULI, pair, measured=[Z, Z]), flow([0, 0], (0, [0]), (1, [1])))
+    yield entry("f", job(2, PAULI, pair, measured=[YZ, Z]), flow([0, 1], (0, [0]), (1, [1])))
 
 
 # ---- The job writer, request 2026-01 of document 02: 3, 4, 5 and 7 list by list, then 21, then 20.
@@ -1021,7 +1061,7 @@ def main():
     entries.append(entry("f", job(2, PLANES, [(0, 1)], [0], [1], [XY, 0]), flow([257, 0], (0, [1]))))
     writer = (openings, nodes_of_lists, measurements, given_twice, room, precedence, random_jobs)
     signals = (hand_made, sizes, longest, stored_lists, every_bit, judged_first, places, refused_files, sets_edited, lent_entries, first_of_two)
-    for part in (heads, payloads, flows, finder, verifier, solver) + writer + signals:
+    for part in (heads, payloads, flows, finder, verifier, solver, solver_without_columns, finder_without_columns) + writer + signals:
         entries.extend(part())
     with open(f"{folder}/stdin", "wb") as file:
         file.write(b"".join(entries))

@@ -1,15 +1,16 @@
 //! The finders of modes 2 and 3: layers and sets, after reading.
 
 use crate::families::{self, allowed};
-use crate::jobs::{Flow, Job, PAULI, PLANES, WIDE_LAYERS};
+use crate::jobs::{Flow, Job, PAULI, PLANES, WIDE_LAYERS, Y, found_bytes, told_found};
 use crate::many::{self, KINDS};
 use crate::ours::{self, Answer, OUT_BYTES, WORK_BYTES};
 use crate::random::Random;
+use crate::rule::{Rule, SMALL};
 use crate::tally::{Tally, hex};
 use crate::theirs;
 
-/// All jobs of up to so many nodes are compared.
-const SMALL: usize = 3;
+/// What the original gave outside the old premise, where it is what ours gave.
+const ALIKE: &str = "as the original";
 
 /// The bytes that ours writes, or the refusal.
 pub fn find_ours(file: &[u8]) -> Result<Vec<u8>, Answer> {
@@ -50,14 +51,94 @@ fn depth(answer: Option<&[u8]>, n: usize) -> &'static str {
     }
 }
 
+/// How the original's answer stands to ours outside the old premise, and whether it may: it gives up more often, and its layers may be
+/// larger.
+fn beside(mine: Option<&Flow>, other: Option<&Flow>) -> (&'static str, bool) {
+    let (mine, other) = match (mine, other) {
+        (None, None) => return (ALIKE, true),
+        (Some(_), None) => return ("the original: no flow", true),
+        (None, Some(_)) => return ("the original: a flow, ours: none", false),
+        (Some(mine), Some(other)) => (mine, other),
+    };
+    let no_larger = mine.layers.iter().zip(&other.layers).all(|(a, b)| a <= b);
+    match mine.layers == other.layers {
+        true if mine.sets == other.sets => (ALIKE, true),
+        true => ("the original: other sets", true),
+        false if no_larger => ("the original: larger layers", true),
+        false => ("the original: some smaller layer", false),
+    }
+}
+
+/// The job with nodes on their own beside it, so that the original always has a column: a planes job gets an output, whose column is
+/// zero; a job with Paulis two Y nodes, each of which has a row of its own that keeps it out of other sets. The rule gives all other
+/// nodes what it gives them without these, and such a job is inside the old premise.
+fn with_islands(job: &Job) -> Job {
+    let mut more = job.clone();
+    let added = if job.mode == PLANES { 1 } else { 2 };
+    more.n += added;
+    more.measured.extend(vec![Y; added]);
+    if job.mode == PLANES {
+        more.outputs.insert(job.n as u8);
+    }
+    more
+}
+
+/// The original's answer for the job with islands, less the islands.
+fn find_with_islands(job: &Job) -> Option<Vec<u8>> {
+    let more = with_islands(job);
+    let flow = Flow::read(&find_theirs(&more.bytes())?, more.n).map(|mut flow| {
+        flow.layers.truncate(job.n);
+        flow.sets.retain(|&u, _| usize::from(u) < job.n);
+        flow
+    });
+    Some(found_bytes(flow.as_ref()))
+}
+
+/// Whether ours is what the rule gives. For a job of up to `SMALL` nodes that is found by trying all: the flow of the equations, with
+/// the smallest layers. Of a larger job outside the old premise the original is asked with islands; inside it the answers are compared
+/// anyway.
+fn is_right(job: &Job, rule: &Rule, mine: &[u8]) -> bool {
+    let flow = Flow::read(mine, job.n);
+    let obeys = flow.as_ref().is_none_or(|flow| rule.obeys(flow));
+    if job.n <= SMALL {
+        let smallest = rule.smallest_layers() == flow.map(|flow| flow.layers);
+        return obeys && smallest && is_same(mine, &found_bytes(rule.answer().as_ref()), job.n);
+    }
+    obeys && (rule.in_old_premise() || find_with_islands(job).is_some_and(|wanted| is_same(mine, &wanted, job.n)))
+}
+
+/// The job and both answers, for people and as bytes.
+fn told(job: &Job, mine: &Result<Vec<u8>, Answer>, other: Option<&[u8]>) -> String {
+    let answer = |bytes: &[u8]| format!("{} ({})", told_found(bytes, job.n), hex(bytes));
+    let mine = mine.as_ref().map_or_else(|refused| format!("{refused:?}"), |bytes| answer(bytes));
+    let other = other.map_or("panic".to_string(), answer);
+    format!("{} ({}); ours: {mine}; original: {other}", job.told(), hex(&job.bytes()))
+}
+
+/// What the rule gives, where all sets can be tried.
+fn told_rule(job: &Job, rule: &Rule) -> String {
+    if job.n > SMALL { String::new() } else { format!("; by the rule: {}", told_found(&found_bytes(rule.answer().as_ref()), job.n)) }
+}
+
 fn compare(tally: &mut Tally, family: &str, job: &Job) {
     let file = job.bytes();
+    let rule = Rule::new(job);
     let (mine, other) = (find_ours(&file), find_theirs(&file));
-    let same = matches!((&mine, &other), (Ok(a), Some(b)) if is_same(a, b, job.n));
-    tally.add(family, depth(other.as_deref(), job.n), same, || {
-        format!("job {} ours {:?} original {:?}", hex(&file), mine.as_ref().map(|b| hex(b)), other.as_ref().map(|b| hex(b)))
-    });
-    if let Some(flow) = other.as_deref().and_then(|bytes| Flow::read(bytes, job.n)) {
+    let [flow, original] = [mine.as_deref().ok(), other.as_deref()].map(|bytes| Flow::read(bytes?, job.n));
+    let right = mine.as_ref().is_ok_and(|bytes| is_right(job, &rule, bytes));
+    let answers = || told(job, &mine, other.as_deref());
+    let detail = || answers() + &told_rule(job, &rule);
+    if rule.in_old_premise() {
+        let same = matches!((&mine, &other), (Ok(a), Some(b)) if is_same(a, b, job.n));
+        tally.add(family, depth(other.as_deref(), job.n), same && right, detail);
+    } else {
+        let (label, may) = if other.is_some() { beside(flow.as_ref(), original.as_ref()) } else { ("panic", false) };
+        tally.add(&format!("{family}, outside the old premise (by the papers' rule)"), label, may && right, detail);
+        if label != ALIKE {
+            tally.add_otherwise(format!("mode {}, {label}", job.mode), job, answers);
+        }
+    }
+    if let Some(flow) = flow {
         flow.sets.keys().for_each(|&u| tally.add_node(job.measured[u as usize]));
     }
 }
@@ -99,7 +180,8 @@ fn all_measurements(job: &mut Job, each: &mut impl FnMut(&Job)) {
 pub fn all_small(tally: &mut Tally) {
     for mode in [PLANES, PAULI] {
         for n in 0..=SMALL {
-            all_jobs(n, mode, |job| compare(tally, &format!("finder, mode {mode}, all jobs of {n} nodes"), job));
+            let family = format!("finder, mode {mode}, all jobs of {n} nodes");
+            all_jobs(n, mode, |job| compare(tally, &family, job));
         }
     }
 }
@@ -110,6 +192,15 @@ pub fn random_ones(tally: &mut Tally, random: &mut Random, count: usize) {
         let mode = [PLANES, PAULI][i / KINDS.len() % 2];
         let job = many::job(kind, mode, random);
         compare(tally, &format!("finder, mode {mode}, random, {kind}"), &job);
+    }
+}
+
+/// Jobs that have a flow, most of them outside the old premise.
+pub fn random_lean(tally: &mut Tally, random: &mut Random, count: usize) {
+    for i in 0..count {
+        let mode = [PLANES, PAULI][i % 2];
+        let job = many::lean(mode, random);
+        compare(tally, &format!("finder, mode {mode}, random, grown with few columns"), &job);
     }
 }
 

@@ -12,11 +12,14 @@ pub const XZ: u8 = 3;
 pub const X: u8 = 4;
 pub const Y: u8 = 5;
 pub const Z: u8 = 6;
+const NAMES: [&str; 7] = ["-", "XY", "YZ", "XZ", "X", "Y", "Z"];
 
 /// Layers in a byte for each node, and in two.
 pub const LAYERS: u16 = 0x0011;
 pub const WIDE_LAYERS: u16 = 0x0021;
 pub const SETS: u16 = 0x0012;
+/// A finder's answer where there is no flow.
+pub const NO_FLOW: u16 = 0x0013;
 /// The highest layer that 0021 can hold.
 pub const HIGHEST_LAYER: usize = 65_535;
 
@@ -60,8 +63,7 @@ impl Job {
         let edges: Vec<u8> = self.edges.iter().flat_map(|&(a, b)| [a, b]).collect();
         let inputs: Vec<u8> = self.inputs.iter().copied().collect();
         let outputs: Vec<u8> = self.outputs.iter().copied().collect();
-        let at = |u: usize| if self.outputs.contains(&(u as u8)) { 0 } else { self.measured[u] };
-        let measured: Vec<u8> = (0..self.n).map(at).collect();
+        let measured: Vec<u8> = (0..self.n).map(|u| self.written(u)).collect();
         let mut out = Vec::new();
         put_record(&mut out, 0x0001, &[self.n as u8, self.mode]);
         put_record(&mut out, 0x0002, &edges);
@@ -70,6 +72,34 @@ impl Job {
         put_record(&mut out, 0x0005, &measured);
         out
     }
+
+    /// The measurement as a job file has it.
+    fn written(&self, u: usize) -> u8 {
+        if self.outputs.contains(&(u as u8)) { 0 } else { self.measured[u] }
+    }
+
+    /// For people.
+    pub fn told(&self) -> String {
+        let listed = |all: Vec<String>| if all.is_empty() { "none".to_string() } else { all.join(" ") };
+        let nodes = |set: &BTreeSet<u8>| listed(set.iter().map(u8::to_string).collect());
+        let edges = listed(self.edges.iter().map(|(a, b)| format!("{a}-{b}")).collect());
+        let measured = listed((0..self.n).map(|u| NAMES[self.written(u) as usize].to_string()).collect());
+        let (n, inputs, outputs) = (self.n, nodes(&self.inputs), nodes(&self.outputs));
+        format!("n {n}, edges {edges}, inputs {inputs}, outputs {outputs}, measured {measured}")
+    }
+}
+
+/// What a finder writes: the flow file, or 0013.
+pub fn found_bytes(flow: Option<&Flow>) -> Vec<u8> {
+    let mut none = Vec::new();
+    put_record(&mut none, NO_FLOW, &[]);
+    flow.map_or(none, Flow::bytes)
+}
+
+/// What a finder wrote for a job of n nodes, for people.
+pub fn told_found(bytes: &[u8], n: usize) -> String {
+    let told = |flow: Flow| format!("layers {:?}, sets {:?}", flow.layers, flow.sets);
+    Flow::read(bytes, n).map_or("no flow".to_string(), told)
 }
 
 impl Flow {

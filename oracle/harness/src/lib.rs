@@ -8,6 +8,7 @@ pub mod jobs;
 pub mod many;
 pub mod ours;
 pub mod random;
+pub mod rule;
 pub mod solving;
 pub mod tally;
 pub mod theirs;

@@ -1,7 +1,7 @@
 //! Random jobs of every kind.
 
 use crate::families::{self, HIGHEST, allowed, some_nodes};
-use crate::grown::grown;
+use crate::grown::{grown, grown_lean};
 use crate::jobs::{Job, X, XY, XZ, Y, YZ, Z};
 use crate::random::Random;
 use std::collections::BTreeSet;
@@ -138,4 +138,11 @@ pub fn job_of(kind: &str, mode: u8, n: usize, random: &mut Random) -> Job {
 pub fn job(kind: &str, mode: u8, random: &mut Random) -> Job {
     let n = size(random);
     job_of(kind, mode, n, random)
+}
+
+/// A job with a flow and few columns at first: most of these are outside the old premise.
+pub fn lean(mode: u8, random: &mut Random) -> Job {
+    let n = size(random);
+    let job = grown_lean(n, mode, random);
+    renumber(&job, random)
 }

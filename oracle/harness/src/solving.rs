@@ -119,14 +119,49 @@ pub fn random_ones(tally: &mut Tally, random: &mut Random, count: usize) {
     }
 }
 
-/// The original's solver on zeros of the shape; none where it panics.
-fn tried_theirs(shape: Shape, out_bits: usize, side: usize) -> Option<bool> {
-    let call = || {
-        let mut storage = vec![FixedBitSet::with_capacity(shape.cols + shape.sides); shape.rows];
+/// The original's solver; none where it panics.
+fn tried_theirs(mut storage: Vec<FixedBitSet>, sides: usize, out_bits: usize, side: usize) -> Option<bool> {
+    let call = move || {
         let mut out = FixedBitSet::with_capacity(out_bits);
-        GF2Solver::attach(storage.as_mut_slice(), shape.sides).solve_in_place(&mut out, side)
+        GF2Solver::attach(storage.as_mut_slice(), sides).solve_in_place(&mut out, side)
     };
     std::panic::catch_unwind(call).ok()
+}
+
+/// Right sides only: half of them are zero, the others have a single 1 or many.
+fn sides_only(shape: Shape, random: &mut Random) -> Vec<u8> {
+    let mut bytes = vec![0; shape.rows * ROW_BYTES];
+    for side in 0..shape.sides {
+        let (kind, single) = (random.below(4), random.below(shape.rows));
+        for row in 0..shape.rows {
+            let is_set = kind == 2 && row == single || kind == 3 && random.chance(1, 2);
+            bytes[row * ROW_BYTES + side / 8] |= u8::from(is_set) << (side % 8);
+        }
+    }
+    bytes
+}
+
+/// No column: the empty sum is zero, so that just a right side of zeros has a solution, and there is nothing to eliminate.
+pub fn no_column(tally: &mut Tally, random: &mut Random, count: usize) {
+    for _ in 0..count {
+        let most = if random.chance(1, 2) { 12 } else { MOST };
+        let shape = Shape { rows: 1 + random.below(most), cols: 0, sides: 1 + random.below(most) };
+        let given = sides_only(shape, random);
+        let side = random.below(shape.sides);
+        let mut matrix = given.clone();
+        let mine = solve_ours(&mut matrix, shape, side);
+        let other = tried_theirs(rows_of(&given, shape.sides), shape.sides, 0, side);
+        let is_zero = given.chunks(ROW_BYTES).all(|row| !bit(row, side));
+        let wanted = if is_zero { (Answer::Value(1), [0; ROW_BYTES]) } else { (Answer::Value(0), OLD_BITS) };
+        let answer = match other {
+            Some(_) => "answer",
+            None if is_zero => "panic, the right side zero",
+            None => "panic, the right side not zero",
+        };
+        tally.add("solver, no column (the original panics)", answer, mine == wanted && matrix == given && other.is_none(), || {
+            format!("{shape:?} side {side} matrix {} ours {mine:?} leaves {} original {other:?}", hex(&given), hex(&matrix))
+        });
+    }
 }
 
 fn tried_ours(shape: Shape, out_bytes: usize, side: usize) -> Answer {
@@ -134,26 +169,34 @@ fn tried_ours(shape: Shape, out_bytes: usize, side: usize) -> Answer {
     ours::solve(&mut matrix, &mut bits, shape.rows, shape.cols, shape.sides, side)
 }
 
-/// Calls of a wrong shape: where the original panics ours refuses; what is above 128 only ours refuses.
+/// Calls of a wrong shape, each also without a column: where the original panics ours refuses; what is above 128 only ours refuses, but
+/// without a column the original panics there too.
 pub fn wrong_shapes(tally: &mut Tally, random: &mut Random, count: usize) {
     for _ in 0..count {
         let good = random_shape(random);
-        let (cols, sides) = (good.cols, good.sides);
-        let cases = [
-            ("no row", Shape { rows: 0, ..good }, cols, ROW_BYTES, 0, 11),
-            ("no right side", Shape { sides: 0, ..good }, cols, ROW_BYTES, 0, 11),
-            ("no column", Shape { cols: 0, ..good }, 0, ROW_BYTES, 0, 11),
-            ("out bits of a wrong length", good, cols + 1, ROW_BYTES + 1, 0, 11),
-            ("no such equation", good, cols, ROW_BYTES, sides + random.below(3), 12),
-            ("more than 128 rows", Shape { rows: MOST + 1, ..good }, cols, ROW_BYTES, 0, 11),
-            ("more than 128 columns in all", Shape { sides: MOST + 1 - cols, ..good }, cols, ROW_BYTES, 0, 11),
-        ];
-        for (name, shape, out_bits, out_bytes, side, number) in cases {
-            let (mine, other) = (tried_ours(shape, out_bytes, side), tried_theirs(shape, out_bits, side));
-            let same = mine == Answer::Refused(number, 0, 0) && other.is_none() != name.starts_with("more");
-            let answer = if other.is_none() { "panic" } else { "answer" };
-            let family = format!("solver, {name} (ours: {number})");
-            tally.add(&family, answer, same, || format!("{shape:?} side {side} ours {mine:?} original {other:?}"));
-        }
+        wrong_shapes_near(tally, good, random);
+        wrong_shapes_near(tally, Shape { cols: 0, ..good }, random);
+    }
+}
+
+fn wrong_shapes_near(tally: &mut Tally, good: Shape, random: &mut Random) {
+    let (cols, sides) = (good.cols, good.sides);
+    let cases = [
+        ("no row", Shape { rows: 0, ..good }, cols, ROW_BYTES, 0, 11),
+        ("no right side", Shape { sides: 0, ..good }, cols, ROW_BYTES, 0, 11),
+        ("out bits of a wrong length", good, cols + 1, ROW_BYTES + 1, 0, 11),
+        ("no such equation", good, cols, ROW_BYTES, sides + random.below(3), 12),
+        ("more than 128 rows", Shape { rows: MOST + 1, ..good }, cols, ROW_BYTES, 0, 11),
+        ("more than 128 columns in all", Shape { sides: MOST + 1 - cols, ..good }, cols, ROW_BYTES, 0, 11),
+    ];
+    for (name, shape, out_bits, out_bytes, side, number) in cases {
+        let storage = vec![FixedBitSet::with_capacity(shape.cols + shape.sides); shape.rows];
+        let (mine, other) = (tried_ours(shape, out_bytes, side), tried_theirs(storage, shape.sides, out_bits, side));
+        let panics = cols == 0 || !name.starts_with("more");
+        let same = mine == Answer::Refused(number, 0, 0) && other.is_none() == panics;
+        let answer = if other.is_none() { "panic" } else { "answer" };
+        let besides = if cols == 0 { ", and no column" } else { "" };
+        let family = format!("solver, {name}{besides} (ours: {number})");
+        tally.add(&family, answer, same, || format!("{shape:?} side {side} ours {mine:?} original {other:?}"));
     }
 }

@@ -1,6 +1,6 @@
 //! Counts of what was compared, and the first differences.
 
-use crate::jobs::{Flow, LAYERS};
+use crate::jobs::{Flow, Job, LAYERS};
 use std::collections::BTreeMap;
 
 /// So many differences are shown whole.
@@ -13,6 +13,9 @@ struct Row {
     answers: BTreeMap<String, usize>,
 }
 
+/// A job by its number of nodes, its number of edges and its bytes: the first is the smallest.
+type Rank = (usize, usize, Vec<u8>);
+
 #[derive(Default)]
 pub struct Tally {
     rows: BTreeMap<String, Row>,
@@ -21,6 +24,8 @@ pub struct Tally {
     /// How many flows were judged by layers of kind 0011, of kind 0021 up to layer 255, and of kind 0021 beyond.
     judged: [usize; 3],
     differences: Vec<String>,
+    /// The smallest job of each kind that the original may answer otherwise.
+    smallest: BTreeMap<String, (Rank, String)>,
 }
 
 pub fn hex(bytes: &[u8]) -> String {
@@ -52,6 +57,14 @@ impl Tally {
         self.judged[usize::from(flow.kind != LAYERS) + usize::from(beyond)] += 1;
     }
 
+    /// A job that the original answers otherwise, and may.
+    pub fn add_otherwise(&mut self, kind: String, job: &Job, detail: impl FnOnce() -> String) {
+        let rank = (job.n, job.edges.len(), job.bytes());
+        if self.smallest.get(&kind).is_none_or(|(least, _)| rank < *least) {
+            self.smallest.insert(kind, (rank, detail()));
+        }
+    }
+
     /// Prints the table; true where nothing differs.
     pub fn report(&self) -> bool {
         println!("| compared | cases | differences | the original's answers |");
@@ -63,6 +76,9 @@ impl Tally {
         println!("\nnodes in the found flows: XY, YZ, XZ, X, Y, Z: {:?}", &self.measured[1..]);
         let [narrow, wide, beyond] = self.judged;
         println!("judged flows: kind 0011: {narrow}; kind 0021: {}, {beyond} of them with a layer past 255", wide + beyond);
+        for (kind, (_, detail)) in &self.smallest {
+            println!("smallest, {kind}: {detail}");
+        }
         let compared: usize = self.rows.values().map(|row| row.compared).sum();
         let different: usize = self.rows.values().map(|row| row.different).sum();
         println!("{compared} compared, {different} different");

@@ -1,6 +1,6 @@
 //! The original, from bytes to bytes.
 
-use crate::jobs::{CAUSAL, LAYERS, PLANES, Record, SETS, X, XY, XZ, Y, YZ, Z, layers_of, put_record, records};
+use crate::jobs::{CAUSAL, LAYERS, NO_FLOW, PLANES, Record, SETS, X, XY, XZ, Y, YZ, Z, layers_of, put_record, records};
 use hashbrown::HashMap;
 use original::common::{FlowValidationError, Graph, Layer, Nodes};
 use original::flow;
@@ -67,7 +67,7 @@ fn pauli(m: u8) -> PPlane {
 fn write(found: Option<(Sets, Layer)>, out: &mut Vec<u8>) {
     out.clear();
     let Some((sets, layers)) = found else {
-        return put_record(out, 0x0013, &[]);
+        return put_record(out, NO_FLOW, &[]);
     };
     let layers: Vec<u8> = layers.iter().map(|&l| l as u8).collect();
     let mut entries = Vec::new();

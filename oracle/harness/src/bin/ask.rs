@@ -1,17 +1,12 @@
 //! What the original answers on a file, and what ours does: a job is searched, a job with a flow file behind it is judged.
 
 use harness::finders::find_theirs;
-use harness::jobs::{Flow, records};
+use harness::jobs::{records, told_found};
 use harness::ours::{self, Answer, OUT_BYTES, WORK_BYTES};
 use harness::theirs;
 
 /// The records of a job; a flow file behind it adds two.
 const JOB_RECORDS: usize = 5;
-
-fn flow(bytes: &[u8], n: usize) -> String {
-    let told = |flow: Flow| format!("layers {:?}, sets {:?}", flow.layers, flow.sets);
-    Flow::read(bytes, n).map_or("no flow".to_string(), told)
-}
 
 fn refused(number: u8, a: usize, b: usize) -> String {
     format!("refused {number}, a = {a}, b = {b}")
@@ -20,10 +15,10 @@ fn refused(number: u8, a: usize, b: usize) -> String {
 fn searched(file: &[u8], n: usize) -> [String; 2] {
     let (mut work, mut out) = ([0; WORK_BYTES], [0; OUT_BYTES]);
     let mine = match ours::find(file, &mut work, &mut out) {
-        Answer::Value(len) => flow(&out[..len], n),
+        Answer::Value(len) => told_found(&out[..len], n),
         Answer::Refused(number, a, b) => refused(number, a as usize, b as usize),
     };
-    [find_theirs(file).map_or("panic".to_string(), |bytes| flow(&bytes, n)), mine]
+    [find_theirs(file).map_or("panic".to_string(), |bytes| told_found(&bytes, n)), mine]
 }
 
 fn judged(file: &[u8]) -> [String; 2] {

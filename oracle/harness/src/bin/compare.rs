@@ -1,4 +1,4 @@
-//! Compares the proved library with the original; the seed may be given. Exit code 1 where they differ.
+//! Compares the proved library with the original, and with the papers' rule; the seed may be given. Exit code 1 where they differ.
 
 use harness::random::Random;
 use harness::tally::Tally;
@@ -7,10 +7,12 @@ use std::process::ExitCode;
 
 const SEED: u64 = 20260101;
 const JOBS: usize = 40_000;
+const LEAN_JOBS: usize = 4_000;
 const LARGEST_ROUNDS: usize = 20;
 const VERDICTS: usize = 24_000;
 const MATRICES: usize = 10_000;
 const WRONG_SHAPES: usize = 100;
+const NO_COLUMN: usize = 10_000;
 const TOO_MANY: usize = 4;
 
 fn main() -> ExitCode {
@@ -28,5 +30,7 @@ fn main() -> ExitCode {
     verifiers::random_ones(tally, random, VERDICTS);
     solving::random_ones(tally, random, MATRICES);
     solving::wrong_shapes(tally, random, WRONG_SHAPES);
+    solving::no_column(tally, random, NO_COLUMN);
+    finders::random_lean(tally, random, LEAN_JOBS);
     if tally.report() { ExitCode::SUCCESS } else { ExitCode::FAILURE }
 }

@@ -1,13 +1,15 @@
-//! Writes a sample of the original's answers to the file that is named. Each entry: 'f' or 'v', the length of the query (4 bytes,
-//! little-endian), the query (a job; or a job and a flow file), the length of the answer, the answer (a flow file or 0013; or one
-//! byte: 0 accepted, else the refusal's number, 18 also for 19).
+//! Writes a sample of answers to the file that is named. Each entry: 'f' or 'v', the length of the query (4 bytes, little-endian), the
+//! query (a job; or a job and a flow file), the length of the answer, the answer (a flow file or 0013; or one byte: 0 accepted, else the
+//! refusal's number, 18 also for 19). The answers are the original's; but of a job outside the old premise (rule.rs) a search's answer is
+//! what the papers' rule gives. That is found by trying all sets, so larger jobs outside are left out.
 
 use harness::families::{circuit, grid, measure, path};
 use harness::finders::{all_jobs, find_theirs};
 use harness::flows::{DAMAGES, by_chance, damaged, found};
-use harness::jobs::{CAUSAL, Flow, Job, PAULI, PLANES, X, XY, Y};
+use harness::jobs::{CAUSAL, Flow, Job, PAULI, PLANES, X, XY, Y, found_bytes};
 use harness::many::{self, KINDS};
 use harness::random::Random;
+use harness::rule::{self, Rule};
 use harness::theirs;
 use std::collections::BTreeMap;
 
@@ -40,11 +42,11 @@ impl Sample {
         *self.counts.entry(label).or_default() += 1;
     }
 
-    /// A job with the original's flow file or 0013.
-    fn put_find(&mut self, job: &Job) {
-        let answer = find_theirs(&job.bytes()).expect("no finder panics");
-        let what = if Flow::read(&answer, job.n).is_some() { "flow" } else { "no flow" };
-        self.put(b'f', format!("find, mode {}, {what}", job.mode), &job.bytes(), &answer);
+    /// A job with the flow file or 0013 that is wanted.
+    fn put_find(&mut self, job: &Job, answer: &[u8]) {
+        let what = if Flow::read(answer, job.n).is_some() { "flow" } else { "no flow" };
+        let by = if Rule::new(job).in_old_premise() { "original" } else { "rule" };
+        self.put(b'f', format!("find, mode {}, {what}, by the {by}", job.mode), &job.bytes(), answer);
     }
 
     /// A job and a flow with the original's verdict.
@@ -52,6 +54,16 @@ impl Sample {
         let file = [job.bytes(), flow.bytes()].concat();
         self.put(b'v', format!("verify, mode {}, {number}", job.mode), &file, &[number.min(18)]);
     }
+}
+
+/// What a finder should give, with layers of kind 0011: the original's answer, or the rule's outside the old premise; none where the
+/// job is too large for that.
+fn wanted(job: &Job) -> Option<Vec<u8>> {
+    let rule = Rule::new(job);
+    if rule.in_old_premise() {
+        return Some(find_theirs(&job.bytes()).expect("no finder panics"));
+    }
+    (job.n <= rule::SMALL).then(|| found_bytes(rule.answer().as_ref()))
 }
 
 /// The number of the original's verdict, where it is the same in all runs.
@@ -70,17 +82,20 @@ fn finds(sample: &mut Sample, kind: &str, mode: u8, random: &mut Random) {
         }
         let n = 2 + random.below(SMALL - 1);
         let job = many::job_of(kind, mode, n, random);
-        let count = match found(&job) {
+        let Some(answer) = wanted(&job) else { continue };
+        let count = match Flow::read(&answer, job.n) {
             Some(flow) if flow.sets.is_empty() => continue,
             Some(_) => &mut with,
             None => &mut without,
         };
         if *count < FINDS {
             *count += 1;
-            sample.put_find(&job);
+            sample.put_find(&job, &answer);
         }
     }
-    sample.put_find(&many::job_of(kind, mode, MIDDLE, random));
+    let larger = std::iter::repeat_with(|| many::job_of(kind, mode, MIDDLE, random)).find_map(|job| Some((wanted(&job)?, job)));
+    let (answer, job) = larger.expect("it goes on until there is one");
+    sample.put_find(&job, &answer);
 }
 
 /// A flow for the job: found, found and damaged, or made by chance.
@@ -116,7 +131,7 @@ fn largest(sample: &mut Sample, mode: u8, random: &mut Random) {
             measure(&mut job, &[X, Y, XY], random);
         }
         if mode != CAUSAL {
-            sample.put_find(&job);
+            sample.put_find(&job, &wanted(&job).expect("an output is no input, and many nodes are in X or Y"));
         }
         let whole = found(&job).expect("these have flows");
         let broken = damaged("member added", &job, &whole, random).expect("there is an entry");
@@ -132,7 +147,7 @@ fn main() {
     let file = std::env::args().nth(1).expect("the file to write");
     let (mut sample, random) = (Sample::default(), &mut Random::new(SEED));
     for mode in [PLANES, PAULI] {
-        (0..=1).for_each(|n| all_jobs(n, mode, |job| sample.put_find(job)));
+        (0..=1).for_each(|n| all_jobs(n, mode, |job| sample.put_find(job, &wanted(job).expect("the job is small"))));
         KINDS.iter().for_each(|kind| finds(&mut sample, kind, mode, random));
     }
     for mode in [CAUSAL, PLANES, PAULI] {
