@@ -39,8 +39,8 @@ round try r s = record {
 abbrev pub solvesSome : ((ℕ → Bool) → ℕ → Option (ℕ → Bool)) → ℕ → Progress → Bool
 solvesSome try n s = anyBelow n (solvedNow (try (s .solved)) s)
 
--- Rounds from r on. A round that solves nothing ends the search; where nothing is unsolved it does so too. That the search never
--- ends by the bound on their number is a law (rounds-end). `try later u` tries u when the nodes `later` were solved before.
+-- Rounds from r on. A round that solves nothing ends the search; where nothing is unsolved, none solves anything (solved-idle). That
+-- the bound on their number never ends it is a law (rounds-end). `try later u` tries u when the nodes `later` were solved before.
 unfoldable pub rounds : ((ℕ → Bool) → ℕ → Option (ℕ → Bool)) → ℕ → ℕ → ℕ → Progress → Progress
 rounds try n zero r s = s
 rounds try n (suc bound) r s =
