@@ -296,6 +296,7 @@ static void sizes(void)
     want("a row", solve(r, r, 1, 0), 0);
     want("a row and a byte less", solve(r - 1, r, 1, 0), BOLZ_WRONG_SHAPE);
     want("out bits and a byte more", solve(r, r + 1, 1, 0), BOLZ_WRONG_SHAPE);
+    want("no column", solve(r, r, 0, 0), 0);
     want("columns of a row", solve(r, r, 8 * r - 1, 0), 0);
     want("a column more", solve(r, r, 8 * r, 0), BOLZ_WRONG_SHAPE);
 }

@@ -134,6 +134,7 @@ fn compare(tally: &mut Tally, family: &str, job: &Job) {
     } else {
         let (label, may) = if other.is_some() { beside(flow.as_ref(), original.as_ref()) } else { ("panic", false) };
         tally.add(&format!("{family}, outside the old premise (by the papers' rule)"), label, may && right, detail);
+        tally.add_outside();
         if label != ALIKE {
             tally.add_otherwise(format!("mode {}, {label}", job.mode), job, answers);
         }

@@ -24,7 +24,10 @@ pub struct Tally {
     /// How many flows were judged by layers of kind 0011, of kind 0021 up to layer 255, and of kind 0021 beyond.
     judged: [usize; 3],
     differences: Vec<String>,
-    /// The smallest job of each kind that the original may answer otherwise.
+    /// How many jobs were outside the old premise, and how many of these the original answers otherwise.
+    outside: usize,
+    otherwise: usize,
+    /// The smallest of them, of each kind.
     smallest: BTreeMap<String, (Rank, String)>,
 }
 
@@ -57,8 +60,13 @@ impl Tally {
         self.judged[usize::from(flow.kind != LAYERS) + usize::from(beyond)] += 1;
     }
 
-    /// A job that the original answers otherwise, and may.
+    pub fn add_outside(&mut self) {
+        self.outside += 1;
+    }
+
+    /// A job outside the old premise that the original answers otherwise, and may.
     pub fn add_otherwise(&mut self, kind: String, job: &Job, detail: impl FnOnce() -> String) {
+        self.otherwise += 1;
         let rank = (job.n, job.edges.len(), job.bytes());
         if self.smallest.get(&kind).is_none_or(|(least, _)| rank < *least) {
             self.smallest.insert(kind, (rank, detail()));
@@ -76,6 +84,7 @@ impl Tally {
         println!("\nnodes in the found flows: XY, YZ, XZ, X, Y, Z: {:?}", &self.measured[1..]);
         let [narrow, wide, beyond] = self.judged;
         println!("judged flows: kind 0011: {narrow}; kind 0021: {}, {beyond} of them with a layer past 255", wide + beyond);
+        println!("outside the old premise: {} jobs, of which the original answers {} otherwise", self.outside, self.otherwise);
         for (kind, (_, detail)) in &self.smallest {
             println!("smallest, {kind}: {detail}");
         }
