@@ -23,20 +23,23 @@ extern "C" {
 typedef char bolz_size_t_has_64_bits[sizeof(size_t) == 8 ? 1 : -1];
 
 /* Grows with each change of a file's format, of a size or of a refusal. */
-#define BOLZ_VERSION 5
+#define BOLZ_VERSION 6
 
 #define BOLZ_MOST_NODES 128
 #define BOLZ_ROW_BYTES 16      /* a row of the work matrix, and the solver's out bits, lowest bit first */
 #define BOLZ_WORK_BYTES 2048   /* the finder's work buffer, exactly */
-#define BOLZ_MOST_OUTPUT 16908 /* no result of finder, verifier or job writer is longer */
+#define BOLZ_ANGLE_BYTES 8     /* an angle: an IEEE double in units of pi, lowest byte first */
+#define BOLZ_MOST_OUTPUT 16908 /* no result of finder or verifier is longer */
 #define BOLZ_MOST_FLOW 21016   /* no flow file is longer, its signal lists included */
+#define BOLZ_MOST_JOB 17702    /* no job file is longer, its angles included */
 
 /* The stack that a call needs, in bytes, measured with some room. */
 #define BOLZ_FIND_STACK 20480
 #define BOLZ_VERIFY_STACK 16384
 #define BOLZ_ADD_SIGNALS_STACK 16384
 #define BOLZ_EDIT_SET_STACK 16384
-#define BOLZ_WRITE_JOB_STACK 4096
+#define BOLZ_WRITE_JOB_STACK 4096 /* with angles too */
+#define BOLZ_READ_ANGLES_STACK 1024
 #define BOLZ_SOLVE_STACK 1024
 
 /* Refusals, numbered as the questions that they answer with 'no'. */
@@ -62,7 +65,8 @@ enum bolz_refusal {
     BOLZ_INCONSISTENT_FLOW_PLANE = 19,
     BOLZ_RESULT_TOO_LONG = 20,
     BOLZ_GIVEN_TWICE = 21,
-    BOLZ_WRONG_SIGNALS = 22
+    BOLZ_WRONG_SIGNALS = 22,
+    BOLZ_WRONG_ANGLE = 23
 };
 
 /* A result is a refusal if its number is not 0: number * 2^32 + a * 2^16 + b. */
@@ -96,9 +100,14 @@ static inline const char *bolz_words(unsigned number)
     case BOLZ_RESULT_TOO_LONG: return "the result does not fit the lent buffer";
     case BOLZ_GIVEN_TWICE: return "a loop, or an edge or node given twice";
     case BOLZ_WRONG_SIGNALS: return "the signal lists are not those of the flow";
+    case BOLZ_WRONG_ANGLE: return "an angle is not from 0 to below 2, or at an output not positive zero";
     default: return "unknown question";
     }
 }
+
+/* A job in mode 2 may have a last record 0024 with an angle for each node, positive zero at outputs. It is then searched and verified in mode 3 with the
+   measurements that the angles infer: exactly 0 or 1 means X in XY and Z in YZ and XZ, exactly 0.5 or 1.5 means Y in XY and YZ and X in XZ, and other
+   angles keep their plane. */
 
 /* The finder: a job file in, a flow file with layers of kind 0021 or 0013 ('no flow') out. The count of bytes written, or a refusal. */
 uint64_t bolz_find(const uint8_t *file, size_t file_len, uint8_t *work, size_t work_len, uint8_t *out, size_t out_len);
@@ -124,6 +133,14 @@ uint64_t bolz_edit_set(const uint8_t *file, size_t file_len, const uint8_t *entr
 uint64_t bolz_write_job(size_t n, size_t mode, const uint8_t *edges, size_t edges_len, const uint8_t *inputs, size_t inputs_len,
                         const uint8_t *outputs, size_t outputs_len, const uint8_t *measurements, size_t measurements_len,
                         uint8_t *out, size_t out_len);
+
+/* The same with an angle for each node, BOLZ_ANGLE_BYTES each, which go into the file bit for bit as record 0024; in mode 2 only. */
+uint64_t bolz_write_job_angles(size_t n, size_t mode, const uint8_t *edges, size_t edges_len, const uint8_t *inputs, size_t inputs_len,
+                               const uint8_t *outputs, size_t outputs_len, const uint8_t *measurements, size_t measurements_len,
+                               const uint8_t *angles, size_t angles_len, uint8_t *out, size_t out_len);
+
+/* Reads the angles out: a job file in, its record 0024, head and all, out; NO_RECORD (1) where it has none. The count of bytes written, or a refusal. */
+uint64_t bolz_read_angles(const uint8_t *file, size_t file_len, uint8_t *out, size_t out_len);
 
 /* The solver: matrix of rows times 16 bytes, cols coefficients, which may be none, and then `sides` right sides in each row; it is eliminated in place.
    1: right side `side` has a solution, which is in `bits`; 0: it has none, and `bits` are as they were; or a refusal. */

@@ -23,3 +23,7 @@ asks-yes q false b e = absurd (never e)
 pub bind-out : {A B : Type 0} (m : Answer A) (k : A → Answer B) (b : B) → (m >>= k) ≡ gives b → (a : A) × (m ≡ gives a) × (k a ≡ gives b)
 bind-out (gives a) k b e = (a, refl, e)
 bind-out (refuses r) k b e = absurd (never e)
+
+pub then-out : {A B : Type 0} (m : Answer A) (k : Answer B) (b : B) → (m >> k) ≡ gives b → (a : A) × (m ≡ gives a) × (k ≡ gives b)
+then-out (gives a) k b e = (a, refl, e)
+then-out (refuses r) k b e = absurd (never e)

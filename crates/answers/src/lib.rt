@@ -37,6 +37,9 @@ impl Refusal {
 
     // Signal lists that are not those of the flow.
     pub const WRONG_SIGNALS: Refusal = Refusal(22, 0, 0);
+
+    // An angle that is below 0, not below 2 or not a number, or that of an output, other than positive zero.
+    pub const WRONG_ANGLE: Refusal = Refusal(23, 0, 0);
 }
 
 // The questions of the verifier, by number: each names its node, a, and 15 and 18 a layer or a node, b.

@@ -58,7 +58,7 @@ module _ (b : Bool) (r : Search) (e : searchOf r ≡ gives b) where
 module _ (f : JobFile) (valid : ValidJob f) where
   -- each node of a job for planes is measured in a plane
   pub planes-read : (not (eqb (modeOf f) modePlanes) || planesGiven (jobOf f)) ≡ true
-  planes-read = by (eqb (f .mode) modePlanes) refl
+  planes-read = by (eqb (modeOf f) modePlanes) refl
     where
       plane : (k : ℕ) → 1 ≤ k → k ≤ 3 → T (isPlane k)
       plane zero a b = absurd (none-of a)
@@ -73,12 +73,12 @@ module _ (f : JobFile) (valid : ValidJob f) where
           more : (k : ℕ) → suc (suc (suc (suc k))) ≤ 3 → ⊥
           more k b = omega arith
 
-      node : f .mode ≡ modePlanes → (u : ℕ) → u < f .n → (b : Bool) → jobOf f .output u ≡ b → T (b || isPlane (jobOf f .measured u))
+      node : modeOf f ≡ modePlanes → (u : ℕ) → u < f .n → (b : Bool) → jobOf f .output u ≡ b → T (b || isPlane (jobOf f .measured u))
       node e u l true o = tt
       node e u l false o = let (a, b) = measured-plane f valid e u l o in plane (jobOf f .measured u) a b
 
-      by : (b : Bool) → b ≡ eqb (f .mode) modePlanes → (not b || planesGiven (jobOf f)) ≡ true
-      by true e = is-true (planesGiven (jobOf f)) (all-in (f .n) (λ u. jobOf f .output u || isPlane (jobOf f .measured u)) (λ u l. node (eqb-true (f .mode) modePlanes (sym e)) u l (jobOf f .output u) refl))
+      by : (b : Bool) → b ≡ eqb (modeOf f) modePlanes → (not b || planesGiven (jobOf f)) ≡ true
+      by true e = is-true (planesGiven (jobOf f)) (all-in (f .n) (λ u. jobOf f .output u || isPlane (jobOf f .measured u)) (λ u l. node (eqb-true (modeOf f) modePlanes (sym e)) u l (jobOf f .output u) refl))
       by false e = refl
 
   -- and so is each node of the job that was loaded of it

@@ -9,4 +9,5 @@ pub mod Loaded
 pub mod LoadingEdges
 pub mod LoadingFiles
 pub mod LoadingTables
+pub mod ReadingOut
 pub mod Writing

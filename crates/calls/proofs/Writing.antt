@@ -77,5 +77,5 @@ module _ (l : JobLists) (e : listsAsk l ≡ gives true) where
 
   -- the file of all of it
   pub lists-written : (edges inputs outputs : List ℕ) → edges ≡ pairsAmong (hasEdge (l .edges)) (members (l .n) (λ u. true)) → inputs ≡ members (l .n) (has (l .inputs)) → outputs ≡ members (l .n) (has (l .outputs))
-      → jobBytes (jobWith (l .n) (l .mode) edges inputs outputs (l .measurements)) ≡ writtenJob l
+      → jobBytes (jobWith (l .n) (l .mode) edges inputs outputs (l .measurements) (l .angles)) ≡ writtenJob l
   lists-written edges inputs outputs p q r = rw (p, q, r)

@@ -5,10 +5,11 @@ pub mod find; // find.rt: the finder, from a job file to a flow file
 mod flow; // flow.rt: checking a causal flow
 mod load; // load.rt: what the records hold, for every call
 mod pflow; // pflow.rt: checking a generalized flow or a Pauli flow
+pub mod readout; // readout.rt: the angles of a job, read out
 pub mod signals; // signals.rt: signal lists, built, compared and added
 mod validate; // validate.rt: what every flow is asked
 pub mod verify; // verify.rt: the verifier, from a job and a flow to a verdict
-pub mod write; // write.rt: the job writer, from lists to a job file
+pub mod write; // write.rt: the job writers, from lists to a job file
 
 ghost use mathlib.Core.Path.{_≡_};
 ghost use mathlib.Core.List.{[]};

@@ -1,6 +1,6 @@
 // One loader for all calls: from the places of payloads to what searches and verifiers work on.
 ghost use mathlib.Core.Path.{_≡_};
-ghost use mathlib.Core.Bool.{true, _&&_, _||_};
+ghost use mathlib.Core.Bool.{true, cond, _&&_, _||_};
 ghost use Prim.Native.Nat.{ℕ, _≤_, _<_};
 ghost use lib.Dec.{eqb, ltb};
 ghost use lib.ListN.{length, getD};
@@ -8,11 +8,12 @@ ghost use Rattle.nodes.specs.NodeSet.{member, capacity};
 ghost use Rattle.nodes.specs.SetTable.{setAt, tableWords};
 ghost use Rattle.nodes.specs.Lists.{all, zeros};
 ghost use Rattle.nodes.specs.Options.{isSome};
-ghost use Rattle.records.specs.JobFile.{workingOf, hasEdge, jobOf};
+ghost use Rattle.records.specs.JobFile.{modePauli, workingOf, hasEdge, jobOf};
 ghost use Rattle.records.specs.FlowFile.{entriesOf, listed, allEntries, entryBelow, setIn, entryIn, flowOf};
 ghost use Rattle.records.specs.Encoding.{ValidJob};
 ghost use Rattle.records.specs.Views.{jobAt, flowAt};
 ghost use Rattle.calls.specs.Loaded.{hasSet, jobLoaded, flowIn};
+use angles::infer_all;
 use nodes::utils::NodeSet;
 use nodes::utils::SET_WORDS;
 use nodes::utils::WORD_BITS;
@@ -23,6 +24,7 @@ use nodes::utils::set_at;
 use records::common::ENTRY_HEAD_BYTES;
 use records::common::FlowPlaces;
 use records::common::JobPlaces;
+use records::common::MODE_PAULI;
 use records::common::payload;
 use records::questions::entries_end;
 use records::reader::layer_count;
@@ -133,7 +135,32 @@ pub(crate) struct Loaded {
     pub(crate) outputs: NodeSet,
 }
 
-// The mode and the measurements to work with are today those of the file; nothing behind this reads them there.
+// The mode to work with: a job with angles, whatever they are, is searched and verified in mode 3.
+fn working_mode(job: JobPlaces) -> u8
+    ensures { λ r. ⌜ r ≡ cond (job .angled) modePauli (job .mode) ⌝ }
+{
+    if job.angled {
+        return MODE_PAULI;
+    }
+    job.mode
+}
+
+// The measurements to work with: those of the file, or those that the angles infer.
+fn load_measured(file: &[u8], job: JobPlaces, to: &mut [u8])
+    requires { ⌜ ValidJob (jobAt (now file) job) × (now to ≡ zeros capacity) ⌝ }
+    ensures { λ _. ⌜ ((u : ℕ) → getD (now (to .exit)) u 0 ≡ getD (workingOf (jobAt (now (file .entry)) job) .measurements) u 0) ⌝ }
+{
+    let measurements = job.measurements;
+    let planes = payload(file, measurements);
+    if job.angled {
+        let angles = job.angles;
+        infer_all(planes, payload(file, angles), to);
+        return;
+    }
+    load_bytes(planes, to);
+}
+
+// This is the one place that gives mode and measurements to work with; nothing behind it reads them in the file.
 pub(crate) fn load_job(
     file: &[u8],
     job: JobPlaces,
@@ -146,13 +173,12 @@ pub(crate) fn load_job(
 {
     let edges = job.edges;
     load_graph(payload(file, edges), graph);
-    let measurements = job.measurements;
-    load_bytes(payload(file, measurements), measured);
+    load_measured(file, job, measured);
     let inputs = job.inputs;
     let outputs = job.outputs;
     Loaded {
         n: job.n,
-        mode: job.mode,
+        mode: working_mode(job),
         inputs: set_of(payload(file, inputs)),
         outputs: set_of(payload(file, outputs)),
     }

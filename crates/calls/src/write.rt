@@ -1,9 +1,11 @@
-// The job writer: an editor's lists, in any order, become the one file of the job that they mean.
+// The job writers: an editor's lists, in any order, with angles or without, become the one file of the job that they mean.
 ghost use mathlib.Core.Path.{_≡_};
 ghost use mathlib.Core.Bool.{true};
+ghost use mathlib.Core.Option.{none, some};
 ghost use mathlib.Core.List.{[]};
 ghost use Rattle.answers.specs.Answer.{gives};
 ghost use Rattle.records.specs.JobLists.{given, listsAsk};
+ghost use Rattle.records.specs.Views.{someIf};
 ghost use Rattle.demands.specs.Calls.{writeJobCall};
 ghost use Rattle.calls.specs.Replies.{replyOf};
 use crate::Reply;
@@ -27,10 +29,12 @@ fn write_asked(
     inputs: &[u8],
     outputs: &[u8],
     measurements: &[u8],
+    angled: bool,
+    angles: &[u8],
     out: &mut [u8],
 ) -> Reply
-    requires { ⌜ listsAsk (given n mode (now edges) (now inputs) (now outputs) (now measurements)) ≡ gives true ⌝ }
-    ensures { λ r. ⌜ record { answer = replyOf r; work = []; out = now (out .exit) } ≡ writeJobCall (given n mode (now (edges .entry)) (now (inputs .entry)) (now (outputs .entry)) (now (measurements .entry))) (now (out .entry)) ⌝ }
+    requires { ⌜ listsAsk (given n mode (now edges) (now inputs) (now outputs) (now measurements) (someIf angled (now angles))) ≡ gives true ⌝ }
+    ensures { λ r. ⌜ record { answer = replyOf r; work = []; out = now (out .exit) } ≡ writeJobCall (given n mode (now (edges .entry)) (now (inputs .entry)) (now (outputs .entry)) (now (measurements .entry)) (someIf angled (now (angles .entry)))) (now (out .entry)) ⌝ }
 {
     let nodes = NodeSet::below(n);
     let mut graph = [0u64; TABLE_WORDS];
@@ -55,7 +59,48 @@ fn write_asked(
         ins,
         outs,
         measurements,
+        angled,
+        angles,
     ))
+}
+
+// The angles count where they are given.
+fn write_lists(
+    n: usize,
+    mode: usize,
+    edges: &[u8],
+    inputs: &[u8],
+    outputs: &[u8],
+    measurements: &[u8],
+    angled: bool,
+    angles: &[u8],
+    out: &mut [u8],
+) -> Reply
+    ensures { λ r. ⌜ record { answer = replyOf r; work = []; out = now (out .exit) } ≡ writeJobCall (given n mode (now (edges .entry)) (now (inputs .entry)) (now (outputs .entry)) (now (measurements .entry)) (someIf angled (now (angles .entry)))) (now (out .entry)) ⌝ }
+{
+    match ask_lists(
+        n,
+        mode,
+        edges,
+        inputs,
+        outputs,
+        measurements,
+        angled,
+        angles,
+    ) {
+        Checked::Passed => write_asked(
+            n,
+            mode,
+            edges,
+            inputs,
+            outputs,
+            measurements,
+            angled,
+            angles,
+            out,
+        ),
+        Checked::Refused(q) => Reply::Refused(q),
+    }
 }
 
 pub fn write_job(
@@ -67,10 +112,43 @@ pub fn write_job(
     measurements: &[u8],
     out: &mut [u8],
 ) -> Reply
-    ensures { λ r. ⌜ record { answer = replyOf r; work = []; out = now (out .exit) } ≡ writeJobCall (given n mode (now (edges .entry)) (now (inputs .entry)) (now (outputs .entry)) (now (measurements .entry))) (now (out .entry)) ⌝ }
+    ensures { λ r. ⌜ record { answer = replyOf r; work = []; out = now (out .exit) } ≡ writeJobCall (given n mode (now (edges .entry)) (now (inputs .entry)) (now (outputs .entry)) (now (measurements .entry)) none) (now (out .entry)) ⌝ }
 {
-    match ask_lists(n, mode, edges, inputs, outputs, measurements) {
-        Checked::Passed => write_asked(n, mode, edges, inputs, outputs, measurements, out),
-        Checked::Refused(q) => Reply::Refused(q),
-    }
+    write_lists(
+        n,
+        mode,
+        edges,
+        inputs,
+        outputs,
+        measurements,
+        false,
+        b"",
+        out,
+    )
+}
+
+// With an angle for each node, 8 bytes each; in mode 2 only.
+pub fn write_job_angles(
+    n: usize,
+    mode: usize,
+    edges: &[u8],
+    inputs: &[u8],
+    outputs: &[u8],
+    measurements: &[u8],
+    angles: &[u8],
+    out: &mut [u8],
+) -> Reply
+    ensures { λ r. ⌜ record { answer = replyOf r; work = []; out = now (out .exit) } ≡ writeJobCall (given n mode (now (edges .entry)) (now (inputs .entry)) (now (outputs .entry)) (now (measurements .entry)) (some (now (angles .entry)))) (now (out .entry)) ⌝ }
+{
+    write_lists(
+        n,
+        mode,
+        edges,
+        inputs,
+        outputs,
+        measurements,
+        true,
+        angles,
+        out,
+    )
 }

@@ -14,18 +14,19 @@ use Rattle.solver.specs.Solver as Solver
 use Rattle.records.specs.Records.{written, kindAccepted}
 use Rattle.records.specs.Splice.{fitsIn}
 use Rattle.records.specs.Encoding.{Bytes}
-use Rattle.records.specs.Writing.{mostFlow}
+use Rattle.records.specs.Writing.{angleRecord, mostFlow}
 use Rattle.records.specs.JobFile.{JobFile}
 use Rattle.records.specs.JobLists.{JobLists}
 use Rattle.records.proofs.Records.{written-length}
 use Rattle.records.proofs.Encoding.{job-asked}
-use Rattle.records.proofs.JobLists.{ascending-length}
-use Rattle.demands.specs.Calls.{Both, readBoth, editAsks, put, findAsks, findOutcome, findCall, verifyAsks, outcome, verifyCall, writtenJob, writeJobAsks, writeJobCall, addedBytes, addSignalsCall, editedBytes, editSetCall}
+use Rattle.records.proofs.JobLists.{ascending-length, record-few}
+use Rattle.demands.specs.Calls.{Both, readBoth, editAsks, readAnglesAsks, put, findAsks, findOutcome, findCall, verifyAsks, outcome, verifyCall, writtenJob, writeJobAsks, writeJobCall, addedBytes, addSignalsCall, editedBytes, editSetCall, readAnglesCall}
 use Rattle.demands.proofs.Demand.{found-fits, asked-find}
 use Rattle.demands.proofs.JobWriter.{write-job-asked, write-job-refuses}
 use Rattle.capi.specs.Codes.{numberUnit, answerCode, coded, counted, codedBits, Tells, TellsWhy}
-use Rattle.demands.proofs.Refusals.{Numbered, AllNumbered, given, asks-then, find-numbered, verify-numbered, both-numbered, edit-numbered}
+use Rattle.demands.proofs.Refusals.{Numbered, AllNumbered, given, asks-then, find-numbered, verify-numbered, both-numbered, edit-numbered, read-angles-numbered}
 use Rattle.demands.proofs.Signals.{added-fits, edited-fits}
+use Rattle.demands.proofs.Angles.{read-out-asked}
 
 -- ---- what the calls answer: a small count, or a numbered refusal
 abbrev Fits : Type 0 → Answer ℕ → Type 0
@@ -64,7 +65,7 @@ unfolding has writeJobCall
 write-job-fits l out = by (writeJobAsks l) refl
   where
     -- no question has number 0
-    from-one : (q : ℕ) → has (3 ∷ 4 ∷ 5 ∷ 7 ∷ 21 ∷ []) q ≡ true → 1 ≤ q
+    from-one : (q : ℕ) → has (3 ∷ 4 ∷ 5 ∷ 7 ∷ 21 ∷ 23 ∷ []) q ≡ true → 1 ≤ q
     from-one zero e = absurd (false≢true e)
     from-one (suc q) e = omega arith
 
@@ -89,6 +90,17 @@ edit-set-fits file entry out = by (editAsks file entry) refl (edit-numbered Unit
   where
     by : (a : Answer Both) → editAsks file entry ≡ a → AllNumbered Unit a → Fits Unit (outcome a (editedBytes entry) out .answer)
     by (gives b) e t = put-fits Unit [] (editedBytes entry b) out (edited-fits file entry b e)
+    by (refuses r) e t = numbered-fits Unit r t
+
+-- a record of angles is 8 bytes a node
+read-angles-fits : (file out : List ℕ) → Fits Unit (readAnglesCall file out .answer)
+unfolding readAnglesCall AllNumbered
+read-angles-fits file out = by (readAnglesAsks file) refl (read-angles-numbered Unit file)
+  where
+    by : (a : Answer JobFile) → readAnglesAsks file ≡ a → AllNumbered Unit a → Fits Unit (outcome a (λ f. angleRecord (f .angles)) out .answer)
+    by (gives f) e t =
+        let v = job-asked file f (read-out-asked file f e .0 .0) in
+        put-fits Unit [] (angleRecord (f .angles)) out (omega (arith, record-few (f .n) (f .mode) (has (f .outputs)) (f .angles) (v .angles), v .few))
     by (refuses r) e t = numbered-fits Unit r t
 
 solve-numbered : (matrix out : List ℕ) (rows cols sides side : ℕ) → AllNumbered Unit (Solver.solveAsks matrix out rows cols sides side)
@@ -138,6 +150,12 @@ pub edit-set-code : (file entry out : List ℕ) → let o = editSetCall file ent
 edit-set-code file entry out =
     let a = editSetCall file entry out .answer in
     let h = edit-set-fits file entry out in
+    (tells Unit a h, tells-why Unit a h tt)
+
+pub read-angles-code : (file out : List ℕ) → let o = readAnglesCall file out in Tells (o .answer) (coded o .code) × TellsWhy (o .answer) (coded o .code)
+read-angles-code file out =
+    let a = readAnglesCall file out .answer in
+    let h = read-angles-fits file out in
     (tells Unit a h, tells-why Unit a h tt)
 
 pub write-job-code : (l : JobLists) (out : List ℕ) → let o = writeJobCall l out in Tells (o .answer) (coded o .code) × TellsWhy (o .answer) (coded o .code)

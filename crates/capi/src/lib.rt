@@ -1,19 +1,22 @@
 // The calls as a program in C sees them: a slice is a pointer and a length, and the answer is one number.
 ghost use mathlib.Core.Path.{_≡_};
+ghost use mathlib.Core.Option.{none, some};
 ghost use mathlib.Core.List.{[]};
 ghost use Rattle.solver.specs.Solver.{MatrixAfter, solvedOf, solveAsks, solveCall};
 ghost use Rattle.answers.specs.Refusals.{refusalOf};
 ghost use Rattle.records.specs.JobLists.{given};
-ghost use Rattle.demands.specs.Calls.{findCall, verifyCall, addSignalsCall, editSetCall, writeJobCall};
+ghost use Rattle.demands.specs.Calls.{findCall, verifyCall, addSignalsCall, editSetCall, readAnglesCall, writeJobCall};
 ghost use Rattle.calls.specs.Replies.{replyOf};
 ghost use Rattle.capi.specs.Codes.{refusalCode, answerCode, coded, counted, codedBits};
 use answers::Refusal;
 use calls::Reply;
 use calls::edit::edit_set;
 use calls::find::find;
+use calls::readout::read_angles;
 use calls::signals::add_signals;
 use calls::verify::verify;
 use calls::write::write_job;
+use calls::write::write_job_angles;
 use solver::gf2_linalg::Solved;
 use solver::gf2_linalg::solve_in_place;
 
@@ -92,9 +95,35 @@ pub extern "C" fn bolz_write_job(
     out: &mut [u8],
 ) -> u64
     ensures { λ r. ⌜ record { code = r; work = []; out = now (out .exit) }
-        ≡ coded (writeJobCall (given n mode (now (edges .entry)) (now (inputs .entry)) (now (outputs .entry)) (now (measurements .entry))) (now (out .entry))) ⌝ }
+        ≡ coded (writeJobCall (given n mode (now (edges .entry)) (now (inputs .entry)) (now (outputs .entry)) (now (measurements .entry)) none) (now (out .entry))) ⌝ }
 {
     reply_code(write_job(n, mode, edges, inputs, outputs, measurements, out))
+}
+
+// The job writer with angles: the count of bytes written, or the refusal.
+#[no_mangle]
+pub extern "C" fn bolz_write_job_angles(
+    n: usize,
+    mode: usize,
+    edges: &[u8],
+    inputs: &[u8],
+    outputs: &[u8],
+    measurements: &[u8],
+    angles: &[u8],
+    out: &mut [u8],
+) -> u64
+    ensures { λ r. ⌜ record { code = r; work = []; out = now (out .exit) }
+        ≡ coded (writeJobCall (given n mode (now (edges .entry)) (now (inputs .entry)) (now (outputs .entry)) (now (measurements .entry)) (some (now (angles .entry)))) (now (out .entry))) ⌝ }
+{
+    reply_code(write_job_angles(n, mode, edges, inputs, outputs, measurements, angles, out))
+}
+
+// The angles read out: the count of bytes written, or the refusal.
+#[no_mangle]
+pub extern "C" fn bolz_read_angles(file: &[u8], out: &mut [u8]) -> u64
+    ensures { λ r. ⌜ record { code = r; work = []; out = now (out .exit) } ≡ coded (readAnglesCall (now (file .entry)) (now (out .entry))) ⌝ }
+{
+    reply_code(read_angles(file, out))
 }
 
 // The solver: 1 for solvable, 0 for not, or the refusal.

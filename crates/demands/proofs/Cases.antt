@@ -1,11 +1,13 @@
--- Every case and every listed difference holds: what is answered by computation, what the papers say by their conditions.
+-- Every case, every listed difference and every case with angles holds: what is answered by computation, what the papers say by their conditions.
 use Prim.Native.Nat.{ℕ, zero, suc, _<_}
 use mathlib.Core.Path.{_≡_, refl, subst}
 use mathlib.Core.Bool.{Bool}
+use mathlib.Core.Option.{none}
 use mathlib.Core.List.{List, [], _∷_, _++_}
 use mathlib.Core.Logic.{_⊎_, inl, inr}
 use native.Mathlib.Omega.{arith}
 use lib.Dec.{T, eqb→eq}
+use lib.Ieee.{eq, lt, ofBits, nanBits}
 use Rattle.nodes.specs.Bit.{bit, digits}
 use Rattle.nodes.specs.Row.{parity, anyBelow, allBelow, count, lowestFrom, membersFrom}
 use Rattle.solver.specs.System.{solve}
@@ -14,11 +16,14 @@ use Rattle.solver.specs.Solver.{matrixFits, bothFit, wellShaped, solveAsks}
 use Rattle.flows.specs.Job.{Job, odd, own, planeXY, planeYZ, planeXZ}
 use Rattle.flows.specs.Branch.{branches, firstSolvable}
 use Rattle.flows.specs.Search.{rounds}
+use Rattle.angles.specs.Angle.{inferredIn, inferredByte, readBits, inRange, entryAllowed}
+use Rattle.angles.specs.AngleRecord.{little, anglesAllowed, inferredBytes}
 use Rattle.answers.specs.Answer.{gives}
 use Rattle.records.specs.Records.{lengthField, part, checked, written, eachAsks, inTwoBytes, fromTwoBytes}
 use Rattle.nodes.specs.Lists.{has, listOf, all}
 use Rattle.records.specs.Format.{decodeThen}
-use Rattle.records.specs.JobFile.{JobFile, modeCausal, modePlanes, modePauli, rises, pairsRise, allows, allAllowed, openingAsks, edgesAsks, nodesAsks, measurementsAsks, readJob, hasEdge, jobOf}
+use Rattle.records.specs.JobFile.{JobFile, modeCausal, modePlanes, modePauli, rises, pairsRise, allows, allAllowed, openingAsks, edgesAsks, nodesAsks, measurementsAsks, anglesAsks, readJob, hasEdge, jobOf}
+use Rattle.records.specs.JobLists.{jobWith}
 use Rattle.records.specs.FlowFile.{FlowFile, entriesIn, allEntries, entryBelow, entriesRise, entryBytes, setsAsks, readFlow, setIn, entryIn, flowOf}
 use Rattle.verdicts.specs.Verdict.{ask, eachFrom, nodeAsk, causalAsk, verify}
 use Rattle.demands.specs.Calls.{findAsks, readBoth, judge, verifyAsks}
@@ -26,15 +31,15 @@ use Rattle.records.specs.Encoding.{flowWith, entriesFor}
 use Rattle.demands.specs.Programs.{findProgram, verifyProgram}
 use Rattle.verdicts.specs.Published.{StrictOrder, Measured, NoInputs, PublishedFlow, byLayer}
 use Rattle.nodes.specs.Lists.{equal}
-use Rattle.demands.specs.Cases.{AllHold, IsFlow, IsNoFlow, Of, alone, aloneFlow, isolated, isolatedFlow, cases, differences}
+use Rattle.demands.specs.Cases.{AllHold, IsFlow, IsNoFlow, Of, alone, aloneFlow, isolated, isolatedFlow, angled, cases, differences}
 use Rattle.demands.specs.Demand.{Accepted, FlowBytes}
-use Rattle.records.proofs.Encoding.{behind, job-append}
+use Rattle.records.proofs.Encoding.{behind, job-append, flow-carries}
 use Rattle.verdicts.proofs.Published.{by-layer}
 use Rattle.demands.proofs.Judging.{accepted-published}
 
 -- ---- the files as they are read
 abbrev jobFile : (n mode : ℕ) (edges inputs outputs measurements : List ℕ) → JobFile
-jobFile n mode edges inputs outputs measurements = record { n = n; mode = mode; edges = edges; inputs = inputs; outputs = outputs; measurements = measurements; after = [] }
+jobFile n mode edges inputs outputs measurements = jobWith n mode edges inputs outputs measurements none
 
 abbrev fileF : ℕ → JobFile
 fileF mode = jobFile 2 mode (0 ∷ 1 ∷ []) (0 ∷ []) (1 ∷ []) (2 ∷ 0 ∷ [])
@@ -160,7 +165,7 @@ accepted-flow job flow f g reads ends inputs r a = (
   reads,
   r,
   record {
-    lower = accepted-published (job ++ flow) (behind f flow) g (job-append job flow f reads) (rw ends (r .0)) (r .1) a no-inputs .2;
+    lower = accepted-published (job ++ flow) (behind f flow) g (job-append job flow f reads (rw ends (flow-carries (f .n) flow g (r .0)))) (rw ends (r .0)) (r .1) a no-inputs .2;
   },
 )
   where
@@ -168,11 +173,12 @@ accepted-flow job flow f g reads ends inputs r a = (
     no-inputs i k m l t h = rw inputs at h
 
 -- ---- all claims; what is answered is computed
-all-hold : AllHold cases × AllHold differences
+all-hold : AllHold cases × AllHold differences × AllHold angled
 unfolding
     bit parity anyBelow allBelow count lowestFrom membersFrom solve entryOf digits listOf matrixFits bothFit wellShaped solveAsks own branches firstSolvable rounds
     lengthField part checked decodeThen written all has rises pairsRise allows allAllowed openingAsks edgesAsks nodesAsks measurementsAsks readJob hasEdge
     entriesIn allEntries entryBelow entriesRise entryBytes eachAsks inTwoBytes fromTwoBytes setsAsks readFlow setIn entryIn ask eachFrom nodeAsk causalAsk verify entriesFor findAsks readBoth judge verifyAsks findProgram verifyProgram equal
+    anglesAsks anglesAllowed entryAllowed inRange readBits nanBits ofBits eq lt little inferredBytes inferredByte inferredIn
 all-hold = (
   (record { lower = tt }, ((fileF 2, itself (1 ∷ 0 ∷ []), refl, (refl, refl), forbidden 2), record { lower = tt })),
   (
@@ -203,6 +209,7 @@ all-hold = (
       ),
     ),
   ),
+  (record { lower = tt }, record { lower = tt }),
 )
 
 pub cases-hold : AllHold cases
@@ -210,3 +217,6 @@ cases-hold = all-hold .0
 
 pub differences-hold : AllHold differences
 differences-hold = all-hold .1
+
+pub angled-hold : AllHold angled
+angled-hold = all-hold .2

@@ -80,7 +80,7 @@ module _ (file : List ℕ) (f : JobFile) (reads : readJob file ≡ gives f) (end
     fatal-needless = (domain-asked j (flowOf g) (modeOf f) found-verified, initial-asked j (flowOf g) (modeOf f) found-verified, definition-asked j (flowOf g) (modeOf f) found-verified)
 
     pub found-judged : Judged f (flowBytes j (some s)) g
-    found-judged = record { reads = found-reads j s (valid .few); nothing = refl; single = (true, one-member-other (f .mode) (g .sets) (λ e. not-causal (causal-works f e))); accepted = found-verified; matches = refl }
+    found-judged = record { reads = found-reads j s (valid .few); nothing = refl; single = (true, one-member-other (f .mode) (g .sets) (λ e. not-causal (causal-works f valid e))); accepted = found-verified; matches = refl }
 
   -- ---- (b) every accepted flow gives each node at least the layer of the found one
   module _ (other : List ℕ) (h : FlowFile) (q : Judged f other h) where
@@ -109,19 +109,15 @@ module _ (file : List ℕ) (f : JobFile) (reads : readJob file ≡ gives f) (end
       go (some s) e = inr (s, e)
 
   found-accepted : (s : Progress) → findAt j pauli ≡ some s → Accepted file (foundBytes f)
-  found-accepted s e = rw (wrote-flow s e) (judged-in file f reads ends (flowBytes j (some s)) (foundFlow j s) (found-judged s e))
+  found-accepted s e = rw (wrote-flow s e) (judged-in file f reads ends (flowBytes j (some s)) (foundFlow j s) (found-judged s e .reads) (found-judged s e))
 
   pub reads-back : (s : Progress) → findAt j pauli ≡ some s → FlowBytes (f .n) (foundBytes f) (foundFlow j s)
   reads-back s e = (rw (wrote-flow s e) (found-reads j s (valid .few)), refl)
 
-  -- bytes are one flow file at most
-  judged-flow : (other : List ℕ) (h : FlowFile) → FlowBytes (f .n) other h → Accepted file other → Judged f other h
-  judged-flow other h r a = let (g, q) = judged-out file f reads ends other true a in subst (Judged f other) (give-inj (sym (q .reads) ∙ r .0)) q
-
   other-smallest : (other : List ℕ) (h : FlowFile) → FlowBytes (f .n) other h → Accepted file other
       → (g : FlowFile) × FlowBytes (f .n) (foundBytes f) g × ((u : ℕ) → u < f .n → layerIn g u ≤ layerIn h u)
   other-smallest other h r a =
-      let (s, e, l) = smallest-found other h (judged-flow other h r a) in
+      let (s, e, l) = smallest-found other h (judged-out file f reads ends other h (r .0) true a) in
       (foundFlow j s, reads-back s e, λ u m. subst (λ (x : ℕ). x ≤ layerIn h u) (sym (found-layer j s u m)) (l u m))
 
   pub demand-holds : DemandHolds file f (foundBytes f)

@@ -1,15 +1,18 @@
 -- Request 2026-01 proved: what the job writer writes reads back as the job that its lists mean, one job has one file, and its refusals.
-use Prim.Native.Nat.{ℕ}
+use Prim.Native.Nat.{ℕ, _*_}
 use mathlib.Core.Path.{_≡_, refl, sym, ap, _∙_, subst}
 use mathlib.Core.Bool.{Bool, true, false}
+use mathlib.Core.Option.{Option, none, some}
 use mathlib.Core.List.{List, [], _∷_, _++_, append-nil}
 use lib.ListN.{length, take}
 use lib.Dec.{eqb}
 use Rattle.nodes.specs.Lists.{has}
 use Rattle.answers.specs.Answer.{Refusal, Answer, gives, refuses, refusal, asks, _>>_}
 use Rattle.answers.proofs.Answer.{give-inj, never, asks-yes}
-use Rattle.records.specs.JobFile.{JobFile, openingAllowed, wholePairs, nodesBelow, allAllowed, measurementsAsks, readJob}
-use Rattle.records.specs.JobLists.{JobLists, Meaning, listsOf, listsAsk, givenOnce, meaning, ascending}
+use Rattle.angles.specs.AngleRecord.{angleBytes, anglesAllowed}
+use Rattle.records.specs.Records.{eachAsks}
+use Rattle.records.specs.JobFile.{JobFile, openingAllowed, wholePairs, nodesBelow, allAllowed, measurementsAsks, anglesAsks, hasAngles, readJob}
+use Rattle.records.specs.JobLists.{JobLists, Meaning, listsOf, anglesGiven, listsAsk, givenOnce, meaning, ascending}
 use Rattle.records.specs.Encoding.{Bytes, jobBytes}
 use Rattle.records.proofs.Encoding.{job-exact, job-decodes, job-asked}
 use Rattle.records.proofs.JobLists.{lists-yes, ascending-valid, ascending-means, file-ascending, valid-asks, valid-once, valid-bytes}
@@ -36,11 +39,11 @@ wrote-out l out k s (e, q) = by (writeJobAsks l) refl e q
 
 -- ---- what it writes reads back
 pub gives-back : GivesBack
-gives-back l out k s w =
+gives-back l b out k s w =
     let (asked, once, same) = wrote-out l out k s w in
     let f = ascending (meaning l) in
     let valid = ascending-valid l asked in
-    (f, (ap readJob (sym same ∙ sym (append-nil (jobBytes f))) ∙ job-decodes f valid, refl, subst Bytes same (valid-bytes f valid)), ascending-means l asked once)
+    (f, (ap readJob (sym same ∙ sym (append-nil (jobBytes f))) ∙ job-decodes f valid refl, refl, subst Bytes same (valid-bytes f valid b)), ascending-means l asked once)
 
 -- ---- one job, one file
 -- bytes are one job file at most
@@ -60,9 +63,9 @@ one-file s t f g p q = (
 )
 
 pub same-bytes : SameBytes
-same-bytes l m out other j k s t w x =
-    let (f, p, d) = gives-back l out j s w in
-    let (g, q, e) = gives-back m other k t x in (
+same-bytes l m a b out other j k s t w x =
+    let (f, p, d) = gives-back l a out j s w in
+    let (g, q, e) = gives-back m b other k t x in (
       λ h. sym d ∙ ap (λ (f : JobFile). meaning (listsOf f)) (same-file s t f g p q h) ∙ e,
       λ h. sym (wrote-out l out j s w .2) ∙ ap (λ (m : Meaning). jobBytes (ascending m)) h ∙ wrote-out m other k t x .2,
     )
@@ -76,7 +79,7 @@ writes-again s f p out =
 -- ---- the refusals
 -- with one of these numbers, and no a and b
 abbrev Refused : Refusal → Type 0
-Refused r = (r ≡ refusal (r .number)) × (has (3 ∷ 4 ∷ 5 ∷ 7 ∷ 21 ∷ []) (r .number) ≡ true)
+Refused r = (r ≡ refusal (r .number)) × (has (3 ∷ 4 ∷ 5 ∷ 7 ∷ 21 ∷ 23 ∷ []) (r .number) ≡ true)
 
 abbrev AllRefused : Answer Bool → Type 0
 AllRefused m = (r : Refusal) → m ≡ refuses r → Refused r
@@ -89,7 +92,14 @@ both-asked : (m k : Answer Bool) → AllRefused m → AllRefused k → AllRefuse
 both-asked (gives b) k h g r e = g r e
 both-asked (refuses q) k h g r e = h r e
 
-pub write-job-refuses : (l : JobLists) (r : Refusal) → writeJobAsks l ≡ refuses r → (r ≡ refusal (r .number)) × (has (3 ∷ 4 ∷ 5 ∷ 7 ∷ 21 ∷ []) (r .number) ≡ true)
+angles-refused : (n mode : ℕ) (output : ℕ → Bool) (o : Option (List ℕ)) → AllRefused (anglesGiven n mode output o)
+unfolding has anglesGiven anglesAsks eachAsks
+angles-refused n mode output none = λ r e. absurd (never (sym e))
+angles-refused n mode output (some p) =
+    both-asked _ _ (asked 4 (hasAngles mode) (refl, refl))
+    (both-asked _ _ (asked 3 (eqb (length p) (angleBytes * n)) (refl, refl)) (asked 23 (anglesAllowed n output p) (refl, refl)))
+
+pub write-job-refuses : (l : JobLists) (r : Refusal) → writeJobAsks l ≡ refuses r → (r ≡ refusal (r .number)) × (has (3 ∷ 4 ∷ 5 ∷ 7 ∷ 21 ∷ 23 ∷ []) (r .number) ≡ true)
 unfolding has listsAsk measurementsAsks writeJobAsks
 write-job-refuses l r e =
     both-asked (listsAsk l) _
@@ -98,6 +108,6 @@ write-job-refuses l r e =
     (both-asked _ _ (asked 5 (nodesBelow (l .n) (l .edges)) (refl, refl))
     (both-asked _ _ (asked 5 (nodesBelow (l .n) (l .inputs)) (refl, refl))
     (both-asked _ _ (asked 5 (nodesBelow (l .n) (l .outputs)) (refl, refl))
-    (both-asked _ _ (asked 3 (eqb (length (l .measurements)) (l .n)) (refl, refl))
-    (asked 7 (allAllowed (l .mode) (has (l .outputs)) 0 (l .measurements)) (refl, refl))))))))
+    (both-asked _ _ (both-asked _ _ (asked 3 (eqb (length (l .measurements)) (l .n)) (refl, refl)) (asked 7 (allAllowed (l .mode) (has (l .outputs)) 0 (l .measurements)) (refl, refl)))
+    (angles-refused (l .n) (l .mode) (has (l .outputs)) (l .angles))))))))
     (asked 21 (givenOnce l) (refl, refl)) r e

@@ -13,14 +13,14 @@ use Rattle.nodes.specs.Lists.{has}
 use Rattle.nodes.proofs.Logic.{is-true, is-false, from-true, or-l, or-r, or-all, eqb-comm, and-out}
 use Rattle.flows.specs.Job.{planeXZ}
 use Rattle.answers.specs.Answer.{Refusal, Answer, gives, refuses, asks, _>>=_, _>>_}
-use Rattle.records.specs.JobFile.{JobFile, rises, readJob, jobOf, modeCausal, modePlanes, modePauli}
+use Rattle.records.specs.JobFile.{JobFile, rises, readJob, working, jobOf, modeCausal, modePlanes, modePauli}
 use Rattle.records.specs.FlowFile.{SetEntry, FlowFile, allEntries, entriesRise, readFlow, flowOf, nothingLeft, oneMember, entryIn, setIn}
-use Rattle.records.specs.Encoding.{ValidJob, ValidFlow}
+use Rattle.records.specs.Encoding.{AnglesFit, ValidJob, ValidFlow}
 use Rattle.verdicts.specs.Verdict.{verify}
 use Rattle.demands.specs.Calls.{modeOf, Both, readBoth, verdict, listsMatch, judge, verifyAsks}
 use Rattle.verdicts.specs.Published.{Measured, NoInputs, PublishedFlow, byLayer, LayerRule, Domain, CausalAccepted, AcceptedFlow}
-use Rattle.answers.proofs.Answer.{give-inj, never, bind-out, asks-yes}
-use Rattle.records.proofs.Encoding.{job-asked, job-append, flow-asked}
+use Rattle.answers.proofs.Answer.{give-inj, never, bind-out, then-out, asks-yes}
+use Rattle.records.proofs.Encoding.{job-asked, job-append, flow-asked, flow-carries}
 use Rattle.records.proofs.JobFile.{measured-range, output-zero, measured-most, measured-plane}
 use Rattle.records.proofs.FlowFile.{set-entry, place-entry, set-at, nodes-below, members-below, nothing-left, one-member-asked, one-member-other, one-member}
 use Rattle.verdicts.proofs.Rule.{Readable}
@@ -29,10 +29,6 @@ use Rattle.verdicts.proofs.Published.{one-to-three, planes-accepts, accepts-pla
 verdict-out : (o : Option Refusal) (b : Bool) → verdict o ≡ gives b → o ≡ none
 verdict-out none b e = refl
 verdict-out (some r) b e = absurd (never e)
-
-pub then-out : {A B : Type 0} (m : Answer A) (k : Answer B) (b : B) → (m >> k) ≡ gives b → (a : A) × (m ≡ gives a) × (k ≡ gives b)
-then-out (gives a) k b e = (a, refl, e)
-then-out (refuses r) k b e = absurd (never e)
 
 -- ---- reading both
 -- what reading has asked of both
@@ -88,49 +84,61 @@ verify-out : (file : List ℕ) (b : Bool) → verifyAsks file ≡ gives b → (f
 unfolding verifyAsks
 verify-out file b e = let (x, p, q) = bind-out (readBoth file) (λ b. judge (b .job) (b .flow)) b e in (x .job, x .flow, both-out file x p, q)
 
-module _ (file : List ℕ) (f : JobFile) (reads-job : readJob file ≡ gives f) (ends : f .after ≡ []) (flow : List ℕ) where
-  pub whole : readJob (file ++ flow) ≡ gives (record { n = f .n; mode = f .mode; edges = f .edges; inputs = f .inputs; outputs = f .outputs; measurements = f .measurements; after = flow })
-  whole = job-append file flow f reads-job ∙ rw ends
-
+module _ (file : List ℕ) (f : JobFile) (reads-job : readJob file ≡ gives f) (ends : f .after ≡ []) (flow : List ℕ) (g : FlowFile) (reads-flow : readFlow (f .n) flow ≡ gives g) where
   -- both, behind one another
   abbrev before : JobFile
-  before = record { n = f .n; mode = f .mode; edges = f .edges; inputs = f .inputs; outputs = f .outputs; measurements = f .measurements; after = flow }
+  before = record { n = f .n; mode = f .mode; edges = f .edges; inputs = f .inputs; outputs = f .outputs; measurements = f .measurements; angles = f .angles; after = flow }
 
-  pub whole-both : (g : FlowFile) → readFlow (f .n) flow ≡ gives g → g .after ≡ [] → (b : Bool) × (oneMember (f .mode) (g .sets) ≡ gives b) → ReadBoth (file ++ flow) before g
-  whole-both g r e s = record { reads-job = whole; reads-flow = r; ends = e; single = s }
+  pub whole : readJob (file ++ flow) ≡ gives before
+  whole = job-append file flow f reads-job (rw ends (flow-carries (f .n) flow g reads-flow)) ∙ rw ends
+
+  pub whole-both : g .after ≡ [] → (b : Bool) × (oneMember (f .mode) (g .sets) ≡ gives b) → ReadBoth (file ++ flow) before g
+  whole-both e s = record { reads-job = whole; reads-flow = reads-flow; ends = e; single = s }
 
   -- of a flow file the verifier asks 9, and then judges it
-  pub verify-flow : (g : FlowFile) → readFlow (f .n) flow ≡ gives g → g .after ≡ [] → verifyAsks (file ++ flow) ≡ (oneMember (f .mode) (g .sets) >> judge f g)
+  pub verify-flow : g .after ≡ [] → verifyAsks (file ++ flow) ≡ (oneMember (f .mode) (g .sets) >> judge f g)
   unfolding verifyAsks readBoth judge
-  verify-flow g r e = rw (whole, r, ap (λ (l : List ℕ). eqb (length l) 0) e) (by (oneMember (f .mode) (g .sets)))
+  verify-flow e = rw (whole, reads-flow, ap (λ (l : List ℕ). eqb (length l) 0) e) (by (oneMember (f .mode) (g .sets)))
     where
       by : (a : Answer Bool) → _>>=_ {A = Both} (a >> gives (record { job = before; flow = g })) (λ b. judge (b .job) (b .flow)) ≡ (a >> judge f g)
       by (gives b) = refl
       by (refuses r) = refl
 
-  pub judged-out : (b : Bool) → verifyAsks (file ++ flow) ≡ gives b → (g : FlowFile) × Judged f flow g
+  pub judged-out : (b : Bool) → verifyAsks (file ++ flow) ≡ gives b → Judged f flow g
   judged-out b e =
-      let (h, g, r, q) = verify-out (file ++ flow) b e in
+      let (h, k, r, q) = verify-out (file ++ flow) b e in
       let same : h ≡ before = give-inj (sym (r .reads-job) ∙ whole) in
-      let r′ = subst (λ (h : JobFile). ReadBoth (file ++ flow) h g) same r in
-      let (a, m) = judge-out before g b (subst (λ (h : JobFile). judge h g ≡ gives b) same q) in
-      (g, record { reads = r′ .reads-flow; nothing = r′ .ends; single = r′ .single; accepted = a; matches = m })
+      let (r′, q′) = subst (λ (h : JobFile). ReadBoth (file ++ flow) h k × (judge h k ≡ gives b)) same (r, q) in
+      let read : k ≡ g = give-inj (sym (r′ .reads-flow) ∙ reads-flow) in
+      let (r″, q″) = subst (λ (k : FlowFile). ReadBoth (file ++ flow) before k × (judge before k ≡ gives b)) read (r′, q′) in
+      let (a, m) = judge-out before g b q″ in
+      record { reads = reads-flow; nothing = r″ .ends; single = r″ .single; accepted = a; matches = m }
 
-  pub judged-in : (g : FlowFile) → Judged f flow g → verifyAsks (file ++ flow) ≡ gives true
-  judged-in g h = verify-read (file ++ flow) before g (whole-both g (h .reads) (h .nothing) (h .single)) ∙ judge-matching before g (h .matches) ∙ rw (h .accepted) refl
+  pub judged-in : Judged f flow g → verifyAsks (file ++ flow) ≡ gives true
+  judged-in h = verify-read (file ++ flow) before g (whole-both (h .nothing) (h .single)) ∙ judge-matching before g (h .matches) ∙ rw (h .accepted) refl
 
 -- ---- the mode to work with, from the mode of the file
-pub searched-works : (f : JobFile) → (f .mode ≡ modePlanes) ⊎ (f .mode ≡ modePauli) → (modeOf f ≡ modePlanes) ⊎ (modeOf f ≡ modePauli)
-searched-works f e = e
+-- it is that of the file, or with angles mode 3
+works-by : (f : JobFile) (C : ℕ → Type 0) → C (f .mode) → C modePauli → C (modeOf f)
+works-by f C file angled = by (f .angles)
+  where
+    by : (o : Option (List ℕ)) → C (working (f .mode) (f .measurements) o .mode)
+    by none = file
+    by (some p) = angled
 
-pub works-planes : (f : JobFile) → modeOf f ≡ modePlanes → f .mode ≡ modePlanes
-works-planes f e = e
+pub searched-works : (f : JobFile) → (f .mode ≡ modePlanes) ⊎ (f .mode ≡ modePauli) → (modeOf f ≡ modePlanes) ⊎ (modeOf f ≡ modePauli)
+searched-works f e = works-by f (λ m. (m ≡ modePlanes) ⊎ (m ≡ modePauli)) e (inr refl)
 
 works-causal : (f : JobFile) → modeOf f ≡ modeCausal → f .mode ≡ modeCausal
-works-causal f e = e
+works-causal f = works-by f (λ m. m ≡ modeCausal → f .mode ≡ modeCausal) (λ e. e) (λ e. absurd (omega (arith, e)))
 
-pub causal-works : (f : JobFile) → f .mode ≡ modeCausal → modeOf f ≡ modeCausal
-causal-works f e = e
+-- no job in mode 1 has angles
+pub causal-works : (f : JobFile) → ValidJob f → f .mode ≡ modeCausal → modeOf f ≡ modeCausal
+causal-works f v e = by (f .angles) (v .angles)
+  where
+    by : (o : Option (List ℕ)) → AnglesFit (f .n) (f .mode) (has (f .outputs)) o → working (f .mode) (f .measurements) o .mode ≡ modeCausal
+    by none h = e
+    by (some p) (h, l, a) = absurd (omega (arith, e, h))
 
 -- ---- what reading tells
 module _ (f : JobFile) (v : ValidJob f) where
@@ -149,7 +157,7 @@ module _ (f : JobFile) (v : ValidJob f) where
       below m l = omega arith
 
   pub planes : modeOf f ≡ modePlanes → (u : ℕ) → Measured (jobOf f) u → jobOf f .measured u ≤ planeXZ
-  planes e u s = measured-plane f v (works-planes f e) u (s .0) (not-output u (s .1)) .1
+  planes e u s = measured-plane f v e u (s .0) (not-output u (s .1)) .1
 
 -- ---- question 9 follows from the conditions of causal flow
 -- an ascending list of k alone has one element
@@ -176,7 +184,7 @@ unfolding allEntries
 entries-all p [] d h = refl
 entries-all p (e ∷ es) d h = rw (h 0 (omega arith), entries-all p es d (λ i l. h (suc i) (omega arith)))
 
-module _ (f : JobFile) (g : FlowFile) (w : ValidFlow (f .n) g) where
+module _ (f : JobFile) (v : ValidJob f) (g : FlowFile) (w : ValidFlow (f .n) g) where
   causal-members : CausalAccepted (jobOf f) (flowOf g) → allEntries (λ e. eqb (length (e .set)) 1) (g .sets) ≡ true
   causal-members c = entries-all (λ e. eqb (length (e .set)) 1) (g .sets) d one
     where
@@ -198,8 +206,8 @@ module _ (f : JobFile) (g : FlowFile) (w : ValidFlow (f .n) g) where
 
   one-passed : AcceptedFlow (modeOf f) (jobOf f) (flowOf g) → oneMember (f .mode) (g .sets) ≡ gives true
   one-passed (inl (q, c)) = rw (causal-members c, or-all (not (eqb (f .mode) modeCausal)))
-  one-passed (inr (inl (q, c))) = one-member-other (f .mode) (g .sets) (λ e. omega (arith, q, causal-works f e))
-  one-passed (inr (inr (q, c))) = one-member-other (f .mode) (g .sets) (λ e. omega (arith, q, causal-works f e))
+  one-passed (inr (inl (q, c))) = one-member-other (f .mode) (g .sets) (λ e. omega (arith, q, causal-works f v e))
+  one-passed (inr (inr (q, c))) = one-member-other (f .mode) (g .sets) (λ e. omega (arith, q, causal-works f v e))
 
 -- ---- each verifier against its published conditions, over all bytes that pass reading
 module _ (f : JobFile) (v : ValidJob f) (g : FlowFile) (w : ValidFlow (f .n) g) (single : (b : Bool) × (oneMember (f .mode) (g .sets) ≡ gives b)) where
@@ -212,7 +220,7 @@ module _ (f : JobFile) (v : ValidJob f) (g : FlowFile) (w : ValidFlow (f .n) g) 
       same k = is-true (eqb k k) (eqb-refl k)
 
   mode-cases : (modeOf f ≡ modeCausal) ⊎ ((modeOf f ≡ modePlanes) ⊎ (modeOf f ≡ modePauli))
-  mode-cases = one-to-three (modeOf f) (v .modeFrom) (v .modeTo)
+  mode-cases = works-by f (λ m. (m ≡ modeCausal) ⊎ ((m ≡ modePlanes) ⊎ (m ≡ modePauli))) (one-to-three (f .mode) (v .modeFrom) (v .modeTo)) (inr (inr refl))
 
   pub verify-published : verify (jobOf f) (flowOf g) (modeOf f) ≡ none → AcceptedFlow (modeOf f) (jobOf f) (flowOf g)
   verify-published e = go mode-cases
@@ -244,7 +252,7 @@ module _ (s : List ℕ) (f : JobFile) (g : FlowFile) (reads-job : readJob s ≡ 
         let (r″, q″) = subst (λ (k : FlowFile). ReadBoth s f k × (judge f k ≡ gives true)) flow r′ in
         let (a, m) = judge-out f g true q″ in
         (verify-published f valid g valid-flow (r″ .single) a, m)),
-    λ (c, m). let t = one-passed f g valid-flow c in
+    λ (c, m). let t = one-passed f valid g valid-flow c in
         verify-read s f g (record { reads-job = reads-job; reads-flow = reads-flow; ends = ends; single = (true, t) }) ∙ judge-matching f g m ∙ rw (published-verify f valid g valid-flow (true, t) c) refl,
   )
 

@@ -1,31 +1,33 @@
--- Every refusal of the questions in specs/Calls has a number from 1 to 22, but not the writer's 20, and a byte a; its b fits two bytes, where
+-- Every refusal of the questions in specs/Calls has a number from 1 to 23, but not the writer's 20, and a byte a; its b fits two bytes, where
 -- the file holds bytes.
 use Prim.Native.Nat.{ℕ, zero, suc, _+_, _≤_, _<_}
 use mathlib.Core.Path.{_≡_, refl}
-use mathlib.Core.Bool.{Bool, true, false, cond, not, _||_}
+use mathlib.Core.Bool.{Bool, true, false, cond, not, _&&_, _||_}
 use mathlib.Core.Option.{Option, none, some}
-use mathlib.Core.Logic.{_≢_}
+use mathlib.Core.Logic.{_≢_, _⊎_, inl, inr}
 use mathlib.Core.List.{List, [], _∷_}
 use native.Mathlib.Omega.{arith}
-use lib.Dec.{eqb}
+use lib.Dec.{T, eqb, leb, eqb→eq, leb→le}
 use lib.ListN.{length, getD}
+use Rattle.nodes.specs.Options.{isSome}
+use Rattle.nodes.proofs.Logic.{from-true, and-l, and-r, or-out}
 use Rattle.answers.specs.Answer.{Refusal, Answer, gives, refuses, refusal, asks, _>>=_, _>>_}
 use Rattle.records.specs.JobFile.{JobFile, mostNodes, rises, readJob, jobOf, modeCausal}
 use Rattle.records.specs.FlowFile.{FlowFile, Flow, allEntries, readFlow, flowOf, entryBelow, entryOf, entryAsks}
 use Rattle.records.specs.Encoding.{Bytes}
 use Rattle.records.proofs.Records.{below-at}
-use Rattle.records.proofs.ReadingRefusals.{ReadingRefusal}
+use Rattle.records.proofs.ReadingRefusals.{isReading, ReadingRefusal}
 use Rattle.records.proofs.Encoding.{job-asked, job-after, job-refuses, flow-asked, flow-layers, flow-refuses}
 use Rattle.flows.specs.Job.{Job}
 use Rattle.solver.specs.Solver.{workBytes}
 use Rattle.verdicts.specs.Verdict as Q
 use Rattle.verdicts.specs.Verdict.{ask, _next_, eachFrom, each}
-use Rattle.demands.specs.Calls.{modeOf, hasSearch, findAsks, readBoth, editAsks, verdict, listsMatch, judge, verifyAsks}
+use Rattle.demands.specs.Calls.{modeOf, hasSearch, findAsks, readBoth, editAsks, readAnglesAsks, verdict, listsMatch, judge, verifyAsks}
 use Rattle.demands.proofs.Judging.{both-out}
 
 pub record Numbered (bytes : Type 0) (r : Refusal) : Type 0 where
   pub number : 1 ≤ r .number
-  pub most : r .number < 23
+  pub most : r .number < 24
   pub unwritten : r .number ≢ 20
   pub a : r .a < 256
   pub b : bytes → r .b < 65536
@@ -37,8 +39,8 @@ module _ (bytes : Type 0) where
   AllNumbered (gives a) = Unit
   AllNumbered (refuses r) = Numbered bytes r
 
-  unused : (q : ℕ) → 1 ≤ q → q < 20 → Numbered bytes (refusal q)
-  unused q h g = record { number = h; most = omega arith; unwritten = λ e. omega arith; a = omega arith; b = λ x. omega arith }
+  unused : (q : ℕ) → 1 ≤ q → q < 24 → q ≢ 20 → Numbered bytes (refusal q)
+  unused q h g d = record { number = h; most = g; unwritten = d; a = omega arith; b = λ x. omega arith }
 
   pub given : {A : Type 0} (a : A) → AllNumbered (gives a)
   unfolding AllNumbered
@@ -47,18 +49,18 @@ module _ (bytes : Type 0) where
   pub asks-then : {A : Type 0} (q : ℕ) (c : Bool) (k : Answer A) → 1 ≤ q → q < 20 → AllNumbered k → AllNumbered (asks q c >> k)
   unfolding AllNumbered
   asks-then q true k h g t = t
-  asks-then q false k h g t = unused q h g
+  asks-then q false k h g t = unused q h (omega arith) (λ e. omega arith)
 
   pub asks-last : (q : ℕ) (c : Bool) → 1 ≤ q → q < 20 → AllNumbered (asks q c)
   unfolding AllNumbered
   asks-last q true h g = tt
-  asks-last q false h g = unused q h g
+  asks-last q false h g = unused q h (omega arith) (λ e. omega arith)
 
   -- question 22 comes behind 13 to 19
   signals-numbered : (c : Bool) → AllNumbered (asks 22 c)
   unfolding AllNumbered
   signals-numbered true = tt
-  signals-numbered false = record { number = omega arith; most = omega arith; unwritten = λ e. omega arith; a = omega arith; b = λ x. omega arith }
+  signals-numbered false = unused 22 (omega arith) (omega arith) (λ e. omega arith)
 
   bind-numbered : {A B : Type 0} (m : Answer A) (k : A → Answer B) → AllNumbered m → ((a : A) → m ≡ gives a → AllNumbered (k a)) → AllNumbered (m >>= k)
   unfolding AllNumbered
@@ -70,12 +72,16 @@ module _ (bytes : Type 0) where
   then-numbered (gives a) k t h = h
   then-numbered (refuses r) k t h = t
 
-  -- ---- reading: its refusals have numbers up to 7, and no a and b
+  -- ---- reading: its refusals have numbers up to 7, or 23, and no a and b
   reading : (r : Refusal) → ReadingRefusal r → Numbered bytes r
-  reading r h = rw (h .same) (unused (h .number) (h .from) (below (h .number) (h .to)))
+  reading r h = rw (h .same) (by (h .number) (or-out (leb 1 (h .number) && leb (h .number) 7) (eqb (h .number) 23) (from-true (isReading (h .number)) (h .reading))))
     where
-      below : (q : ℕ) → q ≤ 7 → q < 20
-      below q h = omega arith
+      by : (q : ℕ) → T (leb 1 q && leb q 7) ⊎ T (eqb q 23) → Numbered bytes (refusal q)
+      by q (inl t) =
+          let from : 1 ≤ q = leb→le 1 q (and-l (leb 1 q) (leb q 7) t) in
+          let to : q ≤ 7 = leb→le q 7 (and-r (leb 1 q) (leb q 7) t) in
+          unused q from (omega arith) (λ e. omega arith)
+      by q (inr t) = let e : q ≡ 23 = eqb→eq q 23 t in unused q (omega arith) (omega arith) (λ d. omega arith)
 
   read-numbered : {A : Type 0} (m : Answer A) → ((r : Refusal) → m ≡ refuses r → ReadingRefusal r) → AllNumbered m
   unfolding AllNumbered
@@ -190,6 +196,12 @@ both-numbered bytes file =
     (λ g h. asks-then bytes 8 (eqb (length (g .after)) 0) _ (omega arith) (omega arith)
     (asks-then bytes 9 (not (eqb (f .mode) modeCausal) || allEntries (λ e. eqb (length (e .set)) 1) (g .sets)) _ (omega arith) (omega arith)
     (given bytes _))))
+
+pub read-angles-numbered : (bytes : Type 0) (file : List ℕ) → AllNumbered bytes (readAnglesAsks file)
+unfolding readAnglesAsks
+read-angles-numbered bytes file =
+    bind-numbered bytes (readJob file) _ (job-numbered bytes file)
+    (λ f e. asks-then bytes 1 (isSome (f .angles)) _ (omega arith) (omega arith) (asks-then bytes 8 (eqb (length (f .after)) 0) _ (omega arith) (omega arith) (given bytes f)))
 
 pub edit-numbered : (bytes : Type 0) (file entry : List ℕ) → AllNumbered bytes (editAsks file entry)
 unfolding editAsks entryAsks

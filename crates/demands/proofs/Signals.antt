@@ -14,7 +14,7 @@ use Rattle.nodes.proofs.Logic.{and-out, eqb-yes}
 use Rattle.nodes.proofs.Row.{parity-ext}
 use Rattle.flows.specs.Job.{odd}
 use Rattle.answers.specs.Answer.{Answer, gives, refuses, _>>=_, _>>_}
-use Rattle.answers.proofs.Answer.{give-inj, never, bind-out}
+use Rattle.answers.proofs.Answer.{give-inj, never, bind-out, then-out}
 use Rattle.records.specs.Records.{carries, kindSets, kindSetSignals}
 use Rattle.records.specs.Format.{Front, front, optional, recordOf, decodeThen}
 use Rattle.records.specs.JobFile.{JobFile, mostNodes, readJob, jobOf}
@@ -31,12 +31,12 @@ use Rattle.demands.specs.Calls.{modeOf, Both, readBoth, verdict, matchin
 use Rattle.demands.specs.Demand.{FlowBytes}
 use Rattle.demands.specs.Signals as Claims
 use Rattle.demands.specs.Signals.{JobAlone, Wrote, Added, KeepsRecords, AddsOnce, NeverMismatched, EditedFlow, EditsAfresh, readBefore, AsBefore}
-use Rattle.demands.proofs.Judging.{ReadBoth, both-out, both-in, then-out, judge-matching, whole, whole-both, verify-read}
+use Rattle.demands.proofs.Judging.{ReadBoth, both-out, both-in, judge-matching, whole, whole-both, verify-read}
 use Rattle.demands.proofs.Demand.{put-fits}
 
 -- ---- what was written
 -- a call that wrote had no question against it, and wrote its whole result
-wrote-out : {A : Type 0} (a : Answer A) (result : A → List ℕ) (wrote : List ℕ) → Wrote (outcome a result) wrote → (x : A) × (a ≡ gives x) × (wrote ≡ result x)
+pub wrote-out : {A : Type 0} (a : Answer A) (result : A → List ℕ) (wrote : List ℕ) → Wrote (outcome a result) wrote → (x : A) × (a ≡ gives x) × (wrote ≡ result x)
 wrote-out (gives x) result wrote (out, k, e, w) = (x, refl, sym w ∙ put-fits [] (result x) out k e)
 wrote-out (refuses r) result wrote (out, k, e, w) = absurd (never e)
 
@@ -50,19 +50,19 @@ file-bytes s f g few reads bytes =
 lists-match : (f : JobFile) (g : FlowFile) → listsMatch f (withSignals (jobOf f) g) ≡ true
 lists-match f g = rw (equal-self (signalsOf (jobOf f) (flowOf g) .0), equal-self (signalsOf (jobOf f) (flowOf g) .1))
 
-module _ (job flow : List ℕ) (f : JobFile) (alone : JobAlone job f) where
+module _ (job flow : List ℕ) (f : JobFile) (alone : JobAlone job f) (k : FlowFile) (is-flow : readFlow (f .n) flow ≡ gives k) where
   few : f .n ≤ mostNodes
   few = job-asked job f (alone .0) .few
 
   -- the job with a flow behind it
   abbrev before : List ℕ → JobFile
-  before l = record { n = f .n; mode = f .mode; edges = f .edges; inputs = f .inputs; outputs = f .outputs; measurements = f .measurements; after = l }
+  before l = record { n = f .n; mode = f .mode; edges = f .edges; inputs = f .inputs; outputs = f .outputs; measurements = f .measurements; angles = f .angles; after = l }
 
   -- both, as they were read behind one another
   read-out : (b : Both) → readBoth (job ++ flow) ≡ gives b → (b .job ≡ before flow) × ReadBoth (job ++ flow) (before flow) (b .flow)
   read-out b e =
       let r = both-out (job ++ flow) b e in
-      let same : b .job ≡ before flow = give-inj (sym (r .reads-job) ∙ whole job f (alone .0) (alone .1) flow) in
+      let same : b .job ≡ before flow = give-inj (sym (r .reads-job) ∙ whole job f (alone .0) (alone .1) flow k is-flow) in
       (same, subst (λ (h : JobFile). ReadBoth (job ++ flow) h (b .flow)) same r)
 
   -- ---- adding
@@ -81,21 +81,21 @@ module _ (job flow : List ℕ) (f : JobFile) (alone : JobAlone job f) where
 
 pub keeps-records : KeepsRecords
 keeps-records job flow wrote f g alone reads bytes w =
-    let (h, r, q) = added-out job flow f alone wrote w in
+    let (h, r, q) = added-out job flow f alone g (reads .0) wrote w in
     let same : h ≡ g = give-inj (sym (r .reads-flow) ∙ reads .0) in
     (twoRecords g, file-bytes flow f g (job-asked job f (alone .0) .few) reads bytes ∙ file-records g, q ∙ ap (λ (h : FlowFile). flowFileBytes (withSignals (jobOf f) h)) same ∙ file-records (withSignals (jobOf f) g))
 
 pub adds-once : AddsOnce
 unfolding addSignalsCall
-adds-once job flow wrote f alone w out =
-    let (g, r, q) = added-out job flow f alone wrote w in
-    ap (λ (a : Answer Both). outcome a addedBytes out) (both-in (job ++ wrote) _ _ (added-reads job flow f alone wrote g r q)) ∙ ap (λ (l : List ℕ). put [] l out) (sym q)
+adds-once job flow wrote f g alone reads w out =
+    let (h, r, q) = added-out job flow f alone g (reads .0) wrote w in
+    ap (λ (a : Answer Both). outcome a addedBytes out) (both-in (job ++ wrote) _ _ (added-reads job flow f alone g (reads .0) wrote h r q)) ∙ ap (λ (l : List ℕ). put [] l out) (sym q)
 
 pub never-mismatched : NeverMismatched
 never-mismatched job flow wrote f g alone reads w =
-    let (h, r, q) = added-out job flow f alone wrote w in
+    let (h, r, q) = added-out job flow f alone g (reads .0) wrote w in
     let same : h ≡ g = give-inj (sym (r .reads-flow) ∙ reads .0) in
-    verify-read (job ++ wrote) _ _ (added-reads job flow f alone wrote h r q) ∙ judge-matching _ (withSignals (jobOf f) h) (lists-match f h) ∙ ap (λ (h : FlowFile). verdict (verify (jobOf f) (flowOf h) (modeOf f))) same
+    verify-read (job ++ wrote) _ _ (added-reads job flow f alone g (reads .0) wrote h r q) ∙ judge-matching _ (withSignals (jobOf f) h) (lists-match f h) ∙ ap (λ (h : FlowFile). verdict (verify (jobOf f) (flowOf h) (modeOf f))) same
 
 -- ---- editing
 module _ (f : JobFile) (g : FlowFile) (e : SetEntry) (v : ValidFlow (f .n) g) (below : e .node < f .n) where
@@ -156,7 +156,7 @@ unfolding editSetCall
 edits-afresh job flow entry wrote f g alone reads w =
     let (b, e, q) = wrote-out (editAsks (job ++ flow) entry) (editedBytes entry) wrote w in
     let (e1, (x, e2)) = edit-out (job ++ flow) entry b e in
-    let (same, r) = read-out job flow f alone b e1 in
+    let (same, r) = read-out job flow f alone g (reads .0) b e1 in
     let flows : b .flow ≡ g = give-inj (sym (r .reads-flow) ∙ reads .0) in
     let asked = entry-out (f .n) entry x (subst (λ (h : JobFile). entryAsks (h .n) entry ≡ gives x) same e2) in
     let few = job-asked job f (alone .0) .few in

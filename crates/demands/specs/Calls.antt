@@ -12,9 +12,10 @@ use Rattle.flows.specs.Search.{Progress}
 use Rattle.flows.specs.Planes as Planes
 use Rattle.flows.specs.Paulis as Paulis
 use Rattle.answers.specs.Answer.{Refusal, Answer, gives, refuses, asks, _>>=_, _>>_}
+use Rattle.nodes.specs.Options.{isSome}
 use Rattle.records.specs.Records.{written, kindAccepted}
 use Rattle.records.specs.Splice.{putAnswer, putFront}
-use Rattle.records.specs.Writing.{flowBytes}
+use Rattle.records.specs.Writing.{flowBytes, angleRecord}
 use Rattle.records.specs.JobFile.{JobFile, readJob, jobOf, workingOf, modePlanes, modePauli}
 use Rattle.records.specs.Encoding.{jobBytes, flowFileBytes}
 use Rattle.records.specs.JobLists.{JobLists, listsAsk, givenOnce, meaning, ascending}
@@ -23,7 +24,7 @@ use Rattle.records.specs.SignalLists.{signalsOf, withSignals, edited}
 use Rattle.verdicts.specs.Verdict.{verify}
 
 -- Everything after reading goes by the mode and the measurements to work with: by `modeOf`, and by `jobOf`, which has the measurements.
--- Only two questions read the mode of the file itself: 9 (has each causal entry one member) and 10 (is the mode 2 or 3).
+-- Besides the questions of reading only two read the mode of the file itself: 9 (has each causal entry one member) and 10 (is the mode 2 or 3).
 abbrev pub modeOf : JobFile → ℕ
 modeOf f = workingOf f .mode
 
@@ -94,7 +95,15 @@ editAsks file entry = do
   oneMember (b .job .mode) (entryOf entry ∷ [])
   gives b
 
--- the job writer's: those of each list (3, 4, 5, 7), and then whether each edge and node was given once (21)
+-- those of reading the angles out: the job's records, is there a record of angles in its place (1), is nothing left (8)
+unfoldable pub readAnglesAsks : List ℕ → Answer JobFile
+readAnglesAsks file = do
+  f ← readJob file
+  asks 1 (isSome (f .angles))
+  nothingLeft (f .after)
+  gives f
+
+-- the job writer's: those of each list (3, 4, 5, 7, 23), and then whether each edge and node was given once (21)
 unfoldable pub writeJobAsks : JobLists → Answer Bool
 writeJobAsks l = do
   listsAsk l
@@ -129,6 +138,10 @@ verifyCall file out = outcome (verifyAsks file) (λ b. written kindAccepted []) 
 
 unfoldable pub writeJobCall : JobLists → (out : List ℕ) → Outcome
 writeJobCall l out = outcome (writeJobAsks l) (λ b. writtenJob l) out
+
+-- reading out: the record of angles, with its head
+unfoldable pub readAnglesCall : (file out : List ℕ) → Outcome
+readAnglesCall file out = outcome (readAnglesAsks file) (λ f. angleRecord (f .angles)) out
 
 -- adding: the flow file with its signal lists, anew where they stand
 abbrev pub addedBytes : Both → List ℕ

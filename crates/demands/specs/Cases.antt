@@ -9,7 +9,7 @@ use lib.Dec.{T}
 use Rattle.answers.specs.Answer.{Answer, gives, refuses}
 use Rattle.nodes.specs.Lists.{equal, listOf}
 use Rattle.solver.specs.Solver as Solver
-use Rattle.records.specs.Records.{written, kindOpening, kindEdges, kindInputs, kindOutputs, kindMeasurements, kindWideLayers, kindSets, kindNoFlow, kindAccepted, kindRefusal, inTwoBytes}
+use Rattle.records.specs.Records.{written, kindOpening, kindEdges, kindInputs, kindOutputs, kindMeasurements, kindWideLayers, kindSets, kindNoFlow, kindAccepted, kindRefusal, kindAngles, inTwoBytes}
 use Rattle.flows.specs.Job.{Job}
 use Rattle.records.specs.JobFile.{JobFile, readJob, jobOf}
 use Rattle.records.specs.FlowFile.{FlowFile, Flow, flowOf}
@@ -200,6 +200,45 @@ refusedN = 4 ∷ 0 ∷ 0 ∷ 0 ∷ 0x1F ∷ 0 ∷ 0x0F ∷ 1 ∷ 1 ∷ 0 ∷ []
 
 abbrev pub caseN : Case
 caseN = verifier jobA (flow (1 ∷ 1 ∷ []) (0 ∷ 1 ∷ 1 ∷ [])) refusedN
+
+-- ---- jobs with angles: 0.25 keeps its plane, 0 means X in XY, 1 means Z in YZ
+abbrev pub quarter : List ℕ
+quarter = 0 ∷ 0 ∷ 0 ∷ 0 ∷ 0 ∷ 0 ∷ 0xD0 ∷ 0x3F ∷ []
+
+abbrev pub one : List ℕ
+one = 0 ∷ 0 ∷ 0 ∷ 0 ∷ 0 ∷ 0 ∷ 0xF0 ∷ 0x3F ∷ []
+
+abbrev pub nought : List ℕ
+nought = 0 ∷ 0 ∷ 0 ∷ 0 ∷ 0 ∷ 0 ∷ 0 ∷ 0 ∷ []
+
+abbrev pub withAngles : (job angles : List ℕ) → List ℕ
+withAngles job angles = job ++ written kindAngles angles
+
+-- G with a Pauli hidden in it is I; the flow of the planes is still accepted
+abbrev pub caseHidden : Case
+caseHidden = finder (withAngles (path 2 1 1) (quarter ++ nought ++ nought)) (pathFlow 1 1 0) (pathFlow 1 1 0 ∷ pathFlow 2 1 0 ∷ [])
+
+-- with ordinary angles it is searched in mode 3 too: G's flow
+abbrev pub caseOrdinary : Case
+caseOrdinary = finder (withAngles (path 2 1 1) (quarter ++ quarter ++ nought)) (pathFlow 2 1 0) (pathFlow 2 1 0 ∷ [])
+
+-- C with Z: layer 0
+abbrev pub caseZ : Case
+caseZ = finder (withAngles (alone 2 2) one) (aloneFlow 0) (aloneFlow 0 ∷ aloneFlow 1 ∷ [])
+
+-- B with an empty record
+abbrev pub caseEmpty : Case
+caseEmpty = finder (withAngles (job 0 2 [] [] [] []) []) (flow [] []) (flow [] [] ∷ [])
+
+-- 2 is refused, and so is negative zero at an output
+abbrev pub caseTwo : Case
+caseTwo = finder (withAngles (alone 2 2) (0 ∷ 0 ∷ 0 ∷ 0 ∷ 0 ∷ 0 ∷ 0 ∷ 0x40 ∷ [])) (refused 23 0 0) []
+
+abbrev pub caseSigned : Case
+caseSigned = finder (withAngles (isolated 2 2) (quarter ++ (0 ∷ 0 ∷ 0 ∷ 0 ∷ 0 ∷ 0 ∷ 0 ∷ 0x80 ∷ []))) (refused 23 0 0) []
+
+abbrev pub angled : List Case
+angled = caseHidden ∷ caseOrdinary ∷ caseZ ∷ caseEmpty ∷ caseTwo ∷ caseSigned ∷ []
 
 abbrev pub cases : List Case
 cases =

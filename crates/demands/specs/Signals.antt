@@ -42,7 +42,7 @@ KeepsRecords = (job flow wrote : List ℕ) (f : JobFile) (g : FlowFile) → JobA
 
 -- Adding twice is adding once, into any buffer.
 abbrev pub AddsOnce : Type 0
-AddsOnce = (job flow wrote : List ℕ) (f : JobFile) → JobAlone job f → Added job flow wrote → (out : List ℕ) → addSignalsCall (job ++ wrote) out ≡ put [] wrote out
+AddsOnce = (job flow wrote : List ℕ) (f : JobFile) (g : FlowFile) → JobAlone job f → FlowBytes (f .n) flow g → Added job flow wrote → (out : List ℕ) → addSignalsCall (job ++ wrote) out ≡ put [] wrote out
 
 -- What adding wrote is judged by questions 13 to 19 alone, as the flow that it was given is: it is never 22.
 abbrev pub NeverMismatched : Type 0

@@ -34,6 +34,7 @@ questions =
     ∷ (20, "the result does not fit the lent buffer")
     ∷ (21, "a loop, or an edge or node given twice")
     ∷ (22, "the signal lists are not those of the flow")
+    ∷ (23, "an angle is not from 0 to below 2, or at an output not positive zero")
     ∷ []
 
 abbrev pub unknown : String

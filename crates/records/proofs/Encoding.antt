@@ -14,18 +14,18 @@ use Rattle.nodes.proofs.Logic.{and-out}
 use Rattle.nodes.specs.Lists.{has, all}
 use Rattle.answers.specs.Answer.{Refusal, Answer, gives, refuses, refusal, _>>=_}
 use Rattle.answers.proofs.Answer.{give-inj, never, bind-out}
-use Rattle.records.specs.Records.{carries, allYes, written, kindOpening, kindEdges, kindInputs, kindOutputs, kindMeasurements, kindLayers, kindWideLayers, kindSets, kindSetSignals, kindOddSignals, eachAsks}
+use Rattle.records.specs.Records.{carries, allYes, written, kindOpening, kindEdges, kindInputs, kindOutputs, kindMeasurements, kindLayers, kindWideLayers, kindSets, kindSetSignals, kindOddSignals, kindAngles, eachAsks}
 use Rattle.records.specs.BitRows.{rowWidth}
 use Rattle.records.specs.Format.{Front, front, PayloadFormat, plain, recordOf, optional, decodeThen}
-use Rattle.records.specs.JobFile.{JobFile, mostNodes, openingAllowed, edgesAsks, nodesAsks, measurementsAsks, opening, JobValue, job, jobFile, jobValue, readJob}
+use Rattle.records.specs.JobFile.{JobFile, mostNodes, openingAllowed, modePlanes, edgesAsks, nodesAsks, measurementsAsks, anglesAsks, opening, JobValue, hasAngles, angles, job, jobFile, jobValue, readJob}
 use Rattle.records.specs.FlowFile.{FlowFile, Layers, layerWidth, layerBytes, layerNumbers, layersAs, layers, entriesOf, listed, allEntries, entryBelow, entriesRise, entryBytes, sets, Signals, signalRows, signals, FlowValue, flow, flowFile, flowValue, readFlow}
-use Rattle.records.specs.Encoding.{Bytes, jobBytes, ValidJob, flowFileBytes, ListsFit, ValidFlow}
+use Rattle.records.specs.Encoding.{Bytes, jobBytes, AnglesFit, ValidJob, flowFileBytes, ListsFit, ValidFlow}
 use Rattle.records.proofs.Records.{all-left, all-right, length-out, length-in}
-use Rattle.records.proofs.JobFile.{allowed-out, allowed-in, opening-out, opening-in, edges-out, edges-in, nodes-out, nodes-in, measurements-out, measurements-in, rises-length, pairs-length}
+use Rattle.records.proofs.JobFile.{allowed-out, allowed-in, opening-out, opening-in, edges-out, edges-in, nodes-out, nodes-in, measurements-out, measurements-in, angles-out, angles-in, rises-length, pairs-length}
 use Rattle.records.proofs.FlowFile.{entries-back, entries-encode, sets-out, sets-in, entries-few, entry-bytes-length}
 use Rattle.records.proofs.Layers.{fitsTwoBytes, beq-self, beq-same, width-few, bytes-length, numbers-length, numbers-back, bytes-back, numbers-small}
-use Rattle.records.proofs.Format.{PayloadExact, Appends, Lawful, exact-iff, payload-bytes, record-appends, record-starts, record-differs, plain-exact, then-starts, choice-neither, record-then-appends, record-lawful, _then-lawful_, optional-lawful, choice-lawful}
-use Rattle.records.proofs.ReadingRefusals.{ReadingRefusal, numbered, Numbered, opening-numbered, edges-numbered, nodes-numbered, measurements-numbered, each-numbered, sets-numbered}
+use Rattle.records.proofs.Format.{PayloadExact, Appends, Lawful, exact-iff, payload-bytes, record-appends, record-closed, record-starts, record-differs, plain-exact, then-starts, carries-one, choice-neither, record-then-appends, record-lawful, _then-lawful_, optional-appends, optional-follows, optional-lawful, choice-lawful}
+use Rattle.records.proofs.ReadingRefusals.{ReadingRefusal, numbered, Numbered, opening-numbered, edges-numbered, nodes-numbered, measurements-numbered, angles-numbered, each-numbered, sets-numbered}
 
 -- ---- the payloads
 two-bytes : (l : List ℕ) → length l ≡ 2 → getD l 0 0 ∷ getD l 1 0 ∷ [] ≡ l
@@ -64,6 +64,13 @@ module _ (n : ℕ) (small : n ≤ 256) where
       lawful kindMeasurements (plain (measurementsAsks n mode output))
       (plain-exact (measurementsAsks n mode output) (λ p e. let q = measurements-out n mode output p e .0 in omega arith))
       (measurements-numbered n mode output)
+
+  angles-lawful : (mode : ℕ) (output : ℕ → Bool) → Lawful ReadingRefusal (angles n mode output)
+  angles-lawful mode output =
+      optional-lawful (hasAngles mode) kindAngles _ (record-starts kindAngles (plain (anglesAsks n output)))
+      (lawful kindAngles (plain (anglesAsks n output))
+      (plain-exact (anglesAsks n output) (λ p e. let q = angles-out n output p e .0 in omega arith))
+      (angles-numbered n output))
 
   sets-exact : PayloadExact (sets n)
   sets-exact = record {
@@ -112,7 +119,7 @@ module _ (n : ℕ) (small : n ≤ 256) where
 
   signals-lawful : Lawful ReadingRefusal (optional kindSetSignals (signals n))
   signals-lawful =
-      optional-lawful kindSetSignals (signals n) (then-starts kindSetSignals (recordOf kindSetSignals (signalRows n)) (λ s. recordOf kindOddSignals (signalRows n)) (record-starts kindSetSignals (signalRows n)))
+      optional-lawful true kindSetSignals (signals n) (then-starts kindSetSignals (recordOf kindSetSignals (signalRows n)) (λ s. recordOf kindOddSignals (signalRows n)) (record-starts kindSetSignals (signalRows n)))
       (rows-lawful kindSetSignals then-lawful λ s v. rows-lawful kindOddSignals)
 
 -- of lists their length is asked
@@ -149,7 +156,8 @@ job-lawful =
     edges-lawful (o .n) small then-lawful λ e w.
     nodes-lawful (o .n) small kindInputs then-lawful λ i w.
     nodes-lawful (o .n) small kindOutputs then-lawful λ u w.
-    measurements-lawful (o .n) small (o .mode) (has u)
+    measurements-lawful (o .n) small (o .mode) (has u) then-lawful λ m w.
+    angles-lawful (o .n) small (o .mode) (has u)
 
 job-appends : Appends job
 job-appends =
@@ -157,7 +165,12 @@ job-appends =
     record-then-appends kindEdges (plain (edgesAsks (o .n))) _ (λ e.
     record-then-appends kindInputs (plain (nodesAsks (o .n))) _ (λ i.
     record-then-appends kindOutputs (plain (nodesAsks (o .n))) _ (λ u.
-    record-appends kindMeasurements (plain (measurementsAsks (o .n) (o .mode) (has u)))))))
+    record-then-appends kindMeasurements (plain (measurementsAsks (o .n) (o .mode) (has u))) _ (λ m.
+    optional-appends (hasAngles (o .mode)) kindAngles _ (record-appends kindAngles (plain (anglesAsks (o .n) (has u)))))))))
+
+-- whatever does not carry angles may follow a job
+pub job-follows : (f : JobFile) (t : List ℕ) → carries kindAngles t ≡ false → job .mayFollow (jobValue f) t ≡ true
+job-follows f t c = optional-follows (hasAngles (f .mode)) kindAngles _ (record-closed kindAngles (plain (anglesAsks (f .n) (has (f .outputs))))) (f .angles) t c
 
 job-decoded : (s : List ℕ) (f : JobFile) → readJob s ≡ gives f → job .decode s ≡ gives (front (jobValue f) (f .after))
 unfolding readJob
@@ -167,18 +180,31 @@ job-reads : (s : List ℕ) (f : JobFile) → job .decode s ≡ gives (front (job
 unfolding readJob
 job-reads s f e = ap (λ (m : Answer (Front JobValue)). m >>= λ p. gives (jobFile p)) e
 
+-- of angles their place and their questions are asked
+fit-out : (n mode : ℕ) (output : ℕ → Bool) (o : Option (List ℕ)) → angles n mode output .valid o ≡ true → AnglesFit n mode output o
+fit-out n mode output none v = tt
+fit-out n mode output (some p) v =
+    let (h, a) = and-out (hasAngles mode) (allYes (anglesAsks n output p)) v in
+    let (l, w) = angles-out n output p a in
+    (eqb-true mode modePlanes h, l, w)
+
+fit-in : (n mode : ℕ) (output : ℕ → Bool) (o : Option (List ℕ)) → AnglesFit n mode output o → angles n mode output .valid o ≡ true
+fit-in n mode output none h = refl
+fit-in n mode output (some p) (h, l, w) = rw (eq-eqb mode modePlanes h) (angles-in n output p l w)
+
 valid-out : (f : JobFile) → job .valid (jobValue f) ≡ true → ValidJob f
 valid-out f v =
     let (o, v1) = and-out (openingAllowed (f .n) (f .mode)) _ v in
     let (e, v2) = and-out (allYes (edgesAsks (f .n) (f .edges))) _ v1 in
     let (i, v3) = and-out (allYes (nodesAsks (f .n) (f .inputs))) _ v2 in
-    let (u, m) = and-out (allYes (nodesAsks (f .n) (f .outputs))) _ v3 in
+    let (u, v4) = and-out (allYes (nodesAsks (f .n) (f .outputs))) _ v3 in
+    let (m, a) = and-out (allYes (measurementsAsks (f .n) (f .mode) (has (f .outputs)) (f .measurements))) _ v4 in
     let (o1, o2, o3) = allowed-out (f .n) (f .mode) o in
     let (e1, e2, e3) = edges-out (f .n) (f .edges) e in
     let (i1, i2) = nodes-out (f .n) (f .inputs) i in
     let (u1, u2) = nodes-out (f .n) (f .outputs) u in
     let (m1, m2) = measurements-out (f .n) (f .mode) (has (f .outputs)) (f .measurements) m in
-    record { few = o1; modeFrom = o2; modeTo = o3; pairs = e1; edgesBelow = e2; edgesRise = e3; inputsBelow = i1; inputsRise = i2; outputsBelow = u1; outputsRise = u2; count = m1; allowed = m2 }
+    record { few = o1; modeFrom = o2; modeTo = o3; pairs = e1; edgesBelow = e2; edgesRise = e3; inputsBelow = i1; inputsRise = i2; outputsBelow = u1; outputsRise = u2; count = m1; allowed = m2; angles = fit-out (f .n) (f .mode) (has (f .outputs)) (f .angles) a }
 
 valid-in : (f : JobFile) → ValidJob f → job .valid (jobValue f) ≡ true
 valid-in f v =
@@ -188,6 +214,7 @@ valid-in f v =
       nodes-in (f .n) (f .inputs) (v .inputsBelow) (v .inputsRise),
       nodes-in (f .n) (f .outputs) (v .outputsBelow) (v .outputsRise),
       measurements-in (f .n) (f .mode) (has (f .outputs)) (f .measurements) (v .count) (v .allowed),
+      fit-in (f .n) (f .mode) (has (f .outputs)) (f .angles) (v .angles),
     )
 
 -- what the format asks of a job, question by question
@@ -202,8 +229,8 @@ job-exact s f h =
     (λ e. there (job-decoded s f e), λ x. job-reads s f (back x))
 
 -- a valid job is read back from its bytes
-pub job-decodes : (f : JobFile) → ValidJob f → readJob (jobBytes f ++ f .after) ≡ gives f
-job-decodes f v = job-reads (jobBytes f ++ f .after) f (job-lawful .exact .decodes (jobValue f) (f .after) (valid-in f v) refl)
+pub job-decodes : (f : JobFile) → ValidJob f → carries kindAngles (f .after) ≡ false → readJob (jobBytes f ++ f .after) ≡ gives f
+job-decodes f v c = job-reads (jobBytes f ++ f .after) f (job-lawful .exact .decodes (jobValue f) (f .after) (valid-in f v) (job-follows f (f .after) c))
 
 -- what is behind a job of bytes is bytes
 pub job-after : (s : List ℕ) (f : JobFile) → Bytes s → readJob s ≡ gives f → Bytes (f .after)
@@ -219,10 +246,11 @@ job-refuses s r e = job-lawful .refusing .refused s r (made-refuses (job .decode
 
 -- with bytes behind it
 abbrev pub behind : JobFile → List ℕ → JobFile
-behind f g = record { n = f .n; mode = f .mode; edges = f .edges; inputs = f .inputs; outputs = f .outputs; measurements = f .measurements; after = f .after ++ g }
+behind f g = record { n = f .n; mode = f .mode; edges = f .edges; inputs = f .inputs; outputs = f .outputs; measurements = f .measurements; angles = f .angles; after = f .after ++ g }
 
-pub job-append : (s g : List ℕ) (f : JobFile) → readJob s ≡ gives f → readJob (s ++ g) ≡ gives (behind f g)
-job-append s g f e = job-reads (s ++ g) (behind f g) (job-appends .appends s (jobValue f) (f .after) g (job-decoded s f e) refl)
+-- a job reads the same with bytes behind it, where these carry no angles
+pub job-append : (s g : List ℕ) (f : JobFile) → readJob s ≡ gives f → carries kindAngles (f .after ++ g) ≡ false → readJob (s ++ g) ≡ gives (behind f g)
+job-append s g f e c = job-reads (s ++ g) (behind f g) (job-appends .appends s (jobValue f) (f .after) g (job-decoded s f e) (job-follows f (f .after ++ g) c))
 
 -- ---- a flow
 flow-lawful : (n : ℕ) → n ≤ mostNodes → Lawful ReadingRefusal (flow n)
@@ -235,6 +263,15 @@ flow-lawful n h =
 pub flow-neither : (n : ℕ) (s : List ℕ) → carries kindLayers s ≡ false → carries kindWideLayers s ≡ false → readFlow n s ≡ refuses (refusal 1)
 unfolding readFlow decodeThen
 flow-neither n s a b = rw (choice-neither (λ l. l .wide) kindLayers kindWideLayers (layersAs false n) (layersAs true n) s a b) refl
+
+-- a flow file carries no angles: a job reads the same with one behind it
+pub flow-carries : (n : ℕ) (s : List ℕ) (g : FlowFile) → readFlow n s ≡ gives g → carries kindAngles s ≡ false
+flow-carries n s g e = by (carries kindWideLayers s) refl (carries kindLayers s) refl
+  where
+    by : (a : Bool) → carries kindWideLayers s ≡ a → (b : Bool) → carries kindLayers s ≡ b → carries kindAngles s ≡ false
+    by true h b k = carries-one kindWideLayers kindAngles s h (λ e. omega arith)
+    by false h true k = carries-one kindLayers kindAngles s k (λ e. omega arith)
+    by false h false k = absurd (never (sym (flow-neither n s k h) ∙ e))
 
 flow-decoded : (n : ℕ) (s : List ℕ) (g : FlowFile) → readFlow n s ≡ gives g → flow n .decode s ≡ gives (front (flowValue g) (g .after))
 unfolding readFlow

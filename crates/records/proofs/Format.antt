@@ -4,18 +4,18 @@ use Prim.Native.Nat.{ℕ, _+_, _≤_, _<_}
 use native.Mathlib.Omega.{arith}
 use borrow.Author.Tests.{eq-eqb, ne-eqb, eqb-true, leb-true, le-leb}
 use mathlib.Core.Path.{_≡_, refl, sym, ap, _∙_, subst}
-use mathlib.Core.Bool.{Bool, true, false, cond, not, false≢true}
+use mathlib.Core.Bool.{Bool, true, false, cond, not, _&&_, false≢true}
 use mathlib.Core.Logic.{_↔_}
 use mathlib.Core.Option.{Option, none, some}
 use mathlib.Core.List.{List, [], _++_, append-assoc}
 use lib.Dec.{ltb, leb, eqb}
 use lib.ListN.{length, length-append, List·getD-append}
-use Rattle.nodes.proofs.Logic.{and-out}
+use Rattle.nodes.proofs.Logic.{and-out, and-none}
 use Rattle.nodes.specs.Lists.{all}
 use Rattle.answers.specs.Answer.{Refusal, Answer, gives, refuses, refusal, asks, _>>=_, _>>_}
 use Rattle.answers.proofs.Answer.{give-inj, never, bind-out}
 use Rattle.records.specs.Records.{carries, Part, allYes, part, checked, headOf, written, lengthField, kindField, headBytes}
-use Rattle.records.specs.Format.{Front, front, Format, PayloadFormat, plain, recordOf, decodeThen, _then_, someOf, optional, choice}
+use Rattle.records.specs.Format.{Front, front, Format, PayloadFormat, plain, recordOf, decodeThen, _then_, someOf, optionalIf, choice}
 use Rattle.records.specs.Encoding.{Bytes}
 use Rattle.records.proofs.Records.{all-left, all-right, checked-passed, checked-append, checked-written, record-bytes}
 
@@ -225,7 +225,7 @@ carries-append kind s u e =
     let n : length (s ++ u) ≡ length s + length u = length-append s u in
     rw (List·getD-append s u 0 4 (omega arith), List·getD-append s u 0 5 (omega arith), b, le-leb headBytes (length (s ++ u)) (omega arith))
 
-carries-one : (kind other : ℕ) (s : List ℕ) → carries kind s ≡ true → (kind ≡ other → ⊥) → carries other s ≡ false
+pub carries-one : (kind other : ℕ) (s : List ℕ) → carries kind s ≡ true → (kind ≡ other → ⊥) → carries other s ≡ false
 carries-one kind other s h d =
     let (l, m) = and-out (leb headBytes (length s)) (eqb (kindField s) kind) h in
     rw (l, ne-eqb (kindField s) other (λ z. d (sym (eqb-true (kindField s) kind m) ∙ z)))
@@ -235,45 +235,51 @@ not-carried : (c : Bool) → not c ≡ true → c ≡ false
 not-carried true e = absurd (false≢true e)
 not-carried false e = refl
 
-module _ {A : Type 0} (kind : ℕ) (f : Format A) where
+module _ {A : Type 0} (here : Bool) (kind : ℕ) (f : Format A) where
   some-out : (s : List ℕ) (o : Option A) (t : List ℕ) → someOf (f .decode s) ≡ gives (front o t) → (p : Front A) × (f .decode s ≡ gives p) × (gives (front (some (p .value)) (p .rest)) ≡ gives (front o t))
   some-out s o t e = bind-out (f .decode s) (λ p. gives (front (some (p .value)) (p .rest))) (front o t) e
 
-  pub optional-sound : Sound f → Sound (optional kind f)
-  optional-sound x = record { valid = λ s o t e. by s o t (carries kind s) e }
+  pub optional-sound : Sound f → Sound (optionalIf here kind f)
+  optional-sound x = record { valid = λ s o t e. by s o t (here && carries kind s) refl e }
     where
-      by : (s : List ℕ) (o : Option A) (t : List ℕ) (c : Bool) → cond c (someOf (f .decode s)) (gives (front none s)) ≡ gives (front o t) → optional kind f .valid o ≡ true
-      by s o t false e = front-inj (λ o t. optional kind f .valid o ≡ true) none o s t e refl
-      by s o t true e =
+      by : (s : List ℕ) (o : Option A) (t : List ℕ) (c : Bool) → here && carries kind s ≡ c → cond c (someOf (f .decode s)) (gives (front none s)) ≡ gives (front o t) → optionalIf here kind f .valid o ≡ true
+      by s o t false c e = front-inj (λ o t. optionalIf here kind f .valid o ≡ true) none o s t e refl
+      by s o t true c e =
           let (p, p1, e1) = some-out s o t e in
-          front-inj (λ o t. optional kind f .valid o ≡ true) (some (p .value)) o (p .rest) t e1 (x .valid s (p .value) (p .rest) p1)
+          front-inj (λ o t. optionalIf here kind f .valid o ≡ true) (some (p .value)) o (p .rest) t e1 (ap (λ (h : Bool). h && f .valid (p .value)) (and-out here (carries kind s) c .0) ∙ x .valid s (p .value) (p .rest) p1)
 
-  pub optional-exact : Exact f → Starts kind f → Exact (optional kind f)
-  optional-exact x starts = record { sound = optional-sound (x .sound); decodes = there; encodes = λ s o t h e. back s o t h (carries kind s) refl e }
+  pub optional-exact : Exact f → Starts kind f → Exact (optionalIf here kind f)
+  optional-exact x starts = record { sound = optional-sound (x .sound); decodes = there; encodes = λ s o t h e. back s o t h (here && carries kind s) refl e }
     where
-      there : (o : Option A) (t : List ℕ) → optional kind f .valid o ≡ true → optional kind f .mayFollow o t ≡ true → optional kind f .decode (optional kind f .encode o ++ t) ≡ gives (front o t)
-      there none t v w = rw (not-carried (carries kind t) w)
-      there (some a) t v w = rw (starts a t, x .decodes a t v w)
+      there : (o : Option A) (t : List ℕ) → optionalIf here kind f .valid o ≡ true → optionalIf here kind f .mayFollow o t ≡ true → optionalIf here kind f .decode (optionalIf here kind f .encode o ++ t) ≡ gives (front o t)
+      there none t v w = rw (not-carried (here && carries kind t) w)
+      there (some a) t v w = let (h, y) = and-out here (f .valid a) v in rw (h, starts a t, x .decodes a t y w)
 
-      back : (s : List ℕ) (o : Option A) (t : List ℕ) → Bytes s → (c : Bool) → carries kind s ≡ c → cond c (someOf (f .decode s)) (gives (front none s)) ≡ gives (front o t) → Decoded (optional kind f) s o t
-      back s o t h false c e = front-inj (Decoded (optional kind f) s) none o s t e (record { same = refl; follows = rw c; bytes = h })
+      back : (s : List ℕ) (o : Option A) (t : List ℕ) → Bytes s → (c : Bool) → here && carries kind s ≡ c → cond c (someOf (f .decode s)) (gives (front none s)) ≡ gives (front o t) → Decoded (optionalIf here kind f) s o t
+      back s o t h false c e = front-inj (Decoded (optionalIf here kind f) s) none o s t e (record { same = refl; follows = rw c; bytes = h })
       back s o t h true c e =
           let (p, p1, e1) = some-out s o t e in
           let r : Decoded f s (p .value) (p .rest) = x .encodes s (p .value) (p .rest) h p1 in
-          front-inj (Decoded (optional kind f) s) (some (p .value)) o (p .rest) t e1 (record { same = r .same; follows = r .follows; bytes = r .bytes })
+          front-inj (Decoded (optionalIf here kind f) s) (some (p .value)) o (p .rest) t e1 (record { same = r .same; follows = r .follows; bytes = r .bytes })
 
-  pub optional-appends : Appends f → Appends (optional kind f)
-  optional-appends x = record { appends = λ s o t u e w. by s o t u w (carries kind s) refl e }
+  pub optional-appends : Appends f → Appends (optionalIf here kind f)
+  optional-appends x = record { appends = λ s o t u e w. by s o t u w (here && carries kind s) refl e }
     where
-      by : (s : List ℕ) (o : Option A) (t u : List ℕ) → optional kind f .mayFollow o (t ++ u) ≡ true → (c : Bool) → carries kind s ≡ c → cond c (someOf (f .decode s)) (gives (front none s)) ≡ gives (front o t) → optional kind f .decode (s ++ u) ≡ gives (front o (t ++ u))
+      by : (s : List ℕ) (o : Option A) (t u : List ℕ) → optionalIf here kind f .mayFollow o (t ++ u) ≡ true → (c : Bool) → here && carries kind s ≡ c → cond c (someOf (f .decode s)) (gives (front none s)) ≡ gives (front o t) → optionalIf here kind f .decode (s ++ u) ≡ gives (front o (t ++ u))
       by s o t u w false c e =
           let m : front none s ≡ front o t = give-inj e in
-          let n : not (carries kind (s ++ u)) ≡ true = ap (λ (z : Front (Option A)). optional kind f .mayFollow (z .value) (z .rest ++ u)) m ∙ w in
-          rw (not-carried (carries kind (s ++ u)) n) (ap (λ (z : Front (Option A)). gives (front (z .value) (z .rest ++ u))) m)
+          let n : not (here && carries kind (s ++ u)) ≡ true = ap (λ (z : Front (Option A)). optionalIf here kind f .mayFollow (z .value) (z .rest ++ u)) m ∙ w in
+          rw (not-carried (here && carries kind (s ++ u)) n) (ap (λ (z : Front (Option A)). gives (front (z .value) (z .rest ++ u))) m)
       by s o t u w true c e =
           let (p, p1, e1) = some-out s o t e in
           let m : front (some (p .value)) (p .rest) ≡ front o t = give-inj e1 in
-          rw (carries-append kind s u c, x .appends s (p .value) (p .rest) u p1 (ap (λ (z : Front (Option A)). optional kind f .mayFollow (z .value) (z .rest ++ u)) m ∙ w)) (ap (λ (z : Front (Option A)). gives (front (z .value) (z .rest ++ u))) m)
+          let (h, k) = and-out here (carries kind s) c in
+          rw (h, carries-append kind s u k, x .appends s (p .value) (p .rest) u p1 (ap (λ (z : Front (Option A)). optionalIf here kind f .mayFollow (z .value) (z .rest ++ u)) m ∙ w)) (ap (λ (z : Front (Option A)). gives (front (z .value) (z .rest ++ u))) m)
+
+  -- what does not carry its kind may follow, whether it is there or not
+  pub optional-follows : Closed f → (o : Option A) (t : List ℕ) → carries kind t ≡ false → optionalIf here kind f .mayFollow o t ≡ true
+  optional-follows x none t c = rw (c, and-none here) refl
+  optional-follows x (some a) t c = x .closed a t
 
 -- ---- two kinds in one place
 pub record Apart {A : Type 0} (second : A → Bool) (f : Format A) (kind : ℕ) (g : Format A) : Type 0 where
@@ -369,8 +375,8 @@ module _ (P : Refusal → Type 0) where
       by s r (gives p) h e = bind-refuses (g (p .value) .decode (p .rest)) _ r e (y (p .value) (v .valid s (p .value) (p .rest) h) .refused (p .rest)) (λ q e2. absurd (never (sym e2)))
       by s r (refuses q) h e = let same : q ≡ r = cc in subst P same (x .refused s q h)
 
-  pub optional-refuses : {A : Type 0} (kind : ℕ) (f : Format A) → Refuses f → Refuses (optional kind f)
-  optional-refuses kind f x = record { refused = λ s r e. by s r (carries kind s) e }
+  pub optional-refuses : {A : Type 0} (here : Bool) (kind : ℕ) (f : Format A) → Refuses f → Refuses (optionalIf here kind f)
+  optional-refuses here kind f x = record { refused = λ s r e. by s r (here && carries kind s) e }
     where
       by : (s : List ℕ) (r : Refusal) (c : Bool) → cond c (someOf (f .decode s)) (gives (front none s)) ≡ refuses r → P r
       by s r true e = bind-refuses (f .decode s) _ r e (x .refused s) (λ p e1. absurd (never (sym e1)))
@@ -399,10 +405,10 @@ _then-lawful_ {P = P} {f = f} {g = g} x y = record {
   refusing = then-refuses P f g (x .exact .sound) (x .refusing) (λ a v. y a v .refusing);
 }
 
-pub optional-lawful : {P : Refusal → Type 0} {A : Type 0} (kind : ℕ) (f : Format A) → Starts kind f → Lawful P f → Lawful P (optional kind f)
-optional-lawful {P = P} kind f starts x = record {
-  exact = optional-exact kind f (x .exact) starts;
-  refusing = optional-refuses P kind f (x .refusing);
+pub optional-lawful : {P : Refusal → Type 0} {A : Type 0} (here : Bool) (kind : ℕ) (f : Format A) → Starts kind f → Lawful P f → Lawful P (optionalIf here kind f)
+optional-lawful {P = P} here kind f starts x = record {
+  exact = optional-exact here kind f (x .exact) starts;
+  refusing = optional-refuses P here kind f (x .refusing);
 }
 
 pub choice-lawful : {P : Refusal → Type 0} {A : Type 0} {second : A → Bool} {f : Format A} {kind : ℕ} {g : Format A} → Apart second f kind g → Lawful P f → Lawful P g → Lawful P (choice second f kind g)

@@ -1,8 +1,9 @@
 -- Jobs: the questions of their records as facts, and what follows for their nodes.
 use Prim.Native.Nat.{ℕ, zero, suc, _+_, _*_, _%_, _≤_, _<_, zero-le}
-use mathlib.Core.Path.{_≡_, refl, sym, ap, ap₂, _∙_}
+use mathlib.Core.Path.{_≡_, refl, sym, ap, ap₂, _∙_, subst}
 use mathlib.Core.Bool.{Bool, true, false, cond, _&&_, _||_}
 use mathlib.Core.Logic.{_⊎_, inl, inr}
+use mathlib.Core.Option.{Option, none, some}
 use mathlib.Core.List.{List, [], _∷_}
 use native.Mathlib.Omega.{arith}
 use native.Mathlib.Nat.{not-suc-le-zero, le-of-suc-le-suc}
@@ -10,12 +11,15 @@ use borrow.Author.Tests.{leb-true, ltb-true, eqb-true, le-leb, lt-ltb, eq-eqb, n
 use lib.Dec.{T, eqb, ltb, leb, eqb→eq}
 use lib.ListN.{length, getD, List·getD-eq-default}
 use Rattle.flows.specs.Job.{planeXY, planeXZ, pauliZ}
+use Rattle.flows.proofs.Inferred.{infers, infers-most, infers-some, infers-none}
 use Rattle.nodes.proofs.Logic.{and-out, is-false, and-l, and-r, or-out, or-comm, lt-or-ge}
 use Rattle.answers.specs.Answer.{asks, _>>_}
-use Rattle.records.specs.Records.{allYes}
+use Rattle.angles.specs.AngleRecord.{angleBytes, anglesAllowed, inferredBytes}
+use Rattle.angles.proofs.Inferred.{inferred-length, bytes-infer}
+use Rattle.records.specs.Records.{allYes, eachAsks}
 use Rattle.nodes.specs.NodeSet.{highest}
 use Rattle.nodes.specs.Lists.{has, all}
-use Rattle.records.specs.JobFile.{JobFile, mostNodes, modeCausal, modePlanes, modePauli, wholePairs, nodesBelow, rises, pairsRise, highestOf, allows, allAllowed, openingAllowed, openingAsks, edgesAsks, nodesAsks, measurementsAsks, hasEdge, jobOf}
+use Rattle.records.specs.JobFile.{JobFile, mostNodes, modeCausal, modePlanes, modePauli, wholePairs, nodesBelow, rises, pairsRise, highestOf, allows, allAllowed, openingAllowed, openingAsks, edgesAsks, nodesAsks, measurementsAsks, anglesAsks, hasEdge, working, workingOf, jobOf}
 use Rattle.records.specs.Encoding.{ValidJob}
 use Rattle.records.proofs.Records.{asks-then, asks-last}
 
@@ -69,6 +73,16 @@ measurements-out n mode output p e =
 pub measurements-in : (n mode : ℕ) (output : ℕ → Bool) (p : List ℕ) → length p ≡ n → allAllowed mode output 0 p ≡ true → allYes (measurementsAsks n mode output p) ≡ true
 unfolding measurementsAsks
 measurements-in n mode output p a b = rw (eq-eqb (length p) n a, b)
+
+pub angles-out : (n : ℕ) (output : ℕ → Bool) (p : List ℕ) → allYes (anglesAsks n output p) ≡ true → (length p ≡ angleBytes * n) × (anglesAllowed n output p ≡ true)
+unfolding anglesAsks eachAsks
+angles-out n output p e =
+    let (a, b) = asks-then 3 (eqb (length p) (angleBytes * n)) (asks 23 (anglesAllowed n output p)) e in
+    (eqb-true (length p) (angleBytes * n) a, asks-last 23 (anglesAllowed n output p) b)
+
+pub angles-in : (n : ℕ) (output : ℕ → Bool) (p : List ℕ) → length p ≡ angleBytes * n → anglesAllowed n output p ≡ true → allYes (anglesAsks n output p) ≡ true
+unfolding anglesAsks eachAsks
+angles-in n output p a b = rw (eq-eqb (length p) (angleBytes * n) a, b)
 
 -- ---- lists that rise, and measurements that are allowed: their laws, by which all else goes
 pub rises-none : (low : ℕ) → rises low [] ≡ true
@@ -254,26 +268,63 @@ allowed-below mode output i (m ∷ l) a =
     let (p, q) = allowed-each mode output i m l a in
     rw (lt-ltb m (highestOf mode + 1) (allows-below mode (output i) m p), allowed-below mode output (i + 1) l q)
 
+-- what is inferred from an allowed byte is allowed in mode 3
+inferred-allowed : (mode : ℕ) (output : Bool) (p m : ℕ) → T (infers p m) → allows mode output p ≡ true → allows modePauli output m ≡ true
+unfolding allows
+inferred-allowed mode true p m h e =
+    let none-inferred : m ≡ 0 = infers-none m (subst (λ (p : ℕ). T (infers p m)) (output-out mode p e) h) in
+    eq-eqb m 0 none-inferred
+inferred-allowed mode false p m h e =
+    let (from, to) = measured-out mode p e in
+    let most : p < 7 = omega (arith, to, highest-most mode) in
+    let few : m < 7 = infers-most p m h most in
+    let some-inferred = infers-some p m h (λ z. omega arith) in
+    rw (le-leb 1 m (positive m some-inferred), le-leb m (highestOf modePauli) (omega arith)) refl
+  where
+    positive : (m : ℕ) → (m ≡ 0 → ⊥) → 1 ≤ m
+    positive zero d = absurd (d refl)
+    positive (suc m) d = omega arith
+
 module _ (f : JobFile) (v : ValidJob f) where
-  byte-allowed : (u : ℕ) → u < f .n → allows (f .mode) (has (f .outputs) u) (jobOf f .measured u) ≡ true
+  byte-allowed : (u : ℕ) → u < f .n → allows (f .mode) (has (f .outputs) u) (getD (f .measurements) u 0) ≡ true
   byte-allowed u h =
       let e : 0 + u ≡ u = omega arith in
-      ap (λ (x : ℕ). allows (f .mode) (has (f .outputs) x) (jobOf f .measured u)) (sym e)
+      ap (λ (x : ℕ). allows (f .mode) (has (f .outputs) x) (getD (f .measurements) u 0)) (sym e)
       ∙ allowed-at (f .mode) (has (f .outputs)) 0 (f .measurements) u (v .allowed) (omega (arith, v .count))
 
+  -- what is inferred from the planes, whatever the angles
+  pub planes-infer : (angles : List ℕ) (u : ℕ) → u < f .n → T (infers (getD (f .measurements) u 0) (getD (inferredBytes (f .measurements) angles) u 0))
+  planes-infer angles u h = bytes-infer (f .measurements) angles u (subst (λ (n : ℕ). u < n) (sym (v .count)) h)
+
+  -- the mode to work with allows the measurement to work with
+  works-allowed : (u : ℕ) → u < f .n → allows (workingOf f .mode) (jobOf f .output u) (jobOf f .measured u) ≡ true
+  works-allowed u h = by (f .angles)
+    where
+      by : (o : Option (List ℕ)) → allows (working (f .mode) (f .measurements) o .mode) (has (f .outputs) u) (getD (working (f .mode) (f .measurements) o .measurements) u 0) ≡ true
+      by none = byte-allowed u h
+      by (some p) = inferred-allowed (f .mode) (has (f .outputs) u) (getD (f .measurements) u 0) _ (planes-infer p u h) (byte-allowed u h)
+
+  -- as many of them as nodes
+  pub works-count : length (workingOf f .measurements) ≡ f .n
+  works-count = by (f .angles)
+    where
+      by : (o : Option (List ℕ)) → length (working (f .mode) (f .measurements) o .measurements) ≡ f .n
+      by none = v .count
+      by (some p) = inferred-length (f .measurements) p ∙ v .count
+
   -- a node that is measured has a byte from 1 to the highest of the mode
-  pub measured-range : (u : ℕ) → u < f .n → jobOf f .output u ≡ false → (1 ≤ jobOf f .measured u) × (jobOf f .measured u ≤ highestOf (f .mode))
-  measured-range u h o = measured-out (f .mode) (jobOf f .measured u) (rw o at (byte-allowed u h))
+  pub measured-range : (u : ℕ) → u < f .n → jobOf f .output u ≡ false → (1 ≤ jobOf f .measured u) × (jobOf f .measured u ≤ highestOf (workingOf f .mode))
+  measured-range u h o = measured-out (workingOf f .mode) (jobOf f .measured u) (rw o at (works-allowed u h))
 
   pub output-zero : (u : ℕ) → u < f .n → jobOf f .output u ≡ true → jobOf f .measured u ≡ 0
-  output-zero u h o = output-out (f .mode) (jobOf f .measured u) (rw o at (byte-allowed u h))
+  output-zero u h o = output-out (workingOf f .mode) (jobOf f .measured u) (rw o at (works-allowed u h))
 
   pub measured-most : (u : ℕ) → jobOf f .measured u ≤ pauliZ
   measured-most u = by (lt-or-ge u (f .n))
     where
       by : (u < f .n) ⊎ (f .n ≤ u) → jobOf f .measured u ≤ pauliZ
-      by (inl h) = allows-most (f .mode) (jobOf f .output u) (jobOf f .measured u) (byte-allowed u h)
-      by (inr h) = rw (List·getD-eq-default (f .measurements) 0 {n = u} (omega (arith, v .count))) zero-le
+      by (inl h) = allows-most (workingOf f .mode) (jobOf f .output u) (jobOf f .measured u) (works-allowed u h)
+      by (inr h) = rw (List·getD-eq-default (workingOf f .measurements) 0 {n = u} (omega (arith, works-count))) zero-le
 
-  pub measured-plane : f .mode ≡ modePlanes → (u : ℕ) → u < f .n → jobOf f .output u ≡ false → (1 ≤ jobOf f .measured u) × (jobOf f .measured u ≤ planeXZ)
+  pub measured-plane : workingOf f .mode ≡ modePlanes → (u : ℕ) → u < f .n → jobOf f .output u ≡ false → (1 ≤ jobOf f .measured u) × (jobOf f .measured u ≤ planeXZ)
   measured-plane m u h o = rw m at (measured-range u h o)

@@ -3,10 +3,11 @@
 use Prim.Native.Nat.{ℕ, zero, suc, _+_, _*_, _%_, _≤_, _<_}
 use mathlib.Core.Path.{_≡_, refl, sym, ap, _∙_, fun-ext}
 use mathlib.Core.Bool.{Bool, true, false, cond, _&&_}
-use mathlib.Core.List.{List, [], _∷_, _++_}
+use mathlib.Core.Option.{Option, none, some}
+use mathlib.Core.List.{List, [], _∷_, _++_, append-assoc, append-nil}
 use native.Mathlib.Omega.{arith}
 use native.Mathlib.Nat.{mul-le-mul}
-use borrow.Author.Tests.{lt-ltb, eq-eqb}
+use borrow.Author.Tests.{lt-ltb, eqb-true, eq-eqb}
 use lib.Dec.{eqb, ltb}
 use lib.ListN.{length, length-append}
 use Rattle.nodes.specs.Row.{count, members}
@@ -14,16 +15,17 @@ use Rattle.nodes.specs.Lists.{has, all}
 use Rattle.nodes.proofs.Logic.{and-out}
 use Rattle.nodes.proofs.Count.{count-le}
 use Rattle.nodes.proofs.Members.{members-length}
+use Rattle.angles.specs.AngleRecord.{angleBytes}
 use Rattle.answers.specs.Answer.{gives}
-use Rattle.answers.proofs.Answer.{asks-out}
+use Rattle.answers.proofs.Answer.{asks-out, then-out}
 use Rattle.flows.specs.Job.{planeXY, planeXZ, pauliZ}
-use Rattle.records.specs.Records.{headBytes, allYes, written, kindOpening, kindEdges, kindInputs, kindOutputs, kindMeasurements}
-use Rattle.records.specs.JobFile.{JobFile, mostNodes, modeCausal, modePlanes, modePauli, highestOf, openingAllowed, wholePairs, nodesBelow, rises, allAllowed, measurementsAsks, hasEdge}
-use Rattle.records.specs.JobLists.{JobLists, listsOf, once, edgesOnce, listsAsk, givenOnce, meaning, pairsAmong, ascending}
-use Rattle.records.specs.Encoding.{Bytes, jobBytes, ValidJob}
-use Rattle.records.specs.Writing.{mostOutput}
+use Rattle.records.specs.Records.{headBytes, allYes, eachAsks, written, kindOpening, kindEdges, kindInputs, kindOutputs, kindMeasurements, kindAngles}
+use Rattle.records.specs.JobFile.{JobFile, mostNodes, modeCausal, modePlanes, modePauli, highestOf, openingAllowed, wholePairs, nodesBelow, rises, allAllowed, measurementsAsks, anglesAsks, hasAngles, angles, hasEdge}
+use Rattle.records.specs.JobLists.{JobLists, listsOf, once, edgesOnce, anglesGiven, listsAsk, givenOnce, meaning, pairsAmong, withoutAngles, ascending}
+use Rattle.records.specs.Encoding.{Bytes, AngleBytes, jobBytes, AnglesFit, ValidJob}
+use Rattle.records.specs.Writing.{angleRecord, mostJob}
 use Rattle.records.proofs.Records.{all-append, written-length, written-bytes}
-use Rattle.records.proofs.JobFile.{allowed-out, allowed-in, measurements-out, allowed-below}
+use Rattle.records.proofs.JobFile.{allowed-out, allowed-in, measurements-out, angles-out, allowed-below}
 use Rattle.records.proofs.Writing.{members-under, members-rise}
 use Rattle.records.proofs.NodeLists.{members-same, rising-members, has-count, once-count}
 use Rattle.records.proofs.PairKeys.{RisingPairs, bytes}
@@ -40,6 +42,21 @@ pub record Asked (l : JobLists) : Type 0 where
   pub outputsBelow : nodesBelow (l .n) (l .outputs) ≡ true
   pub count : length (l .measurements) ≡ l .n
   pub allowed : allAllowed (l .mode) (has (l .outputs)) 0 (l .measurements) ≡ true
+  pub angles : AnglesFit (l .n) (l .mode) (has (l .outputs)) (l .angles)
+
+-- of angles, where they are given
+given-out : (n mode : ℕ) (output : ℕ → Bool) (o : Option (List ℕ)) (b : Bool) → anglesGiven n mode output o ≡ gives b → AnglesFit n mode output o
+unfolding anglesGiven
+given-out n mode output none b e = tt
+given-out n mode output (some p) b e =
+    let (h, a) = asks-out 4 (hasAngles mode) (anglesAsks n output p) b e in
+    let (l, w) = angles-out n output p (ap allYes a) in
+    (eqb-true mode modePlanes h, l, w)
+
+given-in : (n mode : ℕ) (output : ℕ → Bool) (o : Option (List ℕ)) → AnglesFit n mode output o → anglesGiven n mode output o ≡ gives true
+unfolding anglesGiven anglesAsks eachAsks
+given-in n mode output none h = refl
+given-in n mode output (some p) (h, l, w) = rw (eq-eqb mode modePlanes h, eq-eqb (length p) (angleBytes * n) l, w)
 
 asked-out : (l : JobLists) (b : Bool) → listsAsk l ≡ gives b → Asked l
 unfolding listsAsk
@@ -50,8 +67,9 @@ asked-out l b e =
     let (i, e4) = asks-out 5 (nodesBelow (l .n) (l .inputs)) _ b e3 in
     let (u, e5) = asks-out 5 (nodesBelow (l .n) (l .outputs)) _ b e4 in
     let (o1, o2, o3) = allowed-out (l .n) (l .mode) o in
-    let (m1, m2) = measurements-out (l .n) (l .mode) (has (l .outputs)) (l .measurements) (ap allYes e5) in
-    record { few = o1; modeFrom = o2; modeTo = o3; pairs = w; edgesBelow = g; inputsBelow = i; outputsBelow = u; count = m1; allowed = m2 }
+    let (c, m, a) = then-out (measurementsAsks (l .n) (l .mode) (has (l .outputs)) (l .measurements)) _ b e5 in
+    let (m1, m2) = measurements-out (l .n) (l .mode) (has (l .outputs)) (l .measurements) (ap allYes m) in
+    record { few = o1; modeFrom = o2; modeTo = o3; pairs = w; edgesBelow = g; inputsBelow = i; outputsBelow = u; count = m1; allowed = m2; angles = given-out (l .n) (l .mode) (has (l .outputs)) (l .angles) b a }
 
 asked-in : (l : JobLists) → Asked l → listsAsk l ≡ gives true
 unfolding listsAsk measurementsAsks
@@ -64,6 +82,7 @@ asked-in l a =
       a .outputsBelow,
       eq-eqb (length (l .measurements)) (l .n) (a .count),
       a .allowed,
+      given-in (l .n) (l .mode) (has (l .outputs)) (l .angles) (a .angles),
     )
 
 pub lists-asked : (l : JobLists) → listsAsk l ≡ gives true → Asked l
@@ -77,8 +96,23 @@ lists-yes l b e = asked-in l (asked-out l b e)
 record-length : (kind : ℕ) (p rest : List ℕ) → length (written kind p ++ rest) ≡ headBytes + length p + length rest
 record-length kind p rest = omega (arith, length-append (written kind p) rest, written-length kind p)
 
-pub job-length : (f : JobFile) → length (jobBytes f) ≡ 5 * headBytes + 2 + length (f .edges) + length (f .inputs) + length (f .outputs) + length (f .measurements)
-job-length f = rw (record-length, record-length, record-length, record-length, written-length) (omega arith)
+-- the angles stand behind all else
+pub job-parts : (f : JobFile) → jobBytes f ≡ jobBytes (withoutAngles f) ++ angleRecord (f .angles)
+job-parts f = by (f .angles)
+  where
+    five : (t : List ℕ) → List ℕ
+    five t = written kindOpening (f .n ∷ f .mode ∷ []) ++ (written kindEdges (f .edges) ++ (written kindInputs (f .inputs) ++ (written kindOutputs (f .outputs) ++ (written kindMeasurements (f .measurements) ++ t))))
+
+    moved : (t : List ℕ) → five [] ++ t ≡ five t
+    moved t =
+        rw (append-assoc, append-assoc, append-assoc, append-assoc, append-assoc) refl
+
+    by : (o : Option (List ℕ)) → five (angles (f .n) (f .mode) (has (f .outputs)) .encode o) ≡ five [] ++ angleRecord o
+    by none = sym (append-nil (five []))
+    by (some p) = sym (moved (written kindAngles p))
+
+pub job-length : (f : JobFile) → length (jobBytes (withoutAngles f)) ≡ 5 * headBytes + 2 + length (f .edges) + length (f .inputs) + length (f .outputs) + length (f .measurements)
+job-length f = rw (record-length, record-length, record-length, record-length, record-length) (omega arith)
 
 -- there are n nodes below n, and so many pairs among them at most
 nodes-length : (n : ℕ) → length (members n (λ u. true)) ≡ n
@@ -95,13 +129,22 @@ nodes-pairs n e = rw (nodes-length n) at (among-length e (members n (λ u. true)
 members-few : (n : ℕ) (s : ℕ → Bool) → length (members n s) ≤ n
 members-few n s = rw (members-length n s) (count-le n s)
 
-pub ascending-length : (l : JobLists) → listsAsk l ≡ gives true → length (jobBytes (ascending (meaning l))) ≤ mostOutput
+-- angles are as many as nodes
+pub record-few : (n mode : ℕ) (output : ℕ → Bool) (o : Option (List ℕ)) → AnglesFit n mode output o → length (angleRecord o) ≤ headBytes + angleBytes * n
+record-few n mode output none h = omega arith
+record-few n mode output (some p) (h, l, w) = omega (arith, written-length kindAngles p, l)
+
+pub ascending-length : (l : JobLists) → listsAsk l ≡ gives true → length (jobBytes (ascending (meaning l))) ≤ mostJob
 ascending-length l e =
     let a = lists-asked l e in
+    let f = ascending (meaning l) in
+    let whole : length (jobBytes f) ≡ length (jobBytes (withoutAngles f)) + length (angleRecord (l .angles)) = ap length (job-parts f) ∙ length-append (jobBytes (withoutAngles f)) (angleRecord (l .angles)) in
     let square : l .n * l .n ≤ mostNodes * mostNodes = mul-le-mul {n₁ = l .n} {m₁ = l .n} {n₂ = mostNodes} {m₂ = mostNodes} (a .few) (a .few) in
     omega (
       arith,
-      job-length (ascending (meaning l)),
+      whole,
+      job-length f,
+      record-few (l .n) (l .mode) (has (l .outputs)) (l .angles) (a .angles),
       a .few,
       a .count,
       square,
@@ -137,6 +180,7 @@ module _ (l : JobLists) (e : listsAsk l ≡ gives true) where
         outputsRise = members-rise (l .n) (has (l .outputs));
         count = asked .count;
         allowed = rw (same-nodes (l .outputs) (asked .outputsBelow)) (asked .allowed);
+        angles = rw (same-nodes (l .outputs) (asked .outputsBelow)) (asked .angles);
       }
 
   same-edges : edgesOnce (l .edges) ≡ true → hasEdge (pairsAmong (hasEdge (l .edges)) (members (l .n) (λ u. true))) ≡ hasEdge (l .edges)
@@ -192,6 +236,7 @@ module _ (f : JobFile) (v : ValidJob f) where
         outputsBelow = v .outputsBelow;
         count = v .count;
         allowed = v .allowed;
+        angles = v .angles;
       })
 
   once-nodes : (k : List ℕ) → nodesBelow (f .n) k ≡ true → rises 0 k ≡ true → once k ≡ true
@@ -205,13 +250,18 @@ module _ (f : JobFile) (v : ValidJob f) where
           sym (edges-count (f .n) (f .edges) one-byte whole (v .edgesBelow))
           ∙ eq-eqb _ _ (ap length (graph-list (f .n) one-byte (f .edges) edges-rise))
 
-  -- it is bytes
-  pub valid-bytes : Bytes (jobBytes f)
+  -- it is bytes, where the angles are
+  pub valid-bytes : AngleBytes (f .angles) → Bytes (jobBytes f)
   unfolding all
-  valid-bytes =
+  valid-bytes angled =
       bytes-before kindOpening (f .n ∷ f .mode ∷ []) _ (omega arith) (rw (lt-ltb (f .n) 256 (omega (arith, v .few)), lt-ltb (f .mode) 256 (omega (arith, v .modeTo))))
       (bytes-before kindEdges (f .edges) _ (omega arith) (bytes (f .n) one-byte (f .edges) (v .edgesBelow))
       (bytes-before kindInputs (f .inputs) _ (omega arith) (bytes (f .n) one-byte (f .inputs) (v .inputsBelow))
       (bytes-before kindOutputs (f .outputs) _ (omega arith) (bytes (f .n) one-byte (f .outputs) (v .outputsBelow))
-      (written-bytes kindMeasurements (f .measurements) (omega arith)
-      (bytes (highestOf (f .mode) + 1) (few-measurements (eqb (f .mode) modeCausal) (eqb (f .mode) modePlanes)) (f .measurements) (allowed-below (f .mode) (has (f .outputs)) 0 (f .measurements) (v .allowed)))))))
+      (bytes-before kindMeasurements (f .measurements) _ (omega arith)
+      (bytes (highestOf (f .mode) + 1) (few-measurements (eqb (f .mode) modeCausal) (eqb (f .mode) modePlanes)) (f .measurements) (allowed-below (f .mode) (has (f .outputs)) 0 (f .measurements) (v .allowed)))
+      (angle-bytes (f .angles) angled)))))
+    where
+      angle-bytes : (o : Option (List ℕ)) → AngleBytes o → Bytes (angles (f .n) (f .mode) (has (f .outputs)) .encode o)
+      angle-bytes none h = refl
+      angle-bytes (some p) h = written-bytes kindAngles p (omega arith) h

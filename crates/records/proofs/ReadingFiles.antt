@@ -6,12 +6,12 @@ use mathlib.Core.List.{List, []}
 use lib.ListN.{length, getD, drop}
 use Rattle.nodes.specs.Lists.{has, all}
 use Rattle.answers.specs.Answer.{Answer, gives, _>>=_}
-use Rattle.records.specs.Records.{allYes, eachAsks, kindOpening, kindEdges, kindInputs, kindOutputs, kindMeasurements, kindLayers, kindWideLayers, kindSets, kindSetSignals, kindOddSignals}
+use Rattle.records.specs.Records.{allYes, eachAsks, kindOpening, kindEdges, kindInputs, kindOutputs, kindMeasurements, kindLayers, kindWideLayers, kindSets, kindSetSignals, kindOddSignals, kindAngles}
 use Rattle.records.specs.BitRows.{rowWidth}
 use Rattle.records.specs.Format.{Front, front, plain, recordOf}
-use Rattle.records.specs.JobFile.{mostNodes, rises, openingAsks, edgesAsks, nodesAsks, measurementsAsks, Opening, opening, JobValue, job, jobFile, readJob}
+use Rattle.records.specs.JobFile.{mostNodes, rises, openingAsks, edgesAsks, nodesAsks, measurementsAsks, anglesAsks, Opening, opening, JobValue, hasAngles, job, jobFile, readJob}
 use Rattle.records.specs.FlowFile.{layersAs, layers, setsAsks, sets, FlowValue, flow, flowFile, readFlow}
-use Rattle.records.specs.Views.{startAt, restOf, placeOf, payloadFrom, payloadOf, pairIf, Next, NextOptional, Partner, NextChoice, jobOfRead, jobRead, JobPlaced, flowOfRead, flowRead, FlowPlaced}
+use Rattle.records.specs.Views.{startAt, restOf, placeOf, payloadFrom, payloadOf, someIf, pairIf, Next, NextOptional, Partner, NextChoice, jobOfRead, jobRead, JobPlaced, flowOfRead, flowRead, FlowPlaced}
 use Rattle.records.specs.declared.common.Place.{Place}
 use Rattle.records.specs.declared.common.JobPlaces.{JobPlaces}
 use Rattle.records.specs.declared.common.FlowPlaces.{FlowPlaces}
@@ -19,7 +19,7 @@ use Rattle.records.specs.declared.reader.RecordRead.{RecordRead}
 use Rattle.records.specs.declared.reader.RecordRead.the-variants.{Payload, Refused as NoRecord}
 use Rattle.records.specs.declared.reader.Branch.{Branch}
 use Rattle.records.proofs.JobFile.{allowed-out, opening-out, nodes-in}
-use Rattle.records.proofs.Views.{Took, then-took, WasRead, next-took, next-placed, pair-took, optional-placed, partner-placed, choice-took, choice-placed, payload-passed}
+use Rattle.records.proofs.Views.{Took, then-took, WasRead, next-took, next-placed, optional-took, pair-took, optional-placed, partner-placed, choice-took, choice-placed, payload-passed}
 
 -- the record that was read, by its place
 last-read : (r : RecordRead) (p : Place) → r ≡ Payload p → WasRead r
@@ -36,22 +36,23 @@ module _ (s : List ℕ) where
     pub opening-few : getD (payloadOf s o) 0 0 ≤ mostNodes
     opening-few = payload-passed s kindOpening openingAsks (startAt 0) o ho (λ p. getD p 0 0 ≤ mostNodes) zero-le (λ p z. allowed-out (getD p 0 0) (getD p 1 0) (opening-out p z .1) .0)
 
-    module _ (v : Opening) (e i u m : RecordRead)
+    module _ (v : Opening) (e i u m : RecordRead) (b : Branch)
         (hv : opening .value (payloadOf s o) ≡ v)
         (he : Next s o kindEdges (edgesAsks (v .n)) e)
         (hi : Next s e kindInputs (nodesAsks (v .n)) i)
         (hu : Next s i kindOutputs (nodesAsks (v .n)) u)
         (hm : Next s u kindMeasurements (measurementsAsks (v .n) (v .mode) (has (payloadOf s u))) m)
+        (hb : NextOptional s (hasAngles (v .mode)) m kindAngles (anglesAsks (v .n) (has (payloadOf s u))) b)
       where
         -- what was read, its last record, and the places
         abbrev job-value : JobValue
-        job-value = (v, (payloadOf s e, (payloadOf s i, (payloadOf s u, payloadOf s m))))
+        job-value = (v, (payloadOf s e, (payloadOf s i, (payloadOf s u, (payloadOf s m, someIf (b .taken) (payloadOf s (b .read)))))))
 
         abbrev job-last : RecordRead
-        job-last = m
+        job-last = b .read
 
         abbrev job-places : JobPlaces
-        job-places = record { n = v .n; mode = v .mode; edges = placeOf e; inputs = placeOf i; outputs = placeOf u; measurements = placeOf m; end = placeOf job-last .end }
+        job-places = record { n = v .n; mode = v .mode; edges = placeOf e; inputs = placeOf i; outputs = placeOf u; measurements = placeOf m; angled = b .taken; angles = placeOf job-last; end = placeOf job-last .end }
 
         job-took : Took job (gives s) job-value (restOf s job-last)
         job-took =
@@ -59,7 +60,8 @@ module _ (s : List ℕ) where
             then-took _ _ (next-took s kindEdges (plain (edgesAsks (v .n))) o e he) (
             then-took _ _ (next-took s kindInputs (plain (nodesAsks (v .n))) e i hi) (
             then-took _ _ (next-took s kindOutputs (plain (nodesAsks (v .n))) i u hu) (
-            next-took s kindMeasurements (plain (measurementsAsks (v .n) (v .mode) (has (payloadOf s u)))) u m hm))))
+            then-took _ _ (next-took s kindMeasurements (plain (measurementsAsks (v .n) (v .mode) (has (payloadOf s u)))) u m hm) (
+            optional-took s (hasAngles (v .mode)) kindAngles (anglesAsks (v .n) (has (payloadOf s u))) m b hb)))))
 
         job-steps : jobOfRead s (jobRead job-last job-places) ≡ readJob s
         unfolding readJob
@@ -75,12 +77,13 @@ module _ (s : List ℕ) where
             by : (r : RecordRead) → job-last ≡ r → JobPlaced s (jobRead r job-places)
             by (NoRecord q) h = tt
             by (Payload p) h =
-                let (wu, pm, l) = next-placed s _ _ u m hm (last-read job-last p h) in
+                let (wm, (tb, pb, l)) = optional-placed s (hasAngles (v .mode)) kindAngles _ m b hb (last-read job-last p h) in
+                let (wu, pm, lm) = next-placed s _ _ u m hm wm in
                 let (wi, pu, _) = next-placed s _ _ i u hu wu in
                 let (we, pi, _) = next-placed s _ _ e i hi wi in
                 let (wo, pe, _) = next-placed s _ _ o e he we in
                 let (ws, po, _) = next-placed s _ _ (startAt 0) o ho wo in
-                (rw (← hv, pm, pu, pi, pe, po) refl, l)
+                (rw (tb, pb, ← hv, pm, pu, pi, pe, po) refl, l lm)
 
         pub job-promised : (jobOfRead s (jobRead job-last job-places) ≡ readJob s) × JobPlaced s (jobRead job-last job-places)
         job-promised = (job-steps, job-placed)
@@ -89,7 +92,7 @@ module _ (s : List ℕ) where
   module _ (at n : ℕ) (l : Branch) (e : RecordRead) (b : Branch) (r : RecordRead)
       (hl : NextChoice s (startAt at) kindLayers (eachAsks 1 n) kindWideLayers (eachAsks 2 n) l)
       (he : Next s (l .read) kindSets (setsAsks n) e)
-      (hb : NextOptional s e kindSetSignals (eachAsks (rowWidth n) n) b)
+      (hb : NextOptional s true e kindSetSignals (eachAsks (rowWidth n) n) b)
       (hr : Partner s (b .taken) (b .read) kindOddSignals (eachAsks (rowWidth n) n) r)
     where
       abbrev flow-value : FlowValue
@@ -134,7 +137,7 @@ module _ (s : List ℕ) where
           by (NoRecord q) h = tt
           by (Payload p) h =
               let (wb, pr, lr) = partner-placed s _ _ (b .taken) (b .read) r hr (last-read flow-last p h) in
-              let (we, (tb, pb, lb)) = optional-placed s _ _ e b hb wb in
+              let (we, (tb, pb, lb)) = optional-placed s true kindSetSignals _ e b hb wb in
               let (wl, pe, le) = next-placed s _ _ (l .read) e he we in
               let (ws, kl, pl, _) = choice-placed s _ _ _ _ (startAt at) l hl wl in
               (rw (pr, tb, pb, pe, pl, kl) refl, inside (b .taken) refl lr pr (lb le))

@@ -1,30 +1,28 @@
--- The questions of each record refuse with one of document 01's numbers 1 to 7, and no a and b.
-use Prim.Native.Nat.{ℕ, _*_, _≤_}
+-- The questions of each record refuse with one of the numbers 1 to 7 or with 23, and no a and b.
+use Prim.Native.Nat.{ℕ, _*_}
 use mathlib.Core.Path.{_≡_, refl, sym, subst}
-use mathlib.Core.Bool.{Bool, true, false, _&&_}
+use mathlib.Core.Bool.{Bool, true, false, _&&_, _||_}
 use mathlib.Core.List.{List}
-use borrow.Author.Tests.{leb-true}
 use lib.Dec.{eqb, leb}
 use lib.ListN.{length, getD}
 use Rattle.nodes.specs.Options.{isSome}
-use Rattle.nodes.proofs.Logic.{and-out}
+use Rattle.angles.specs.AngleRecord.{angleBytes, anglesAllowed}
 use Rattle.answers.specs.Answer.{Refusal, Answer, refuses, refusal, asks, _>>_}
 use Rattle.answers.proofs.Answer.{never}
 use Rattle.records.specs.Records.{eachAsks}
-use Rattle.records.specs.JobFile.{wholePairs, nodesBelow, rises, pairsRise, allAllowed, openingAllowed, openingAsks, edgesAsks, nodesAsks, measurementsAsks}
+use Rattle.records.specs.JobFile.{wholePairs, nodesBelow, rises, pairsRise, allAllowed, openingAllowed, openingAsks, edgesAsks, nodesAsks, measurementsAsks, anglesAsks}
 use Rattle.records.specs.FlowFile.{entriesOf, listed, allEntries, entryBelow, entriesRise, setsAsks}
+
+abbrev pub isReading : ℕ → Bool
+isReading q = leb 1 q && leb q 7 || eqb q 23
 
 pub record ReadingRefusal (r : Refusal) : Type 0 where
   pub number : ℕ
   pub same : r ≡ refusal number
-  pub from : 1 ≤ number
-  pub to : number ≤ 7
-
-abbrev isReading : ℕ → Bool
-isReading q = leb 1 q && leb q 7
+  pub reading : isReading number ≡ true
 
 pub numbered : (q : ℕ) → isReading q ≡ true → ReadingRefusal (refusal q)
-numbered q h = let (a, b) = and-out (leb 1 q) (leb q 7) h in record { number = q; same = refl; from = leb-true 1 q a; to = leb-true q 7 b }
+numbered q h = record { number = q; same = refl; reading = h }
 
 -- questions with such numbers
 abbrev pub Numbered : Answer Bool → Type 0
@@ -54,6 +52,10 @@ nodes-numbered n l = asked 5 (nodesBelow n l) _ refl (last-asked 6 (rises 0 l) r
 pub measurements-numbered : (n mode : ℕ) (output : ℕ → Bool) (l : List ℕ) → Numbered (measurementsAsks n mode output l)
 unfolding measurementsAsks
 measurements-numbered n mode output l = asked 3 (eqb (length l) n) _ refl (last-asked 7 (allAllowed mode output 0 l) refl)
+
+pub angles-numbered : (n : ℕ) (output : ℕ → Bool) (l : List ℕ) → Numbered (anglesAsks n output l)
+unfolding anglesAsks eachAsks
+angles-numbered n output l = asked 3 (eqb (length l) (angleBytes * n)) _ refl (last-asked 23 (anglesAllowed n output l) refl)
 
 pub each-numbered : (width n : ℕ) (l : List ℕ) → Numbered (eachAsks width n l)
 unfolding eachAsks

@@ -1,7 +1,7 @@
 -- The views of what was read: one record, from what the code found and asked; and a format, record after record.
 use Prim.Native.Nat.{ℕ, _-_, _≤_}
 use mathlib.Core.Path.{_≡_, refl, sym, ap, subst, _∙_}
-use mathlib.Core.Bool.{Bool, true, false, cond, false≢true}
+use mathlib.Core.Bool.{Bool, true, false, cond, _&&_, false≢true}
 use mathlib.Core.Option.{Option, none, some}
 use mathlib.Core.List.{List, []}
 use lib.ListN.{length, drop}
@@ -10,7 +10,7 @@ use Rattle.answers.specs.Refusals.{refusalOf}
 use Rattle.answers.specs.declared.Refusal as Code
 use Rattle.answers.proofs.Answer.{give-inj, never, bind-out}
 use Rattle.records.specs.Records.{carries, Part, allYes, part, checked}
-use Rattle.records.specs.Format.{Front, front, Format, PayloadFormat, plain, recordOf, decodeThen, _then_, someOf, optional, choice}
+use Rattle.records.specs.Format.{Front, front, Format, PayloadFormat, plain, recordOf, decodeThen, _then_, someOf, optional, optionalIf, choice}
 use Rattle.records.specs.Views.{bytesAt, payloadFrom, checkedOf, partAt, recordOfRead, RecordAt, restOf, placeOf, payloadOf, Next, startAt, someIf, optionalOfRead, optionalBehind, OptionalAt, NextOptional, Partner, pairIf, marked, choiceOfRead, choiceBehind, NextChoice}
 use Rattle.records.specs.declared.common.Place.{Place}
 use Rattle.records.specs.declared.questions.Checked.{Checked}
@@ -83,12 +83,12 @@ module _ (s : List ℕ) where
       part (Payload x) = refl
       part (NoRecord q) = refl
 
-  pub optional-took : (kind : ℕ) (questions : List ℕ → Answer Bool) (read : RecordRead) (b : Branch) → NextOptional s read kind questions b
-      → Took (optional kind (recordOf kind (plain questions))) (restOf s read) (someIf (b .taken) (payloadOf s (b .read))) (restOf s (b .read))
-  optional-took kind questions read b (e, l) = record { took = e }
+  pub optional-took : (here : Bool) (kind : ℕ) (questions : List ℕ → Answer Bool) (read : RecordRead) (b : Branch) → NextOptional s here read kind questions b
+      → Took (optionalIf here kind (recordOf kind (plain questions))) (restOf s read) (someIf (b .taken) (payloadOf s (b .read))) (restOf s (b .read))
+  optional-took here kind questions read b (e, l) = record { took = e }
 
   -- two records, both or neither
-  pub pair-took : (kind other : ℕ) (questions more : List ℕ → Answer Bool) (read : RecordRead) (b : Branch) (r : RecordRead) → NextOptional s read kind questions b → Partner s (b .taken) (b .read) other more r
+  pub pair-took : (kind other : ℕ) (questions more : List ℕ → Answer Bool) (read : RecordRead) (b : Branch) (r : RecordRead) → NextOptional s true read kind questions b → Partner s (b .taken) (b .read) other more r
       → Took (optional kind (recordOf kind (plain questions) then λ p. recordOf other (plain more))) (restOf s read) (pairIf (b .taken) (payloadOf s (b .read)) (payloadOf s r)) (restOf s r)
   unfolding decodeThen
   pair-took kind other questions more read b r (e, l) h = record {
@@ -188,10 +188,10 @@ module _ (s : List ℕ) where
       by read (NoRecord q) e l w = absurd (never (ap (recordOfRead s) w))
 
   -- an optional record lies there, or an empty place does
-  pub optional-placed : (kind : ℕ) (questions : List ℕ → Answer Bool) (read : RecordRead) (b : Branch) → NextOptional s read kind questions b → WasRead (b .read)
-      → WasRead read × OptionalAt s kind (placeOf read .end) (b .taken) (Payload (placeOf (b .read)))
-  optional-placed kind questions read b h w =
-      (took-read read (b .read) (optional-took kind questions read b h) w, subst (OptionalAt s kind (placeOf read .end) (b .taken)) w (h .1))
+  pub optional-placed : (here : Bool) (kind : ℕ) (questions : List ℕ → Answer Bool) (read : RecordRead) (b : Branch) → NextOptional s here read kind questions b → WasRead (b .read)
+      → WasRead read × OptionalAt s (here && carries kind (drop (placeOf read .end) s)) (placeOf read .end) (b .taken) (Payload (placeOf (b .read)))
+  optional-placed here kind questions read b h w =
+      (took-read read (b .read) (optional-took here kind questions read b h) w, subst (OptionalAt s (here && carries kind (drop (placeOf read .end) s)) (placeOf read .end) (b .taken)) w (h .1))
 
   -- so does the one behind it, where both are there
   pub partner-placed : (kind : ℕ) (questions : List ℕ → Answer Bool) (there : Bool) (read r : RecordRead) → Partner s there read kind questions r → WasRead r
@@ -200,27 +200,27 @@ module _ (s : List ℕ) where
   partner-placed kind questions false read r h w = (sym h ∙ w ∙ ap (λ (x : RecordRead). Payload (placeOf x)) h, ap placeOf h, λ e. absurd (false≢true e))
 
   -- ---- an optional record and one of two kinds, from what the code tests
-  pub there-placed : (kind at : ℕ) (r : RecordRead) → carries kind (drop at s) ≡ true → RecordAt s at r → OptionalAt s kind at true r
-  there-placed kind at (Payload p) c (e, l) = (sym c, rw c e, λ h. l)
-  there-placed kind at (NoRecord q) c h = tt
+  pub there-placed : (there : Bool) (at : ℕ) (r : RecordRead) → there ≡ true → RecordAt s at r → OptionalAt s there at true r
+  there-placed there at (Payload p) c (e, l) = (sym c, rw c e, λ h. l)
+  there-placed there at (NoRecord q) c h = tt
 
-  pub absent-placed : (kind at : ℕ) → carries kind (drop at s) ≡ false → OptionalAt s kind at false (startAt at)
-  absent-placed kind at c = (sym c, rw c refl, λ h. h)
+  pub absent-placed : (there : Bool) (at : ℕ) → there ≡ false → OptionalAt s there at false (startAt at)
+  absent-placed there at c = (sym c, rw c refl, λ h. h)
 
   module _ (read : RecordRead) (kind : ℕ) (questions : List ℕ → Answer Bool) where
-    pub optional-there : (p : Place) (r : RecordRead) → read ≡ Payload p → carries kind (drop (p .end) s) ≡ true → recordOfRead s r ≡ checked kind questions (drop (p .end) s)
-        → optionalOfRead s (record { taken = true; read = r }) ≡ optionalBehind s read kind questions
-    optional-there p r h c e = rw (h, c, ← e) (by r)
+    pub optional-there : (here : Bool) (p : Place) (r : RecordRead) → read ≡ Payload p → here && carries kind (drop (p .end) s) ≡ true → recordOfRead s r ≡ checked kind questions (drop (p .end) s)
+        → optionalOfRead s (record { taken = true; read = r }) ≡ optionalBehind s here read kind questions
+    optional-there here p r h c e = rw (h, c, ← e) (by r)
       where
         by : (r : RecordRead) → optionalOfRead s (record { taken = true; read = r }) ≡ (recordOfRead s r >>= (λ q. gives (front (q .payload) (q .rest))) >>= λ q. gives (front (some (q .value)) (q .rest)))
         by (Payload x) = refl
         by (NoRecord q) = refl
 
-    pub optional-absent : (p : Place) → read ≡ Payload p → carries kind (drop (p .end) s) ≡ false → optionalOfRead s (record { taken = false; read = startAt (p .end) }) ≡ optionalBehind s read kind questions
-    optional-absent p h c = rw (h, c) refl
+    pub optional-absent : (here : Bool) (p : Place) → read ≡ Payload p → here && carries kind (drop (p .end) s) ≡ false → optionalOfRead s (record { taken = false; read = startAt (p .end) }) ≡ optionalBehind s here read kind questions
+    optional-absent here p h c = rw (h, c) refl
 
-    pub optional-refused : (q : Code.Refusal) → read ≡ NoRecord q → optionalOfRead s (record { taken = false; read = NoRecord q }) ≡ optionalBehind s read kind questions
-    optional-refused q h = rw h refl
+    pub optional-refused : (here : Bool) (q : Code.Refusal) → read ≡ NoRecord q → optionalOfRead s (record { taken = false; read = NoRecord q }) ≡ optionalBehind s here read kind questions
+    optional-refused here q h = rw h refl
 
     module _ (second : ℕ) (others : List ℕ → Answer Bool) where
       chosen : (b : Bool) (r : RecordRead) → choiceOfRead s (record { taken = b; read = r }) ≡ (recordOfRead s r >>= marked b)

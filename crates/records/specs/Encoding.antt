@@ -10,7 +10,8 @@ use Rattle.nodes.specs.Row.{members}
 use Rattle.flows.specs.Job.{Job}
 use Rattle.flows.specs.Search.{Progress}
 use Rattle.nodes.specs.Lists.{has, listOf, all}
-use Rattle.records.specs.JobFile.{JobFile, mostNodes, modeCausal, modePauli, nodesBelow, rises, pairsRise, allAllowed, job, jobValue}
+use Rattle.angles.specs.AngleRecord.{angleBytes, anglesAllowed}
+use Rattle.records.specs.JobFile.{JobFile, mostNodes, modeCausal, modePlanes, modePauli, nodesBelow, rises, pairsRise, allAllowed, job, jobValue}
 use Rattle.records.specs.FlowFile.{SetEntry, Signals, FlowFile, allEntries, entryBelow, entriesRise, flow, flowValue}
 use Rattle.records.specs.BitRows.{rowWidth}
 
@@ -18,10 +19,20 @@ use Rattle.records.specs.BitRows.{rowWidth}
 abbrev pub Bytes : List ℕ → Type 0
 Bytes s = all (λ b. ltb b 256) s ≡ true
 
+-- angles of bytes, where there are any; every other list of a job is bytes by its questions
+abbrev pub AngleBytes : Option (List ℕ) → Type 0
+AngleBytes none = Unit
+AngleBytes (some p) = Bytes p
+
 -- ---- jobs
--- the five records in order
+-- the records in order
 abbrev pub jobBytes : JobFile → List ℕ
 jobBytes f = job .encode (jobValue f)
+
+-- angles stand in mode 2 alone, one for each node, and the entry of each is allowed
+abbrev pub AnglesFit : (n mode : ℕ) (output : ℕ → Bool) → Option (List ℕ) → Type 0
+AnglesFit n mode output none = Unit
+AnglesFit n mode output (some p) = (mode ≡ modePlanes) × (length p ≡ angleBytes * n) × (anglesAllowed n output p ≡ true)
 
 -- what reading has asked, as facts
 pub record ValidJob (f : JobFile) : Type 0 where
@@ -37,6 +48,7 @@ pub record ValidJob (f : JobFile) : Type 0 where
   pub outputsRise : rises 0 (f .outputs) ≡ true
   pub count : length (f .measurements) ≡ f .n
   pub allowed : allAllowed (f .mode) (has (f .outputs)) 0 (f .measurements) ≡ true
+  pub angles : AnglesFit (f .n) (f .mode) (has (f .outputs)) (f .angles)
 
 -- ---- flows
 -- the records in order, with a layer for each node

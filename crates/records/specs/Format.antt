@@ -56,30 +56,33 @@ f then g = record {
   decode = decodeThen (f .decode) (λ a. g a .decode);
 }
 
--- ---- an optional format is there where the next six bytes carry its first kind
+-- ---- an optional format is there where the next six bytes carry its first kind; where it has no place it is not looked for
 abbrev pub someOf : {A : Type 0} → Answer (Front A) → Answer (Front (Option A))
 someOf m = m >>= λ p. gives (front (some (p .value)) (p .rest))
 
-abbrev pub optionalValid : {A : Type 0} → Format A → Option A → Bool
-optionalValid f none = true
-optionalValid f (some a) = f .valid a
+abbrev pub optionalValid : {A : Type 0} → (here : Bool) → Format A → Option A → Bool
+optionalValid here f none = true
+optionalValid here f (some a) = here && f .valid a
 
 abbrev pub optionalEncode : {A : Type 0} → Format A → Option A → List ℕ
 optionalEncode f none = []
 optionalEncode f (some a) = f .encode a
 
 -- what carries its kind may not stand where it is left out
-abbrev pub optionalMayFollow : {A : Type 0} → ℕ → Format A → Option A → List ℕ → Bool
-optionalMayFollow kind f none t = not (carries kind t)
-optionalMayFollow kind f (some a) t = f .mayFollow a t
+abbrev pub optionalMayFollow : {A : Type 0} → (here : Bool) → ℕ → Format A → Option A → List ℕ → Bool
+optionalMayFollow here kind f none t = not (here && carries kind t)
+optionalMayFollow here kind f (some a) t = f .mayFollow a t
+
+abbrev pub optionalIf : {A : Type 0} → (here : Bool) → ℕ → Format A → Format (Option A)
+optionalIf here kind f = record {
+  valid = optionalValid here f;
+  encode = optionalEncode f;
+  mayFollow = optionalMayFollow here kind f;
+  decode = λ s. cond (here && carries kind s) (someOf (f .decode s)) (gives (front none s));
+}
 
 abbrev pub optional : {A : Type 0} → ℕ → Format A → Format (Option A)
-optional kind f = record {
-  valid = optionalValid f;
-  encode = optionalEncode f;
-  mayFollow = optionalMayFollow kind f;
-  decode = λ s. cond (carries kind s) (someOf (f .decode s)) (gives (front none s));
-}
+optional = optionalIf true
 
 -- ---- two kinds in one place: the second where the next six bytes carry its kind; `second` tells which one a value has
 abbrev pub choice : {A : Type 0} → (A → Bool) → Format A → ℕ → Format A → Format A

@@ -1,15 +1,17 @@
--- Reading a job: five records in order, each once, with questions 1 to 7.
+-- Reading a job: five records in order, each once, and in mode 2 the angles where they stand, with questions 1 to 7 and 23.
 use Prim.Native.Nat.{ℕ, _+_, _*_, _%_}
 use mathlib.Core.Bool.{Bool, true, false, cond, _&&_, _||_}
+use mathlib.Core.Option.{Option, none, some}
 use mathlib.Core.List.{List, [], _∷_}
 use lib.Dec.{eqb, ltb, leb}
 use lib.ListN.{length, getD}
 use Rattle.nodes.specs.NodeSet.{capacity}
 use Rattle.nodes.specs.Lists.{has, all}
 use Rattle.flows.specs.Job.{Job, planeXY, planeXZ, pauliZ}
+use Rattle.angles.specs.AngleRecord.{angleBytes, anglesAllowed, inferredBytes}
 use Rattle.answers.specs.Answer.{Answer, gives, asks, _>>=_, _>>_}
-use Rattle.records.specs.Format.{Front, Format, PayloadFormat, plain, recordOf, _then_}
-use Rattle.records.specs.Records.{kindOpening, kindEdges, kindInputs, kindOutputs, kindMeasurements}
+use Rattle.records.specs.Format.{Front, Format, PayloadFormat, plain, recordOf, _then_, optionalIf}
+use Rattle.records.specs.Records.{kindOpening, kindEdges, kindInputs, kindOutputs, kindMeasurements, kindAngles, eachAsks}
 
 -- the most nodes a job may have: as many as a set can have
 abbrev pub mostNodes : ℕ
@@ -61,7 +63,7 @@ abbrev pub openingAllowed : (n mode : ℕ) → Bool
 openingAllowed n mode = leb n mostNodes && leb modeCausal mode && leb mode modePauli
 
 -- ---- the questions of each record: does the length suit (3), are n and mode allowed (4), is each node below n (5), is the
--- order strict (6), is each measurement byte allowed (7)
+-- order strict (6), is each measurement byte allowed (7), is each angle (23)
 unfoldable pub openingAsks : List ℕ → Answer Bool
 openingAsks p = do
   asks 3 (eqb (length p) 2)
@@ -83,7 +85,12 @@ measurementsAsks n mode output p = do
   asks 3 (eqb (length p) n)
   asks 7 (allAllowed mode output 0 p)
 
--- what the five records hold, and the bytes behind them
+unfoldable pub anglesAsks : ℕ → (ℕ → Bool) → List ℕ → Answer Bool
+anglesAsks n output p = do
+  eachAsks angleBytes n p
+  asks 23 (anglesAllowed n output p)
+
+-- what the records hold, the angles where they stand, and the bytes behind them
 pub record JobFile : Type 0 where
   pub n : ℕ
   pub mode : ℕ
@@ -91,9 +98,10 @@ pub record JobFile : Type 0 where
   pub inputs : List ℕ
   pub outputs : List ℕ
   pub measurements : List ℕ
+  pub angles : Option (List ℕ)
   pub after : List ℕ
 
--- ---- a job: five records in order, each once
+-- ---- a job: five records in order, each once, and behind them, in mode 2 alone, perhaps the angles
 pub record Opening : Type 0 where
   pub n : ℕ
   pub mode : ℕ
@@ -107,7 +115,15 @@ opening = record {
 }
 
 abbrev pub JobValue : Type 0
-JobValue = Opening × (List ℕ × (List ℕ × (List ℕ × List ℕ)))
+JobValue = Opening × (List ℕ × (List ℕ × (List ℕ × (List ℕ × Option (List ℕ)))))
+
+-- angles go with planes
+abbrev pub hasAngles : ℕ → Bool
+hasAngles mode = eqb mode modePlanes
+
+-- where the next six bytes carry their kind they are there, be they none (n = 0)
+abbrev pub angles : (n mode : ℕ) → (ℕ → Bool) → Format (Option (List ℕ))
+angles n mode output = optionalIf (hasAngles mode) kindAngles (recordOf kindAngles (plain (anglesAsks n output)))
 
 abbrev pub job : Format JobValue
 job =
@@ -115,7 +131,8 @@ job =
     recordOf kindEdges (plain (edgesAsks (o .n))) then λ edges.
     recordOf kindInputs (plain (nodesAsks (o .n))) then λ inputs.
     recordOf kindOutputs (plain (nodesAsks (o .n))) then λ outputs.
-    recordOf kindMeasurements (plain (measurementsAsks (o .n) (o .mode) (has outputs)))
+    recordOf kindMeasurements (plain (measurementsAsks (o .n) (o .mode) (has outputs))) then λ measurements.
+    angles (o .n) (o .mode) (has outputs)
 
 abbrev pub jobFile : Front JobValue → JobFile
 jobFile p = record {
@@ -124,12 +141,13 @@ jobFile p = record {
   edges = p .value .1 .0;
   inputs = p .value .1 .1 .0;
   outputs = p .value .1 .1 .1 .0;
-  measurements = p .value .1 .1 .1 .1;
+  measurements = p .value .1 .1 .1 .1 .0;
+  angles = p .value .1 .1 .1 .1 .1;
   after = p .rest;
 }
 
 abbrev pub jobValue : JobFile → JobValue
-jobValue f = (record { n = f .n; mode = f .mode }, (f .edges, (f .inputs, (f .outputs, f .measurements))))
+jobValue f = (record { n = f .n; mode = f .mode }, (f .edges, (f .inputs, (f .outputs, (f .measurements, f .angles)))))
 
 unfoldable pub readJob : List ℕ → Answer JobFile
 readJob s = job .decode s >>= λ p. gives (jobFile p)
@@ -140,13 +158,17 @@ hasEdge [] u v = false
 hasEdge (a ∷ []) u v = false
 hasEdge (a ∷ b ∷ l) u v = eqb a u && eqb b v || eqb a v && eqb b u || hasEdge l u v
 
--- the mode and the measurements to work with: today those of the file
+-- the mode and the measurements to work with: those of the file, and with angles, whatever they are, mode 3 and what they infer
 pub record Working : Type 0 where
   pub mode : ℕ
   pub measurements : List ℕ
 
+abbrev pub working : (mode : ℕ) (measurements : List ℕ) → Option (List ℕ) → Working
+working mode measurements none = record { mode = mode; measurements = measurements }
+working mode measurements (some p) = record { mode = modePauli; measurements = inferredBytes measurements p }
+
 abbrev pub workingOf : JobFile → Working
-workingOf f = record { mode = f .mode; measurements = f .measurements }
+workingOf f = working (f .mode) (f .measurements) (f .angles)
 
 abbrev pub jobOf : JobFile → Job
 jobOf f = record {

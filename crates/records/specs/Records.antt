@@ -45,6 +45,9 @@ kindSetSignals = 0x0022
 abbrev pub kindOddSignals : ℕ
 kindOddSignals = 0x0023
 
+abbrev pub kindAngles : ℕ
+kindAngles = 0x0024
+
 -- the bytes of length and kind
 abbrev pub headBytes : ℕ
 headBytes = 6

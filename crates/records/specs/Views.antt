@@ -1,7 +1,7 @@
 -- What the code's answers say of the file it was given: the code answers places, the definitions speak of bytes.
 use Prim.Native.Nat.{ℕ, _+_, _-_, _≤_}
 use mathlib.Core.Path.{_≡_}
-use mathlib.Core.Bool.{Bool, true, false, cond}
+use mathlib.Core.Bool.{Bool, true, false, cond, _&&_}
 use mathlib.Core.Option.{Option, none, some}
 use mathlib.Core.List.{List, _++_}
 use lib.ListN.{length, getD, take, drop}
@@ -9,9 +9,9 @@ use Rattle.nodes.specs.Row.{count}
 use Rattle.nodes.specs.Lists.{has}
 use Rattle.answers.specs.Answer.{Answer, gives, refuses, _>>=_}
 use Rattle.answers.specs.Refusals.{refusalOf}
-use Rattle.records.specs.Records.{carries, lengthField, Part, allYes, checked, headBytes, eachAsks, kindWideLayers, kindSetSignals}
-use Rattle.records.specs.Format.{Front, front, plain, recordOf, optional}
-use Rattle.records.specs.JobFile.{JobFile, mostNodes, nodesBelow, openingAsks, edgesAsks, nodesAsks, measurementsAsks}
+use Rattle.records.specs.Records.{carries, lengthField, Part, allYes, checked, headBytes, eachAsks, kindWideLayers, kindSetSignals, kindAngles}
+use Rattle.records.specs.Format.{Front, front, plain, recordOf, optionalIf}
+use Rattle.records.specs.JobFile.{JobFile, mostNodes, nodesBelow, openingAsks, edgesAsks, nodesAsks, measurementsAsks, anglesAsks, hasAngles}
 use Rattle.records.specs.FlowFile.{FlowFile, layerNumbers, entriesOf, listed, setsAsks}
 use Rattle.records.specs.declared.common.Place.{Place}
 use Rattle.records.specs.declared.common.JobPlaces.{JobPlaces}
@@ -23,7 +23,7 @@ use Rattle.records.specs.declared.common.FlowRead.the-variants.{Flow, Re
 use Rattle.records.specs.declared.questions.Checked.{Checked}
 use Rattle.records.specs.declared.questions.Checked.the-variants.{Passed, Refused as NotPassed}
 use Rattle.records.specs.declared.questions.Questions.{Questions}
-use Rattle.records.specs.declared.questions.Questions.the-variants.{Opening, Edges, Nodes, Measurements, Each, Sets}
+use Rattle.records.specs.declared.questions.Questions.the-variants.{Opening, Edges, Nodes, Measurements, Angles, Each, Sets}
 use Rattle.records.specs.declared.reader.RecordRead.{RecordRead}
 use Rattle.records.specs.declared.reader.RecordRead.the-variants.{Payload, Refused as NoRecord}
 use Rattle.records.specs.declared.reader.Branch.{Branch}
@@ -57,15 +57,20 @@ asksOf s Opening = openingAsks
 asksOf s (Edges n) = edgesAsks n
 asksOf s (Nodes n) = nodesAsks n
 asksOf s (Measurements n mode outputs) = measurementsAsks n mode (has (bytesAt outputs s))
+asksOf s (Angles n outputs) = anglesAsks n (has (bytesAt outputs s))
 asksOf s (Each width n) = eachAsks width n
 asksOf s (Sets n) = setsAsks n
 
--- what has been asked before: the measurements come after the outputs
+-- what has been asked before: the measurements and the angles come after the outputs
+abbrev pub OutputsAsked : List ℕ → (n : ℕ) → Place → Type 0
+OutputsAsked s n outputs = (n ≤ mostNodes) × (allYes (nodesAsks n (bytesAt outputs s)) ≡ true)
+
 abbrev pub Granted : List ℕ → Questions → Type 0
 Granted s Opening = Unit
 Granted s (Edges n) = Unit
 Granted s (Nodes n) = Unit
-Granted s (Measurements n mode outputs) = (n ≤ mostNodes) × (allYes (nodesAsks n (bytesAt outputs s)) ≡ true)
+Granted s (Measurements n mode outputs) = OutputsAsked s n outputs
+Granted s (Angles n outputs) = OutputsAsked s n outputs
 Granted s (Each width n) = Unit
 Granted s (Sets n) = Unit
 
@@ -111,7 +116,7 @@ payloadOf s r = bytesAt (placeOf r) s
 abbrev pub Next : List ℕ → RecordRead → ℕ → (List ℕ → Answer Bool) → RecordRead → Type 0
 Next s read kind questions r = (recordOfRead s r ≡ recordBehind s read kind questions) × RecordAt s (placeOf read .end) r
 
--- ---- a record that may be there
+-- ---- a record that may be there, where it has a place
 abbrev pub someIf : Bool → List ℕ → Option (List ℕ)
 someIf true p = some p
 someIf false p = none
@@ -119,19 +124,20 @@ someIf false p = none
 abbrev pub optionalOfRead : List ℕ → Branch → Answer (Front (Option (List ℕ)))
 optionalOfRead s b = restOf s (b .read) >>= λ t. gives (front (someIf (b .taken) (payloadOf s (b .read))) t)
 
-abbrev pub optionalBehind : List ℕ → RecordRead → ℕ → (List ℕ → Answer Bool) → Answer (Front (Option (List ℕ)))
-optionalBehind s read kind questions = restOf s read >>= optional kind (recordOf kind (plain questions)) .decode
+abbrev pub optionalBehind : List ℕ → (here : Bool) → RecordRead → ℕ → (List ℕ → Answer Bool) → Answer (Front (Option (List ℕ)))
+optionalBehind s here read kind questions = restOf s read >>= optionalIf here kind (recordOf kind (plain questions)) .decode
 
 -- its place: that of a record, or an empty one where it would start
-abbrev pub optionalFrom : List ℕ → (kind at : ℕ) → Place
-optionalFrom s kind at = cond (carries kind (drop at s)) (payloadFrom s at) (record { start = at; end = at })
+abbrev pub optionalFrom : List ℕ → (there : Bool) (at : ℕ) → Place
+optionalFrom s there at = cond there (payloadFrom s at) (record { start = at; end = at })
 
-abbrev pub OptionalAt : List ℕ → (kind at : ℕ) → Bool → RecordRead → Type 0
-OptionalAt s kind at taken (Payload p) = (taken ≡ carries kind (drop at s)) × (p ≡ optionalFrom s kind at) × (at ≤ length s → p .end ≤ length s)
-OptionalAt s kind at taken (NoRecord q) = Unit
+abbrev pub OptionalAt : List ℕ → (there : Bool) (at : ℕ) → Bool → RecordRead → Type 0
+OptionalAt s there at taken (Payload p) = (taken ≡ there) × (p ≡ optionalFrom s there at) × (at ≤ length s → p .end ≤ length s)
+OptionalAt s there at taken (NoRecord q) = Unit
 
-abbrev pub NextOptional : List ℕ → RecordRead → ℕ → (List ℕ → Answer Bool) → Branch → Type 0
-NextOptional s read kind questions b = (optionalOfRead s b ≡ optionalBehind s read kind questions) × OptionalAt s kind (placeOf read .end) (b .taken) (b .read)
+abbrev pub NextOptional : List ℕ → (here : Bool) → RecordRead → ℕ → (List ℕ → Answer Bool) → Branch → Type 0
+NextOptional s here read kind questions b =
+    (optionalOfRead s b ≡ optionalBehind s here read kind questions) × OptionalAt s (here && carries kind (drop (placeOf read .end) s)) (placeOf read .end) (b .taken) (b .read)
 
 -- ---- a record that is there just where an optional one is, behind it
 abbrev pub Partner : List ℕ → (there : Bool) (read : RecordRead) → ℕ → (List ℕ → Answer Bool) → RecordRead → Type 0
@@ -166,6 +172,7 @@ jobAt s p = record {
   inputs = bytesAt (p .inputs) s;
   outputs = bytesAt (p .outputs) s;
   measurements = bytesAt (p .measurements) s;
+  angles = someIf (p .angled) (bytesAt (p .angles) s);
   after = drop (p .end) s;
 }
 
@@ -182,18 +189,23 @@ jobRead (NoRecord q) places = NoJob q
 abbrev pub jobPlaces : List ℕ → JobPlaces
 jobPlaces s =
     let opening = payloadFrom s 0 in
+    let mode = getD (bytesAt opening s) 1 0 in
     let edges = payloadFrom s (opening .end) in
     let inputs = payloadFrom s (edges .end) in
     let outputs = payloadFrom s (inputs .end) in
     let measurements = payloadFrom s (outputs .end) in
+    let there = hasAngles mode && carries kindAngles (drop (measurements .end) s) in
+    let angles = optionalFrom s there (measurements .end) in
     record {
       n = getD (bytesAt opening s) 0 0;
-      mode = getD (bytesAt opening s) 1 0;
+      mode = mode;
       edges = edges;
       inputs = inputs;
       outputs = outputs;
       measurements = measurements;
-      end = measurements .end;
+      angled = there;
+      angles = angles;
+      end = angles .end;
     }
 
 -- a job that was read lies at these places, in the file
@@ -225,7 +237,7 @@ flowPlaces s at =
     let layers = payloadFrom s at in
     let sets = payloadFrom s (layers .end) in
     let there = carries kindSetSignals (drop (sets .end) s) in
-    let first = optionalFrom s kindSetSignals (sets .end) in
+    let first = optionalFrom s there (sets .end) in
     let second = cond there (payloadFrom s (first .end)) first in
     record {
       wide = carries kindWideLayers (drop at s);

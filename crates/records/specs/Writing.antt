@@ -1,11 +1,12 @@
--- What the finder writes for what its search found, and signal lists as they are written.
-use Prim.Native.Nat.{ℕ, _+_, _*_}
+-- What the finder writes for what its search found, signal lists and angles as they are written, and how long files are at most.
+use Prim.Native.Nat.{ℕ, _+_, _-_, _*_}
 use mathlib.Core.Bool.{Bool, true}
 use mathlib.Core.Option.{Option, none, some}
 use mathlib.Core.List.{List, [], _++_}
 use Rattle.flows.specs.Job.{Job}
 use Rattle.flows.specs.Search.{Progress}
-use Rattle.records.specs.Records.{headBytes, written, kindNoFlow, kindSetSignals, kindOddSignals}
+use Rattle.angles.specs.AngleRecord.{angleBytes}
+use Rattle.records.specs.Records.{headBytes, written, kindNoFlow, kindSetSignals, kindOddSignals, kindAngles}
 use Rattle.records.specs.JobFile.{mostNodes}
 use Rattle.records.specs.FlowFile.{layerWidth, entryBytes, Signals}
 use Rattle.records.specs.BitRows.{rowWidth}
@@ -36,3 +37,12 @@ signalBytes (some l) = written kindSetSignals (l .0) ++ written kindOddSignals (
 -- no flow file is longer, its signal lists included
 abbrev pub mostFlow : ℕ
 mostFlow = mostOutput + 2 * (headBytes + rowWidth mostNodes * mostNodes)
+
+-- the record of angles, where there is one
+abbrev pub angleRecord : Option (List ℕ) → List ℕ
+angleRecord none = []
+angleRecord (some p) = written kindAngles p
+
+-- no job file is longer: the heads of six records, n and mode, an edge for each pair of nodes, a byte for each node in three lists, and its angle
+abbrev pub mostJob : ℕ
+mostJob = 6 * headBytes + 2 + mostNodes * (mostNodes - 1) + 3 * mostNodes + angleBytes * mostNodes

@@ -44,6 +44,8 @@ pub(crate) const KIND_SET_SIGNALS: u16 = 0x0022;
 
 pub(crate) const KIND_ODD_SIGNALS: u16 = 0x0023;
 
+pub const KIND_ANGLES: u16 = 0x0024;
+
 // As many nodes as a set can have.
 pub const MOST_NODES: usize = CAPACITY;
 
@@ -59,7 +61,7 @@ pub struct Place {
     pub end: usize,
 }
 
-// Where the payloads of a job lie, and where it ends.
+// Where the payloads of a job lie, whether the angles are there, and where it ends.
 pub struct JobPlaces {
     pub n: usize,
     pub mode: u8,
@@ -67,6 +69,8 @@ pub struct JobPlaces {
     pub inputs: Place,
     pub outputs: Place,
     pub measurements: Place,
+    pub angled: bool,
+    pub angles: Place,
     pub end: usize,
 }
 

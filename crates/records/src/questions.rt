@@ -1,4 +1,4 @@
-// Questions 3 to 7 of document 01, and 9, each of a whole payload; and those of each record in order.
+// Questions 3 to 7, 9 and 23, each of a whole payload; and those of each record in order.
 ghost use mathlib.Core.Path.{_≡_};
 ghost use mathlib.Core.Bool.{true};
 ghost use Prim.Native.Nat.{_*_, _%_, _≤_};
@@ -6,9 +6,10 @@ ghost use lib.Dec.{eqb, ltb};
 ghost use lib.ListN.{length, getD};
 ghost use Rattle.nodes.specs.Options.{isSome};
 ghost use Rattle.nodes.specs.Lists.{has, all};
+ghost use Rattle.nodes.specs.NodeSet.{member};
 ghost use Rattle.nodes.specs.Row.{count};
 ghost use Rattle.records.specs.Records.{eachAsks};
-ghost use Rattle.records.specs.JobFile.{mostNodes, rises, pairsRise, highestOf, allAllowed, openingAllowed, openingAsks, edgesAsks, nodesAsks, measurementsAsks};
+ghost use Rattle.records.specs.JobFile.{mostNodes, rises, pairsRise, highestOf, allAllowed, openingAllowed, openingAsks, edgesAsks, nodesAsks, measurementsAsks, anglesAsks};
 ghost use Rattle.records.specs.FlowFile.{entriesOf, listed, allEntries, entryBelow, entriesRise, setsAsks, entryAsks};
 ghost use Rattle.records.specs.Views.{checkedOf, asksOf, Outputs, Granted};
 use crate::common::ENTRY_HEAD_BYTES;
@@ -19,10 +20,14 @@ use crate::common::MOST_NODES;
 use crate::common::Place;
 use crate::common::number;
 use crate::common::payload;
+use crate::reader::set_of;
+use angles::ANGLE_BYTES;
+use angles::angles_allowed;
 use answers::Refusal;
 use flows::PAULI_Z;
 use flows::PLANE_XY;
 use flows::PLANE_XZ;
+use nodes::utils::NodeSet;
 
 // What the questions of a payload or of lists answer.
 pub enum Checked {
@@ -37,6 +42,7 @@ pub(crate) enum Questions {
     Edges(usize),
     Nodes(usize),
     Measurements(usize, u8, Place),
+    Angles(usize, Place),
     Each(usize, usize),
     Sets(usize),
 }
@@ -349,6 +355,19 @@ fn ask_each(bytes: &[u8], width: usize, n: usize) -> Checked
     Checked::Passed
 }
 
+// The entry of an output is asked for otherwise than that of a measured node.
+pub(crate) fn ask_angles(angles: &[u8], n: usize, outputs: NodeSet) -> Checked
+    ensures { λ r. ⌜ checkedOf r ≡ anglesAsks n (member outputs) (now (angles .entry)) ⌝ }
+{
+    if !length_is(angles.len(), ANGLE_BYTES, n) {
+        return Checked::Refused(Refusal::WRONG_LENGTH);
+    }
+    if !angles_allowed(n, outputs, angles) {
+        return Checked::Refused(Refusal::WRONG_ANGLE);
+    }
+    Checked::Passed
+}
+
 fn ask_sets(sets: &[u8], n: usize) -> Checked
     ensures { λ r. ⌜ checkedOf r ≡ setsAsks n (now (sets .entry)) ⌝ }
 {
@@ -377,7 +396,7 @@ pub fn ask_entry(entry: &[u8], n: usize) -> Checked
     ask_sets(entry, n)
 }
 
-// The questions of a payload of the file; those of the measurements are asked after those of the outputs.
+// The questions of a payload of the file; those of measurements and angles are asked after those of the outputs.
 pub(crate) fn ask(file: &[u8], questions: Questions, bytes: &[u8]) -> Checked
     requires { ⌜ Granted (now file) questions ⌝ }
     ensures { λ r. ⌜ checkedOf r ≡ asksOf (now (file .entry)) questions (now (bytes .entry)) ⌝ }
@@ -390,6 +409,7 @@ pub(crate) fn ask(file: &[u8], questions: Questions, bytes: &[u8]) -> Checked
             let listed = payload(file, outputs);
             ask_measurements(bytes, n, mode, listed, listed.len())
         }
+        Questions::Angles(n, outputs) => ask_angles(bytes, n, set_of(payload(file, outputs))),
         Questions::Each(width, n) => ask_each(bytes, width, n),
         Questions::Sets(n) => ask_sets(bytes, n),
     }

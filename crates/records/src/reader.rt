@@ -15,6 +15,7 @@ use crate::common::FlowRead;
 use crate::common::HEAD_BYTES;
 use crate::common::JobPlaces;
 use crate::common::JobRead;
+use crate::common::KIND_ANGLES;
 use crate::common::KIND_EDGES;
 use crate::common::KIND_INPUTS;
 use crate::common::KIND_LAYERS;
@@ -25,6 +26,7 @@ use crate::common::KIND_OUTPUTS;
 use crate::common::KIND_SET_SIGNALS;
 use crate::common::KIND_SETS;
 use crate::common::KIND_WIDE_LAYERS;
+use crate::common::MODE_PLANES;
 use crate::common::Place;
 use crate::common::WIDE_LAYER_BYTES;
 use crate::common::byte_at;
@@ -143,16 +145,26 @@ fn next(file: &[u8], read: RecordRead, kind: u16, questions: Questions) -> Recor
     }
 }
 
-// The record behind the one that was read, where it is there; else the place where it would be.
-fn optional(file: &[u8], read: RecordRead, kind: u16, questions: Questions) -> Branch
+// Is the record looked for, and is it there?
+fn found(file: &[u8], here: bool, at: usize, kind: u16) -> bool
+    ensures { λ r. ⌜ r ≡ (here && carries kind (drop at (now (file .entry)))) ⌝ }
+{
+    if here {
+        return carried(file, at, kind);
+    }
+    false
+}
+
+// The record behind the one that was read, where it has a place here and is there; else the place where it would be.
+fn optional(file: &[u8], here: bool, read: RecordRead, kind: u16, questions: Questions) -> Branch
     requires { ⌜ Granted (now file) questions ⌝ }
-    ensures { λ r. ⌜ optionalOfRead (now (file .entry)) r ≡ optionalBehind (now (file .entry)) read kind (asksOf (now (file .entry)) questions) ⌝ }
-    ensures { λ r. ⌜ OptionalAt (now (file .entry)) kind (placeOf read .end) (r .taken) (r .read) ⌝ }
+    ensures { λ r. ⌜ optionalOfRead (now (file .entry)) r ≡ optionalBehind (now (file .entry)) here read kind (asksOf (now (file .entry)) questions) ⌝ }
+    ensures { λ r. ⌜ OptionalAt (now (file .entry)) (here && carries kind (drop (placeOf read .end) (now (file .entry)))) (placeOf read .end) (r .taken) (r .read) ⌝ }
 {
     match read {
         RecordRead::Payload(place) => {
             let at = place.end;
-            if carried(file, at, kind) {
+            if found(file, here, at, kind) {
                 return Branch {
                     taken: true,
                     read: read_record(file, at, kind, questions),
@@ -234,7 +246,7 @@ fn end_of(read: RecordRead) -> usize
     place.end
 }
 
-// ---- A job: five records in order, each once.
+// ---- A job: five records in order, each once, and in mode 2 perhaps the angles.
 
 // The places are those of a job where the last record was read.
 fn job_read(last: RecordRead, places: JobPlaces) -> JobRead
@@ -259,6 +271,10 @@ pub fn read_job(file: &[u8]) -> JobRead
     let outputs = next(file, inputs, KIND_OUTPUTS, Questions::Nodes(n));
     let allowed = Questions::Measurements(n, mode, place_of(outputs));
     let measurements = next(file, outputs, KIND_MEASUREMENTS, allowed);
+    let planes = mode == MODE_PLANES;
+    let entries = Questions::Angles(n, place_of(outputs));
+    let angles = optional(file, planes, measurements, KIND_ANGLES, entries);
+    let last = angles.read;
     let places = JobPlaces {
         n,
         mode,
@@ -266,9 +282,11 @@ pub fn read_job(file: &[u8]) -> JobRead
         inputs: place_of(inputs),
         outputs: place_of(outputs),
         measurements: place_of(measurements),
-        end: end_of(measurements),
+        angled: angles.taken,
+        angles: place_of(last),
+        end: end_of(last),
     };
-    job_read(measurements, places)
+    job_read(last, places)
 }
 
 // ---- A flow: the records of layers and of sets, and both signal lists or neither.
@@ -298,7 +316,7 @@ pub fn read_flow(file: &[u8], at: usize, n: usize) -> FlowRead
     let first = layers.read;
     let sets = next(file, first, KIND_SETS, Questions::Sets(n));
     let list = Questions::Each(row_width(n), n);
-    let signals = optional(file, sets, KIND_SET_SIGNALS, list);
+    let signals = optional(file, true, sets, KIND_SET_SIGNALS, list);
     let rows = signals.read;
     let last = partner(file, signals, KIND_ODD_SIGNALS, list);
     let places = FlowPlaces {

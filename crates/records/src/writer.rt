@@ -1,5 +1,6 @@
 // Records written into a lent buffer, one after the other.
 ghost use mathlib.Core.Path.{_≡_};
+ghost use mathlib.Core.Option.{none};
 ghost use mathlib.Core.List.{[], _∷_, _++_};
 ghost use Prim.Native.Nat.{_+_, _*_, _/_, _%_, _<_, _≤_};
 ghost use lib.Dec.{leb};
@@ -10,10 +11,12 @@ ghost use Rattle.nodes.specs.SetTable.{setAt};
 ghost use Rattle.records.specs.Records.{headBytes, headOf, written, kindEdges, kindInputs, kindOutputs, kindMeasurements, kindSets, kindWideLayers, inTwoBytes};
 ghost use Rattle.records.specs.Encoding.{jobBytes};
 ghost use Rattle.records.specs.JobLists.{pairsWith, pairsAmong, jobWith};
-ghost use Rattle.records.specs.Writing.{setBytes, flowRecords};
+ghost use Rattle.records.specs.Writing.{setBytes, flowRecords, angleRecord};
 ghost use Rattle.records.specs.Splice.{splice, putFront, putAnswer, putOf};
+ghost use Rattle.records.specs.Views.{someIf};
 use crate::common::ENTRY_HEAD_BYTES;
 use crate::common::HEAD_BYTES;
+use crate::common::KIND_ANGLES;
 use crate::common::KIND_EDGES;
 use crate::common::KIND_INPUTS;
 use crate::common::KIND_MEASUREMENTS;
@@ -242,6 +245,59 @@ fn put_last_records(
     put_record(out, third, KIND_MEASUREMENTS, measurements);
 }
 
+// The five records that every job has, from the front of the buffer on.
+fn put_job(
+    out: &mut [u8],
+    n: u8,
+    mode: u8,
+    edges: usize,
+    graph: &[u64],
+    nodes: NodeSet,
+    inputs: NodeSet,
+    outputs: NodeSet,
+    measurements: &[u8],
+)
+    requires { ⌜ edges ≡ length (pairsAmong (setAt (now graph)) (members capacity (member nodes))) ⌝ }
+    requires { ⌜ length (jobBytes (jobWith n mode (pairsAmong (setAt (now graph)) (members capacity (member nodes))) (members capacity (member inputs)) (members capacity (member outputs)) (now measurements) none)) ≤ length (now out) ⌝ }
+    ensures { λ _. ⌜ now (out .exit) ≡ splice 0 (jobBytes (jobWith n mode (pairsAmong (setAt (now (graph .entry))) (members capacity (member nodes))) (members capacity (member inputs)) (members capacity (member outputs)) (now (measurements .entry)) none)) (now (out .entry)) ⌝ }
+{
+    let opening = [n, mode];
+    let second = HEAD_BYTES + OPENING_BYTES;
+    put_record(out, 0, KIND_OPENING, &opening);
+    put_edges_record(out, second, edges, graph, nodes);
+    put_last_records(
+        out,
+        second + HEAD_BYTES + edges,
+        inputs,
+        outputs,
+        measurements,
+    );
+}
+
+// ---- The angles, where there are any.
+
+fn room_for_angles(room: usize, angled: bool, angles: &[u8]) -> bool
+    ensures { λ r. ⌜ r ≡ leb (length (angleRecord (someIf angled (now (angles .entry))))) room ⌝ }
+{
+    if angled {
+        return room_for(room, HEAD_BYTES, angles.len(), 0);
+    }
+    true
+}
+
+// The place behind them.
+fn put_angles(out: &mut [u8], at: usize, angled: bool, angles: &[u8]) -> usize
+    requires { ⌜ at + length (angleRecord (someIf angled (now angles))) ≤ length (now out) ⌝ }
+    ensures { λ _. ⌜ now (out .exit) ≡ splice at (angleRecord (someIf angled (now (angles .entry)))) (now (out .entry)) ⌝ }
+    ensures { λ r. ⌜ r ≡ at + length (angleRecord (someIf angled (now (angles .entry)))) ⌝ }
+{
+    if angled {
+        put_record(out, at, KIND_ANGLES, angles);
+        return at + HEAD_BYTES + angles.len();
+    }
+    at
+}
+
 // ---- At the front of the buffer, where there is room for all of it.
 
 // Is there room for three lengths together?
@@ -285,7 +341,7 @@ pub fn write_flow(out: &mut [u8], layers: &[u16], sets: &[u64], nodes: NodeSet) 
     Put::Bytes(2 * HEAD_BYTES + first + second)
 }
 
-// A job file: the edges among the nodes, inputs and outputs ascending.
+// A job file: the edges among the nodes, inputs and outputs ascending, the angles behind it where there are any.
 pub fn write_job(
     out: &mut [u8],
     n: u8,
@@ -295,25 +351,32 @@ pub fn write_job(
     inputs: NodeSet,
     outputs: NodeSet,
     measurements: &[u8],
+    angled: bool,
+    angles: &[u8],
 ) -> Put
-    ensures { λ r. ⌜ putOf r ≡ putAnswer (jobBytes (jobWith n mode (pairsAmong (setAt (now (graph .entry))) (members capacity (member nodes))) (members capacity (member inputs)) (members capacity (member outputs)) (now (measurements .entry)))) (now (out .entry)) ⌝ }
-    ensures { λ _. ⌜ now (out .exit) ≡ putFront (jobBytes (jobWith n mode (pairsAmong (setAt (now (graph .entry))) (members capacity (member nodes))) (members capacity (member inputs)) (members capacity (member outputs)) (now (measurements .entry)))) (now (out .entry)) ⌝ }
+    ensures { λ r. ⌜ putOf r ≡ putAnswer (jobBytes (jobWith n mode (pairsAmong (setAt (now (graph .entry))) (members capacity (member nodes))) (members capacity (member inputs)) (members capacity (member outputs)) (now (measurements .entry)) (someIf angled (now (angles .entry))))) (now (out .entry)) ⌝ }
+    ensures { λ _. ⌜ now (out .exit) ≡ putFront (jobBytes (jobWith n mode (pairsAmong (setAt (now (graph .entry))) (members capacity (member nodes))) (members capacity (member inputs)) (members capacity (member outputs)) (now (measurements .entry)) (someIf angled (now (angles .entry))))) (now (out .entry)) ⌝ }
 {
     let edges = edges_len(graph, nodes);
     let others = 5 * HEAD_BYTES + OPENING_BYTES + inputs.count() + outputs.count();
     if !room_for(out.len(), others, edges, measurements.len()) {
         return Put::TooLong;
     }
-    let opening = [n, mode];
-    let second = HEAD_BYTES + OPENING_BYTES;
-    put_record(out, 0, KIND_OPENING, &opening);
-    put_edges_record(out, second, edges, graph, nodes);
-    put_last_records(
+    let first = others + edges + measurements.len();
+    if !room_for_angles(out.len() - first, angled, angles) {
+        return Put::TooLong;
+    }
+    put_job(
         out,
-        second + HEAD_BYTES + edges,
+        n,
+        mode,
+        edges,
+        graph,
+        nodes,
         inputs,
         outputs,
         measurements,
     );
-    Put::Bytes(others + edges + measurements.len())
+    let end = put_angles(out, first, angled, angles);
+    Put::Bytes(end)
 }

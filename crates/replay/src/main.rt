@@ -1,7 +1,7 @@
 // Stored answers, run again on the library through its entries for C. Standard input holds entries one after another, each a
 // call and what it should answer and leave: cases A to N of document 01 and its edges, by name; the original's answers; each refusal at
-// its boundary, flows by either kind of layers; jobs written from lists; signal lists added, judged and edited. oracle/README.md says how they
-// were made. One entry is wrong on purpose: a run that does not report it compares nothing.
+// its boundary, flows by either kind of layers; jobs written from lists; signal lists added, judged and edited; jobs with angles. oracle/README.md
+// says how they were made. One entry is wrong on purpose: a run that does not report it compares nothing.
 mod entry; // entry.rt: what the head of an entry says
 mod flow; // flow.rt: the flow of the finder, compared after reading
 mod run; // run.rt: the call of one entry, compared
@@ -24,7 +24,7 @@ const MOST_ENTRY: usize = 196620;
 const MOST_ENTRIES: u64 = 1048576;
 
 // The numbers of all questions, and 0 for an answer.
-const NUMBERS: usize = 23;
+const NUMBERS: usize = 24;
 
 fn print(words: &[u8]) {
     io::write_all(STANDARD_OUTPUT, words);

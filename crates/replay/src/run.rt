@@ -13,9 +13,11 @@ use crate::flow::same_flow;
 use capi::bolz_add_signals;
 use capi::bolz_edit_set;
 use capi::bolz_find;
+use capi::bolz_read_angles;
 use capi::bolz_solve;
 use capi::bolz_verify;
 use capi::bolz_write_job;
+use capi::bolz_write_job_angles;
 use compare::holds;
 
 const FIND: u8 = 102; // f
@@ -25,6 +27,10 @@ const VERIFY: u8 = 118; // v
 const SOLVE: u8 = 115; // s
 
 const WRITE: u8 = 119; // w
+
+const WRITE_ANGLES: u8 = 87; // W
+
+const READ_OUT: u8 = 111; // o
 
 const ADD: u8 = 97; // a
 
@@ -58,7 +64,8 @@ const NODES_AT: usize = 6;
 // Rows, columns, right sides and the right side that is asked for, two bytes each, stand before the matrix.
 const SHAPE_BYTES: usize = 8;
 
-// n and mode, eight bytes each, and the lengths of the four lists, two bytes each, stand before the lists.
+// n and mode, eight bytes each, and the lengths of the four lists, two bytes each, stand before the lists; behind them the angles, where they
+// are given.
 const LISTS_HEAD_BYTES: usize = 24;
 
 // The length of a lent entry, two bytes, stands before it.
@@ -116,12 +123,22 @@ fn find_as_stored(
         && holds(&works[work_len..most], b"", FILL)
 }
 
-fn verify_as_stored(head: &[u8], query: &[u8], result: &[u8], outs: &mut [u8]) -> bool {
+// A call that takes a file and a result buffer.
+fn call(kind: u8, file: &[u8], out: &mut [u8]) -> u64 {
+    match kind {
+        VERIFY => bolz_verify(file, out),
+        ADD => bolz_add_signals(file, out),
+        _ => bolz_read_angles(file, out),
+    }
+}
+
+// 0014, the flow file with its lists or the record of angles; or a refusal.
+fn call_as_stored(head: &[u8], query: &[u8], result: &[u8], outs: &mut [u8]) -> bool {
     let out_len = out_len(head);
     if out_len > outs.len() {
         return false;
     }
-    let got = bolz_verify(query, &mut outs[0..out_len]);
+    let got = call(kind(head), query, &mut outs[0..out_len]);
     got == stored(head, result.len()) && holds(outs, result, FILL)
 }
 
@@ -215,7 +232,25 @@ fn eight_bytes(bytes: &[u8]) -> usize {
             )
 }
 
-// The file of the stored lists, or a refusal.
+// The call with angles, or without.
+fn write_job(
+    n: usize,
+    mode: usize,
+    edges: &[u8],
+    inputs: &[u8],
+    outputs: &[u8],
+    measurements: &[u8],
+    angled: bool,
+    angles: &[u8],
+    out: &mut [u8],
+) -> u64 {
+    if angled {
+        return bolz_write_job_angles(n, mode, edges, inputs, outputs, measurements, angles, out);
+    }
+    bolz_write_job(n, mode, edges, inputs, outputs, measurements, out)
+}
+
+// The file of the stored lists, with angles or without, or a refusal.
 fn write_as_stored(head: &[u8], query: &[u8], result: &[u8], outs: &mut [u8]) -> bool {
     let len = query.len();
     let out_len = out_len(head);
@@ -226,28 +261,21 @@ fn write_as_stored(head: &[u8], query: &[u8], result: &[u8], outs: &mut [u8]) ->
     let outputs = inputs + two_bytes(query[18], query[19]);
     let measurements = outputs + two_bytes(query[20], query[21]);
     let end = measurements + two_bytes(query[22], query[23]);
-    if end != len {
+    let angled = kind(head) == WRITE_ANGLES;
+    if end > len || !angled && end < len {
         return false;
     }
-    let got = bolz_write_job(
+    let got = write_job(
         eight_bytes(&query[0..8]),
         eight_bytes(&query[8..16]),
         &query[LISTS_HEAD_BYTES..inputs],
         &query[inputs..outputs],
         &query[outputs..measurements],
         &query[measurements..end],
+        angled,
+        &query[end..len],
         &mut outs[0..out_len],
     );
-    got == stored(head, result.len()) && holds(outs, result, FILL)
-}
-
-// The flow file with its lists, or a refusal.
-fn add_as_stored(head: &[u8], query: &[u8], result: &[u8], outs: &mut [u8]) -> bool {
-    let out_len = out_len(head);
-    if out_len > outs.len() {
-        return false;
-    }
-    let got = bolz_add_signals(query, &mut outs[0..out_len]);
     got == stored(head, result.len()) && holds(outs, result, FILL)
 }
 
@@ -275,10 +303,9 @@ pub(crate) fn as_stored(head: &[u8], query: &[u8], result: &[u8]) -> bool {
     let mut outs = [FILL; MOST_OUT];
     match kind(head) {
         FIND => find_as_stored(head, query, result, &mut works, &mut outs),
-        VERIFY => verify_as_stored(head, query, result, &mut outs),
+        VERIFY | ADD | READ_OUT => call_as_stored(head, query, result, &mut outs),
         SOLVE => solve_as_stored(head, query, result, &mut works, &mut outs),
-        WRITE => write_as_stored(head, query, result, &mut outs),
-        ADD => add_as_stored(head, query, result, &mut outs),
+        WRITE | WRITE_ANGLES => write_as_stored(head, query, result, &mut outs),
         EDIT => edit_as_stored(head, query, result, &mut outs),
         ORIGINAL => verdict_as_stored(head, query, &mut outs),
         _ => false,

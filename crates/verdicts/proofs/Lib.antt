@@ -1,3 +1,4 @@
+pub mod Inferred
 pub mod Published
 pub mod Questions
 pub mod Rule

@@ -1,3 +1,4 @@
+use mathlib.Core.Bool.{true}
 use Rattle.records.specs.Records.{kindLayers, kindWideLayers, kindSetSignals, kindOddSignals, eachAsks}
 use Rattle.records.specs.BitRows.{rowWidth}
 use Rattle.records.specs.Views.{startAt, NextOptional, Partner, NextChoice}
@@ -11,7 +12,7 @@ layers-read : (c : tie.After-choice) → let a = c .before .before .before .args
 layers-read c = rw (c .before .start .ensures) at (c .choice .ensures)
 
 -- each list has rows of the width for n
-rows-read : (c : tie.After-optional) → let a = c .before .before .before .before .before .before .args in NextOptional (a .file .now) (c .before .before .next .result) kindSetSignals (eachAsks (rowWidth (a .n)) (a .n)) (c .optional .result)
+rows-read : (c : tie.After-optional) → let a = c .before .before .before .before .before .before .args in NextOptional (a .file .now) true (c .before .before .next .result) kindSetSignals (eachAsks (rowWidth (a .n)) (a .n)) (c .optional .result)
 rows-read c = rw (c .before .row-width .ensures) at (c .optional .ensures)
 
 odds-read : (c : tie.After-partner) → let a = c .before .before .before .before .before .before .before .args in let b = c .before .optional .result in Partner (a .file .now) (b .taken) (b .read) kindOddSignals (eachAsks (rowWidth (a .n)) (a .n)) (c .partner .result)

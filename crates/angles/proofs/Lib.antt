@@ -1,0 +1,3 @@
+pub mod AngleRecord
+pub mod Inferred
+pub mod Patterns
