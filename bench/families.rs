@@ -1,5 +1,6 @@
 //! The families of jobs that are timed, each at several sizes.
 
+use harness::angles::angled;
 use harness::families::{ALL_PLANES, ALL_SIX, circuit, grid, measure, path, scattered, some_nodes};
 use harness::jobs::{Job, PAULI, PLANES, X, XY, Y};
 use harness::random::Random;
@@ -15,7 +16,7 @@ pub struct Family {
     pub jobs: fn(usize) -> Vec<Job>,
 }
 
-pub const FAMILIES: [Family; 12] = [
+pub const FAMILIES: [Family; 13] = [
     Family { name: "planes, path", jobs: |n| vec![path(n, PLANES)] },
     Family { name: "planes, grid", jobs: |n| vec![grid_of(n, PLANES)] },
     Family { name: "planes, circuits", jobs: |n| circuits(n, PLANES, &[XY]) },
@@ -28,6 +29,7 @@ pub const FAMILIES: [Family; 12] = [
     Family { name: "Pauli, circuits of X and Y", jobs: |n| circuits(n, PAULI, &[X, Y]) },
     Family { name: "Pauli, random sparse", jobs: |n| random_jobs(n, PAULI, 3, n) },
     Family { name: "Pauli, random dense", jobs: |n| random_jobs(n, PAULI, 1, 2) },
+    Family { name: "angles, circuits of XY", jobs: |n| at_angles(circuits(n, PLANES, &[XY])) },
 ];
 
 /// A grid of 4 or 8 rows.
@@ -58,6 +60,12 @@ fn circuits(n: usize, mode: u8, from: &[u8]) -> Vec<Job> {
         job
     };
     (0..JOBS).map(one).collect()
+}
+
+/// The jobs, half of their nodes at special angles.
+fn at_angles(jobs: Vec<Job>) -> Vec<Job> {
+    let mut random = Random::new(SEED);
+    jobs.iter().map(|job| angled(job, &mut random)).collect()
 }
 
 fn measured(mut job: Job, from: &[u8]) -> Vec<Job> {

@@ -38,9 +38,10 @@ fn main() -> ExitCode {
         ["add", file, repeats] => print_last(repeat::add_signals, file, repeats),
         ["edit", file, repeats] => print_last(repeat::edit_set, file, repeats),
         ["write", file, repeats] => print_last(repeat::write_job, file, repeats),
+        ["read", file, repeats] => print_last(repeat::read_angles, file, repeats),
         ["files", folder] => repeat::put_files(Path::new(folder)).expect("the files can be written"),
         _ => {
-            eprintln!("usage: bench [find FILE REPEATS | verify FILE REPEATS | add FILE REPEATS | edit FILE REPEATS | write FILE REPEATS | files FOLDER]");
+            eprintln!("usage: bench [find FILE REPEATS | verify .. | add .. | edit .. | write .. | read .. | files FOLDER]");
             return ExitCode::from(2);
         }
     }

@@ -40,17 +40,28 @@ pub fn edit_set(file: &[u8], repeats: usize) -> Option<Answer> {
     (0..repeats).map(|_| ours::edit_set(black_box(file), black_box(entry), &mut out)).last()
 }
 
-/// The same of the job writer, on the lists of a job file: edges, inputs and outputs from the last to the first, the greater end first.
+/// The same of the job writer, on the lists of a job file: edges, inputs and outputs from the last to the first, the greater end first; the angles
+/// where it has some.
 pub fn write_job(file: &[u8], repeats: usize) -> Option<Answer> {
-    let [(_, opening), sorted @ .., (_, measurements)] = &records(file)?[..] else { return None };
+    let parts = records(file)?;
+    let [(_, opening), sorted @ .., (_, measurements)] = parts.get(..5)? else { return None };
     let [edges, inputs, outputs] = sorted else { return None };
     let [edges, inputs, outputs] = [edges, inputs, outputs].map(|(_, list)| list.iter().rev().copied().collect::<Vec<u8>>());
     let (n, mode) = (opening[0].into(), opening[1].into());
     let mut out = vec![0; OUT_BYTES];
-    let mut write = || ours::write_job(n, mode, black_box([&edges, &inputs, &outputs, measurements]), &mut out);
+    let mut write = || match parts.get(5) {
+        Some((_, angles)) => ours::write_job_angles(n, mode, black_box([&edges, &inputs, &outputs, measurements, angles]), &mut out),
+        None => ours::write_job(n, mode, black_box([&edges, &inputs, &outputs, measurements]), &mut out),
+    };
     let last = (0..repeats).map(|_| write()).last()?;
     assert_eq!(&out[..file.len()], file, "the file is not written again");
     Some(last)
+}
+
+/// The same of reading angles out of a job file.
+pub fn read_angles(file: &[u8], repeats: usize) -> Option<Answer> {
+    let mut out = vec![0; OUT_BYTES];
+    (0..repeats).map(|_| ours::read_angles(black_box(file), &mut out)).last()
 }
 
 /// The first job of each family at 16 and at 128 nodes; behind it, in a file of its own, the flow that is found, and in a third that flow with its

@@ -5,9 +5,9 @@ First stand cases A to N of document 01 and its edges, each claim by its name. S
 original's answers, or, where a search may lack columns, those of the papers' rule. Behind them stands a table, made here from documents 01 and 02 alone as the cases are, that reaches every refusal at each record or
 list where it can occur, on both sides of its boundary; and one entry that is wrong on purpose.
 An entry: kind, number, a, then two bytes each, lowest first: b, length of work buffer, of result buffer, of name, of query, of result; then
-name, query and result. Number 0 is an answer. Kinds: f finder, v verifier, s solver, w job writer, r the original's verdict (18 stands for 18
-or 19), a adding of signal lists, e editing of a set: its query is the length of the lent entry in two bytes, the entry, then job and flow. A
-finder's flow is compared after reading: the original's have layers of kind 0011."""
+name, query and result. Number 0 is an answer. Kinds: f finder, v verifier, s solver, w job writer, W the same with angles, which stand behind its
+lists, o read-out of angles, r the original's verdict (18 stands for 18 or 19), a adding of signal lists, e editing of a set: its query is the
+length of the lent entry in two bytes, the entry, then job and flow. A finder's flow is compared after reading: the original's have layers of kind 0011."""
 import itertools
 import random
 import struct
@@ -23,6 +23,7 @@ ACCEPTED = b"\0\0\0\0\x14\0"
 NO_FLOW = b"\0\0\0\0\x13\0"
 # layers in a byte for each node, and in two
 NARROW, WIDE = 0x11, 0x21
+ANGLES = 0x24
 WRAPS = 65535
 
 
@@ -35,8 +36,10 @@ def record(kind, payload):
     return struct.pack("<IH", len(payload), kind) + bytes(payload)
 
 
-def job_records(n, mode, edges=(), inputs=(), outputs=(), measured=()):
-    return [record(1, [n, mode]), record(2, sum(edges, ())), record(3, inputs), record(4, outputs), record(5, measured)]
+def job_records(n, mode, edges=(), inputs=(), outputs=(), measured=(), angles=None):
+    """Angles are the payload of their record; none at all is not the same as those of no node."""
+    five = [record(1, [n, mode]), record(2, sum(edges, ())), record(3, inputs), record(4, outputs), record(5, measured)]
+    return five if angles is None else five + [record(ANGLES, angles)]
 
 
 def layers_record(layers, kind):
@@ -334,15 +337,19 @@ def planes():
     """19: a node's own measurement, all six, by whether it is in its set and in Odd; and a Y node in just one of the two."""
     for m, inside, odd in [(XY, 0, 1), (YZ, 1, 0), (XZ, 1, 1), (X, 0, 1), (X, 1, 1), (Y, 0, 1), (Y, 1, 0), (Z, 1, 0), (Z, 1, 1),
                            (XY, 1, 1), (XY, 1, 0), (YZ, 0, 1), (YZ, 1, 1), (XZ, 0, 1), (XZ, 1, 0), (X, 1, 0), (Y, 1, 1), (Z, 0, 1)]:
-        holds = {XY: not inside and odd, YZ: inside and not odd, XZ: inside and odd, X: odd, Y: inside != odd, Z: inside}[m]
         edge = job(2, PAULI if m > XZ else PLANES, [(0, 1)], [], [1], [m, 0])
-        members = [0] * inside + [1] * odd
-        yield from verdict(edge, judged([1, 0], (0, members)), 0 if holds else 19, 0)
+        yield from own_verdict(edge, m, inside, odd)
     # node 1, measured in Y and no later than 0, is in the set of 0 and not in its Odd; a common neighbour puts it in both
     y = job(4, PAULI, [(0, 1), (1, 2), (1, 3)], [], [2, 3], [XY, Y, 0, 0])
     yield from verdict(y, judged([1, 1, 0, 0], (0, [1]), (1, [2])), 19, 0)
     yield from verdict(y, judged([1, 1, 0, 0], (0, [1, 3]), (1, [2])))
     yield from verdict(y, judged([2, 1, 0, 0], (0, [1]), (1, [2])))
+
+
+def own_verdict(edge, m, inside, odd):
+    """On one edge with output 1: does m, the measurement of node 0, hold?"""
+    holds = {XY: not inside and odd, YZ: inside and not odd, XZ: inside and odd, X: odd, Y: inside != odd, Z: inside}[m]
+    yield from verdict(edge, judged([1, 0], (0, [0] * inside + [1] * odd)), 0 if holds else 19, 0)
 
 
 def causal_order():
@@ -506,24 +513,25 @@ def finder_without_columns():
 
 # The path of three nodes as an editor may hold it.
 EDITED = {"n": 3, "mode": PLANES, "edges": [2, 1, 0, 1], "inputs": [0], "outputs": [2], "measured": [XY, XY, 0]}
+NO_LISTS = {"edges": [], "inputs": [], "outputs": [], "measured": []}
 
 
-def lists(n, mode, edges=(), inputs=(), outputs=(), measured=()):
-    """A query: n and mode, eight bytes each, the lengths of the lists, and the lists."""
+def lists(n, mode, edges=(), inputs=(), outputs=(), measured=(), angles=b""):
+    """A query: n and mode, eight bytes each, the lengths of the lists, the lists, and the angles where they are given."""
     parts = [bytes(part) for part in (edges, inputs, outputs, measured)]
-    return struct.pack("<QQHHHH", n, mode, *map(len, parts)) + b"".join(parts)
+    return struct.pack("<QQHHHH", n, mode, *map(len, parts)) + b"".join(parts) + angles
 
 
-def ascending(n, mode, edges=(), inputs=(), outputs=(), measured=()):
-    """The one file of the job: each list ascending, the smaller end of an edge first."""
+def ascending(n, mode, edges=(), inputs=(), outputs=(), measured=(), angles=None):
+    """The one file of the job: each list ascending, the smaller end of an edge first; the angles bit for bit."""
     pairs = sorted(tuple(sorted(edges[at:at + 2])) for at in range(0, len(edges), 2))
-    return job(n, mode, pairs, sorted(inputs), sorted(outputs), measured)
+    return job(n, mode, pairs, sorted(inputs), sorted(outputs), measured, angles)
 
 
 def edited(number, out=OUT, **changes):
     """The lists of the path, some of them others: refused by this number, or written where it is 0."""
     given = {**EDITED, **changes}
-    return entry("w", lists(**given), b"" if number else ascending(**given), number, out=out)
+    return entry("W" if "angles" in given else "w", lists(**given), b"" if number else ascending(**given), number, out=out)
 
 
 def complete(n):
@@ -539,11 +547,10 @@ def openings():
         yield edited(number, mode=mode)
     for mode in (256, 256 + 1, 65536 + 2, 2**32 + 2, 2**63 + 3, 2**64 - 1):
         yield edited(4, mode=mode)
-    nothing = {"edges": [], "inputs": [], "outputs": [], "measured": []}
     for n, number in [(0, 0), (129, 4), (2**64 - 1, 4)]:
-        yield edited(number, n=n, **nothing)
+        yield edited(number, n=n, **NO_LISTS)
     for changes, number in [({"edges": [0, 0]}, 5), ({"inputs": [0]}, 5), ({"outputs": [0]}, 5), ({"measured": [0]}, 3)]:
-        yield edited(number, n=0, **{**nothing, **changes})
+        yield edited(number, n=0, **{**NO_LISTS, **changes})
     big = list(reversed(range(128)))
     yield edited(0, n=128, edges=[127, 0], inputs=big, outputs=big, measured=[0] * 128)
     yield edited(4, n=129, edges=[127, 0], inputs=big, outputs=[128] + big, measured=[0] * 129)
@@ -612,7 +619,7 @@ def room():
     for out, number in [(42, 0), (41, 0), (40, 20), (6, 20), (0, 20)]:
         yield edited(number, out=out)
     for out, number in [(32, 0), (31, 20), (0, 20)]:
-        yield edited(number, out=out, n=0, edges=[], inputs=[], outputs=[], measured=[])
+        yield edited(number, out=out, n=0, **NO_LISTS)
     big = list(reversed(range(128)))
     for out, number in [(16672, 0), (16671, 20)]:
         yield edited(number, out=out, n=128, edges=complete(128), inputs=big, outputs=big, measured=[0] * 128)
@@ -624,17 +631,21 @@ FAULTS = [(4, "mode", 2), (3, "edges", [0]), (5, "edges", [0, 3]), (5, "inputs",
 
 
 def precedence():
+    yield from earlier_told(FAULTS, edited, out=41)
+
+
+def earlier_told(faults, make, **more):
     """Each fault alone, and of two the earlier one is told."""
-    for faults in [*itertools.combinations(FAULTS, 1), *itertools.combinations(FAULTS, 2)]:
-        given = {**EDITED, "out": 41}
-        for _, key, more in faults:
-            given[key] = given[key] + more
-        yield edited(faults[0][0], **given)
+    for chosen in [*itertools.combinations(faults, 1), *itertools.combinations(faults, 2)]:
+        given = {**EDITED, **more}
+        for _, key, added in chosen:
+            given[key] = given[key] + added
+        yield make(chosen[0][0], **given)
 
 
 def random_jobs():
-    """Jobs made with every list ascending, and then given in another order."""
-    draw = random.Random(2026).random
+    """Jobs made with every list ascending, and then given in another order; in mode 2 also with angles, which are read out again."""
+    draw, turns = random.Random(2026).random, random.Random(2606).random
     for _ in range(30):
         n, mode = 1 + int(draw() * 20), 1 + int(draw() * 3)
         share = draw()
@@ -645,6 +656,11 @@ def random_jobs():
         mixed = [sorted(part, key=lambda _: draw()) for part in (edges, inputs, outputs)]
         ends = [end for edge in mixed[0] for end in (edge if draw() < 0.5 else edge[::-1])]
         yield entry("w", lists(n, mode, ends, mixed[1], mixed[2], measured), job(n, mode, edges, inputs, outputs, measured))
+        if mode == PLANES:
+            angles = any_angles(turns, outputs, n)
+            file = job(n, mode, edges, inputs, outputs, measured, angles)
+            yield entry("W", lists(n, mode, ends, mixed[1], mixed[2], measured, angles), file)
+            yield entry("o", file, record(ANGLES, angles))
 
 
 # ---- Signal lists, request 2026-03 of document 02: a small model, then both calls and the verifier at each boundary.
@@ -667,9 +683,10 @@ class Table(typing.NamedTuple):
     sets: dict
     kind: int = WIDE
     lists: tuple = ()
+    angles: bytes = None
 
     def job(self):
-        return job(self.n, self.mode, self.edges, self.inputs, self.outputs, self.measured)
+        return job(self.n, self.mode, self.edges, self.inputs, self.outputs, self.measured, self.angles)
 
     def flow(self):
         records = flow_records(self.layers, sorted(self.sets.items()), self.kind)
@@ -1040,11 +1057,245 @@ def first_of_two():
         yield edit(faulty(faults), faulty_entry(faults), number=number, out=size - ("20 room" in faults))
 
 
+# ---- Angles, request 2026-06 of document 02: what they infer, a small model; then 1, 2, 3, 4, 8, 20 and 23 by each call.
+
+def bits_of(x):
+    return struct.unpack("<Q", struct.pack("<d", x))[0]
+
+
+def double(angle):
+    return struct.unpack("<d", angle_bytes(angle))[0]
+
+
+def angle_bytes(*angles):
+    """The payload of 0024: the bits of each angle in eight bytes, lowest first."""
+    return struct.pack(f"<{len(angles)}Q", *angles)
+
+
+QUARTER, TWO, INFINITY = map(bits_of, (0.25, 2.0, float("inf")))
+SIGN = 1 << 63
+ALL_PLANES = (XY, YZ, XZ)
+SPECIAL = [bits_of(x) for x in (0.0, -0.0, 0.5, 1.0, 1.5)]
+# The special ones, and each with one bit changed, also the sign; the doubles below 0.5, 1, 1.5 and 2; these four by bytes in reverse; and, by either
+# sign, the ends of the subnormal ones, 0.25, 2 and what follows, the highest finite one, infinity, and what is not a number, signalling and then
+# quiet, by the least and the greatest payload.
+TRIED = sorted({*SPECIAL, *(angle ^ 1 << at for angle in SPECIAL for at in (0, 31, 32, 51, 52, 62, 63)),
+                *(angle - 1 for angle in SPECIAL[2:] + [TWO]),
+                *(int.from_bytes(angle_bytes(angle), "big") for angle in SPECIAL[2:] + [TWO]),
+                *(sign | angle for sign in (0, SIGN) for angle in (1, 2**52 - 1, QUARTER, TWO, TWO + 1, INFINITY - 1, INFINITY, INFINITY + 1,
+                                                                   INFINITY + 2**51 - 1, INFINITY + 2**51, INFINITY + 2**52 - 1))})
+
+
+def inferred(plane, angle):
+    """Exactly 0 or 1, exactly 0.5 or 1.5, or any other angle; negative zero is 0."""
+    whole, half = {XY: (X, Y), YZ: (Z, Y), XZ: (Z, X)}[plane]
+    return whole if double(angle) in (0, 1) else half if double(angle) in (0.5, 1.5) else plane
+
+
+def angle_number(angle, output=False):
+    """23, or 0 where the angle is allowed: from 0 to below 2, at an output positive zero."""
+    return 0 if (angle == 0 if output else 0 <= double(angle) < 2) else 23
+
+
+def by_hand():
+    """Cases A, B and G of document 01 with angles, every byte by hand: 0.75 in A, 0.25 in G; and G with node 1 at 1, which makes it case I."""
+    edge = EDGE + bytes.fromhex("10000000 2400 000000000000e83f 0000000000000000")
+    yield from found("A with angles", edge, EDGE_FLOW)
+    yield entry("W", lists(2, PLANES, [1, 0], [0], [1], [XY, 0], edge[-16:]), edge, name="A with angles written")
+    yield entry("o", edge, edge[-22:], name="A with angles read out")
+    none = bytes.fromhex("00000000 2400")
+    yield from found("B with angles", job(0, PLANES) + none, flow([]))
+    yield entry("o", job(0, PLANES) + none, none, name="B with angles read out")
+    for name, angle, layers in [("G with angles", "000000000000d03f", (2, 1, 0)), ("G with an angle of 1", "000000000000f03f", (1, 1, 0))]:
+        path = path_job(PLANES, XY, XY) + bytes.fromhex(f"18000000 2400 000000000000d03f {angle} 0000000000000000")
+        yield from found(name, path, path_flow(*layers))
+
+
+# The path of four, its ends outputs, node 2 in XZ: the sets of nodes 1 and 2 by the measurement of node 1. Both lie in layer 1.
+FOUR = {"n": 4, "mode": PLANES, "edges": [3, 2, 1, 0, 1, 2], "outputs": [3, 0]}
+FOUR_SETS = {XY: ([0], [0, 2, 3]), YZ: ([1, 3], [0, 2, 3]), XZ: ([0, 1, 3], [0, 2, 3]), X: ([0], [0, 1, 2]), Y: ([0], [1, 2]), Z: ([1, 3], [2, 3])}
+
+
+def four_calls(plane, angles, number, measurement):
+    """Finder, verifier, read-out and writer: all refuse by this number, or the flow of this measurement is found and accepted."""
+    given = {**FOUR, "measured": [0, plane, XZ, 0], "angles": angle_bytes(*angles)}
+    file, answer = ascending(**given), flow([0, 1, 1, 0], *zip((1, 2), FOUR_SETS[measurement]))
+    calls = [("f", file, answer), ("v", file + answer, ACCEPTED), ("o", file, record(ANGLES, given["angles"])), ("W", lists(**given), file)]
+    return [entry(kind, query, b"" if number else result, number) for kind, query, result in calls]
+
+
+def each_angle():
+    """What an angle infers in each plane, or 23; and 23 at an output, first and last."""
+    for angle in TRIED:
+        for plane in ALL_PLANES:
+            calls = four_calls(plane, (0, angle, QUARTER, 0), angle_number(angle), inferred(plane, angle))
+            yield from calls if plane == XY else calls[:2]
+        for angles in [(angle, QUARTER, QUARTER, 0), (0, QUARTER, QUARTER, angle)]:
+            finder, _, _, writer = four_calls(XY, angles, angle_number(angle, output=True), XY)
+            yield from (finder, writer)
+    # of 128 nodes alone the last one's angle decides
+    for angle in SPECIAL + [QUARTER, TWO - 1, TWO, SIGN + 1, INFINITY + 1]:
+        query = job(128, PLANES, measured=[YZ] * 127 + [XY], angles=angle_bytes(*[QUARTER] * 127, angle))
+        all_own = flow([0] * 128, *((u, [u]) for u in range(128)))
+        number = angle_number(angle)
+        yield entry("f", query, b"" if number else all_own if inferred(XY, angle) == Y else NO_FLOW, number)
+
+
+def angle_verdicts():
+    """By the inferred measurements, in mode 3: what is accepted for the planes stays accepted, 16 is not asked, and X and Y excuse."""
+    for plane, angle in itertools.product(ALL_PLANES, SPECIAL + [QUARTER]):
+        m = inferred(plane, angle)
+        alone = job(1, PLANES, measured=[plane], angles=angle_bytes(angle))
+        yield entry("f", alone, flow([0], (0, [0])) if m in (YZ, Y, Z) else NO_FLOW)
+        yield from verdict(alone, judged([0], (0, [0])), 0 if m in (YZ, Y, Z) else 19)
+        yield four_calls(plane, (0, angle, QUARTER, 0), 0, plane)[1]
+        edge = job(2, PLANES, [(0, 1)], [], [1], [plane, 0], angle_bytes(angle, 0))
+        for inside, odd in [(0, 1), (1, 0), (1, 1)]:
+            yield from own_verdict(edge, m, inside, odd)
+    for angle in SPECIAL + [QUARTER]:
+        path = path_job(PLANES, XY, XY) + record(ANGLES, angle_bytes(QUARTER, angle, 0))
+        yield from verdict(path, judged([2, 1, 0], *PATH_SETS))
+        yield from verdict(path, judged([1, 1, 0], *PATH_SETS), *{X: (0,), Y: (19, 0), XY: (18, 0, 1)}[inferred(XY, angle)])
+        yield from verdict(path, judged([1, 0, 0], *PATH_SETS), 18, 1, 2)
+        yield from verdict(path, judged([1, 0, 1], *PATH_SETS), 15, 2, 1)
+        # an entry of no member, which only mode 1 refuses by 9
+        yield from verdict(path, judged([2, 1, 0], (0, []), (1, [2])), 14, 0)
+    yield from verdict(b"".join(PATH), judged([1, 0, 0], *PATH_SETS), 16, 1)
+
+
+ANGLED = PATH + [record(ANGLES, angle_bytes(QUARTER, QUARTER, 0))]
+
+
+def tails():
+    """What stands behind the five records of the path in mode 2, and the three numbers."""
+    whole, wrong = ANGLED[-1], record(ANGLES, angle_bytes(QUARTER, TWO, 0))
+    yield b"", 0, 0, 1
+    yield whole, 0, 0, 0
+    for size in (1, 5):
+        yield whole[:size], 8, 1, 1
+    for kind in (0x0004, 0x0005, 0x0014, 0x0023, 0x0025, 0x0028, 0x0124, 0x2400, 0x2424):
+        yield record(kind, whole[6:]), 8, 1, 1
+    yield whole + whole, 8, 1, 8
+    yield whole + b"\0", 8, 1, 8
+    # 2 before 3, 3 before 23, 23 before 8 and before the 1 of a flow
+    for number, tail in [*((2, b"\xff\xff\xff\xff" + part[4:]) for part in (whole, wrong)), *((23, wrong + more) for more in (b"", b"\0", whole)),
+                         *((3, record(ANGLES, wrong[6:6 + size].ljust(size, b"\0"))) for size in (0, 3, 6, 8, 16, 23, 25, 32))]:
+        yield tail, number, number, number
+
+
+def angle_places():
+    """0024 is looked for behind 0005 in mode 2, and nowhere else."""
+    flow = b"".join(PATH_FLOW)
+    for tail, *numbers in tails():
+        yield from three_calls(PLANES, tail, *numbers)
+        for mode, searched in [(CAUSAL, 10), (PAULI, 0)]:
+            yield from three_calls(mode, tail, 8 if tail else searched, 1 if tail else 0, 1)
+    path, angles = b"".join(PATH), ANGLED[-1]
+    for number, tail in [(1, b""), (1, angles), (2, angles[:-1]), (2, angles[:6]), (23, record(ANGLES, angle_bytes(TWO, QUARTER, 0)))]:
+        yield from refused_by_all(path + tail, number)
+    for tail in (angles[:-1], angles[:6]):
+        yield entry("f", path + tail, number=2)
+        yield entry("o", path + tail, number=2)
+    for at in range(len(PATH)):
+        for before in (b"".join(PATH[:at] + [angles] + PATH[at:]), b"".join(PATH[:at] + [angles] + PATH[at + 1:])):
+            yield entry("f", before, number=1)
+            yield entry("o", before, number=1)
+            yield from refused_by_all(before + flow, 1)
+    for first, reads in [(path, 1), (path + angles, 8)]:
+        for behind, judges in [(flow + angles, 8), (PATH_FLOW[0] + angles + PATH_FLOW[1], 1)]:
+            yield entry("f", first + behind, number=8)
+            yield from refused_by_all(first + behind, judges)
+            yield entry("o", first + behind, number=reads)
+        yield entry("o", first + flow, number=reads)
+    yield from heads_of(ANGLED + PATH_FLOW, len(ANGLED))
+    # 7 comes before, and so does all that is asked of the five records
+    for tail in (b"", angles, record(ANGLES, angle_bytes(TWO, TWO, TWO))):
+        yield from read(changed(PATH, 4, record(5, [XY, XZ + 1, 0]) + tail), 7)
+    for made in itertools.chain(heads(), payloads()):
+        if made[0] == ord("f") and made[1] > 0:
+            yield entry("o", made[HEAD:], number=made[1])
+
+
+def three_calls(mode, tail, finds, judges, reads):
+    """The path in this mode, with this behind its five records: the numbers of finder, of verifier with a flow behind that, and of read-out."""
+    file, flow = path_job(mode, XY, XY) + tail, b"".join(PATH_FLOW)
+    yield entry("f", file, b"" if finds else flow, finds)
+    yield from [entry("v", file + flow, ACCEPTED)] if judges == 0 else refused_by_all(file + flow, judges)
+    yield entry("o", file, b"" if reads else tail, reads)
+
+
+def no_node():
+    """An empty 0024 is one; eight bytes are too many."""
+    none, nothing = job(0, PLANES), flow([])
+    for size, number in [(0, 0), (1, 3), (8, 3)]:
+        file = none + record(ANGLES, bytes(size))
+        yield entry("f", file, b"" if number else nothing, number)
+        yield entry("v", file + nothing, b"" if number else ACCEPTED, number)
+        yield entry("o", file, b"" if number else file[-6:], number)
+        yield edited(number, n=0, **NO_LISTS, angles=bytes(size))
+
+
+def angle_room():
+    """20: the result fits exactly, or is a byte too long; the longest job with angles has 17,702 bytes. The finder's 11 after 23."""
+    big = list(reversed(range(128)))
+    longest = {"n": 128, "edges": complete(128), "inputs": big, "outputs": big, "measured": [0] * 128, "angles": bytes(1024)}
+    for given, size in [(longest, 17702), ({"angles": ANGLED[-1][6:]}, 71), ({"n": 0, **NO_LISTS, "angles": b""}, 38)]:
+        for out, number in [(size, 0), (size - 1, 20), (0, 20)]:
+            yield edited(number, out=out, **given)
+        yield from exactly(entry, "o", ascending(**{**EDITED, **given}), result=record(ANGLES, given["angles"]))
+    file, answer = b"".join(ANGLED), b"".join(PATH_FLOW)
+    yield from exactly(entry, "f", file, result=answer)
+    yield from exactly(entry, "v", file + answer, result=ACCEPTED)
+    for query, number in [(file, 11), (b"".join(PATH) + record(ANGLES, angle_bytes(TWO, QUARTER, 0)), 23)]:
+        yield entry("f", query, number=number, work=WORK - 1)
+
+
+def angle_lists():
+    """The writer's 4, 3 and 23 of the angles, after 7 and before 21."""
+    for size in (0, 3, 8, 16, 23, 24, 25, 32):
+        yield edited(0 if size == 24 else 3, angles=bytes(size))
+        for mode in (CAUSAL, PAULI):
+            yield edited(4, mode=mode, angles=bytes(size))
+            yield edited(4, n=0, mode=mode, **NO_LISTS, angles=bytes(size))
+    yield from earlier_told(FAULTS[:7] + ANGLE_FAULTS + FAULTS[7:], with_first_angle, out=71, first=QUARTER, behind=b"")
+
+
+# Mode 1, a byte behind the angles, and 2 for the first of them.
+ANGLE_FAULTS = [(4, "mode", -1), (3, "behind", b"\0"), (23, "first", TWO - QUARTER)]
+
+
+def with_first_angle(number, first, behind, **changes):
+    return edited(number, angles=angle_bytes(first, QUARTER, 0) + behind, **changes)
+
+
+def any_angles(draw, outputs, n):
+    """Of one node in two an angle that is tried above, and else any."""
+    kept = [angle for angle in TRIED if angle_number(angle) == 0]
+    return angle_bytes(*(0 if u in outputs else kept[int(draw() * len(kept))] if draw() < 0.5 else bits_of(2 * draw()) for u in range(n)))
+
+
+def lists_beside_angles():
+    """Signal lists are added, edited and judged as without angles."""
+    draw = random.Random(2208).random
+    for n in (0, 1, 3, 8, 9, 128):
+        table = any_table(draw, n, PLANES, WIDE)
+        table = table._replace(angles=any_angles(draw, table.outputs, n))
+        for stored in (table, with_garbage(table, draw)):
+            yield from adds(stored)
+            if n > 0:
+                yield from edits(stored, int(draw() * n), any_set(draw, n, PLANES))
+        right = judged_table(draw, n, PLANES)
+        right = with_lists(right._replace(angles=any_angles(draw, right.outputs, n)))
+        yield entry("v", right.file(), ACCEPTED)
+        if n > 0:
+            yield entry("v", flipped(right, 0, n - 1, 0).file(), number=22)
+
+
 def expected(entries, wrong):
     """What the program prints: the entries with a name, the wrong entry, and how many of each number are as stored."""
     names = [e[HEAD:HEAD + struct.unpack_from("<H", e, 9)[0]].decode() for e in entries]
     lines = [f"entry {at}: DIFFERENT" if at == wrong else f"{name}: as the documents say" for at, name in enumerate(names) if name or at == wrong]
-    for number in range(23):
+    for number in range(24):
         count = sum(e[1] == number for at, e in enumerate(entries) if at != wrong)
         lines.append(f"number {number}: {count} as stored")
     lines.append(f"entries: {len(entries)}")
@@ -1061,7 +1312,8 @@ def main():
     entries.append(entry("f", job(2, PLANES, [(0, 1)], [0], [1], [XY, 0]), flow([257, 0], (0, [1]))))
     writer = (openings, nodes_of_lists, measurements, given_twice, room, precedence, random_jobs)
     signals = (hand_made, sizes, longest, stored_lists, every_bit, judged_first, places, refused_files, sets_edited, lent_entries, first_of_two)
-    for part in (heads, payloads, flows, finder, verifier, solver, solver_without_columns, finder_without_columns) + writer + signals:
+    angles = (by_hand, each_angle, angle_verdicts, angle_places, no_node, angle_room, angle_lists, lists_beside_angles)
+    for part in (heads, payloads, flows, finder, verifier, solver, solver_without_columns, finder_without_columns) + writer + signals + angles:
         entries.extend(part())
     with open(f"{folder}/stdin", "wb") as file:
         file.write(b"".join(entries))

@@ -1,5 +1,5 @@
-/* Holds the header against the library: each refusal by its name, layers of both kinds, signal lists added, edited and verified, the sizes on both
-   sides, null pointers, the stack that a call needs. With an argument it prints the header's words of every number instead, each as the programs print them with a = 3
+/* Holds the header against the library: each refusal by its name, layers of both kinds, signal lists added, edited and verified, angles written, read out
+   and searched by, the sizes on both sides, null pointers, the stack that a call needs. With an argument it prints the header's words of every number instead, each as the programs print them with a = 3
    and b = 7. */
 #define _DEFAULT_SOURCE
 #include <pthread.h>
@@ -27,6 +27,12 @@
 #define ROWS "020000002200" "0001"
 #define ODDS "020000002300" "0000"
 #define LISTED FLOW ROWS ODDS
+/* Angles: 0.25, 0, -0 and 2, and the record with the first at node 0. */
+#define QUARTER "000000000000d03f"
+#define NOUGHT "0000000000000000"
+#define SIGNED "0000000000000080"
+#define TWO "0000000000000040"
+#define ANGLES "100000002400" QUARTER NOUGHT
 
 static uint8_t bytes[1024];
 static uint8_t work[BOLZ_WORK_BYTES + 1];
@@ -76,6 +82,18 @@ static uint64_t written(size_t n, size_t mode, const char *edges, const char *in
 {
     static uint8_t e[8], i[8], o[8], m[8];
     return bolz_write_job(n, mode, e, bytes_of(edges, e), i, bytes_of(inputs, i), o, bytes_of(outputs, o), m, bytes_of(measured, m), out, out_len);
+}
+
+static uint64_t written_angles(size_t mode, const char *measured, const char *angles, size_t out_len)
+{
+    static const uint8_t edge[] = {1, 0};
+    static uint8_t m[8], a[32];
+    return bolz_write_job_angles(2, mode, edge, 2, edge + 1, 1, edge, 1, m, bytes_of(measured, m), a, bytes_of(angles, a), out, out_len);
+}
+
+static uint64_t read_out(const char *file, size_t out_len)
+{
+    return bolz_read_angles(bytes, bytes_of(file, bytes), out, out_len);
 }
 
 static void want(const char *what, uint64_t result, unsigned number)
@@ -218,6 +236,29 @@ static void sets_edited(void)
     want("18 bytes for an entry", edited(JOB FLOW, "000101", 18), BOLZ_RESULT_TOO_LONG);
 }
 
+static void angles(void)
+{
+    size_t w = BOLZ_WORK_BYTES, o = BOLZ_MOST_JOB;
+    want_file("angles written", written_angles(2, "0100", QUARTER NOUGHT, o), JOB ANGLES);
+    want("angles in mode 3", written_angles(3, "0100", QUARTER NOUGHT, o), BOLZ_WRONG_OPENING);
+    want("a measurement not allowed, and angles in mode 3", written_angles(3, "0101", QUARTER NOUGHT, o), BOLZ_WRONG_MEASUREMENT);
+    want("an angle too few", written_angles(2, "0100", QUARTER, o), BOLZ_WRONG_LENGTH);
+    want("an angle of 2", written_angles(2, "0100", TWO NOUGHT, o), BOLZ_WRONG_ANGLE);
+    want("60 bytes", written_angles(2, "0100", SIGNED NOUGHT, 60), 0);
+    want("59 bytes", written_angles(2, "0100", SIGNED NOUGHT, 59), BOLZ_RESULT_TOO_LONG);
+    want_file("angles read out", read_out(JOB ANGLES, o), ANGLES);
+    want("no angles", read_out(JOB, o), BOLZ_NO_RECORD);
+    want("angles in a job of mode 3", read_out(PAULI REST ANGLES, o), BOLZ_NO_RECORD);
+    want("angles and a flow", read_out(JOB ANGLES FLOW, o), BOLZ_BYTES_LEFT);
+    want("22 bytes", read_out(JOB ANGLES, 22), 0);
+    want("21 bytes", read_out(JOB ANGLES, 21), BOLZ_RESULT_TOO_LONG);
+    want("negative zero at an output", find(JOB "100000002400" QUARTER SIGNED, w, o), BOLZ_WRONG_ANGLE);
+    want("angles before the measurements", find(OPEN EDGES INPUTS OUTPUTS ANGLES MEASURED, w, o), BOLZ_NO_RECORD);
+    want_file("a flow by ordinary angles", find(JOB ANGLES, w, o), FLOW);
+    want("its verdict", verify(JOB ANGLES FLOW), 0);
+    want("layer 0, with angles", verify(JOB ANGLES "040000002100" "00000000" SETS), BOLZ_INCONSISTENT_FLOW_ORDER);
+}
+
 /* n nodes, all of them outputs, and no edge. */
 static uint64_t find_nodes(unsigned n)
 {
@@ -236,8 +277,9 @@ static uint64_t find_nodes(unsigned n)
 }
 
 /* n nodes, all of them inputs and outputs, each joined to each, the last ones first: the longest job file of n nodes. */
-static uint64_t written_nodes(unsigned n)
+static uint64_t written_nodes(unsigned n, size_t out_len)
 {
+    static const uint8_t zeros[BOLZ_ANGLE_BYTES * (BOLZ_MOST_NODES + 1)];
     static uint8_t edges[(BOLZ_MOST_NODES + 1) * BOLZ_MOST_NODES], nodes[BOLZ_MOST_NODES + 1], measured[BOLZ_MOST_NODES + 1];
     size_t at = 0;
     for (unsigned a = n; a-- > 0;) {
@@ -247,7 +289,7 @@ static uint64_t written_nodes(unsigned n)
             edges[at + 1] = (uint8_t)b;
         }
     }
-    return bolz_write_job(n, 2, edges, at, nodes, n, nodes, n, measured, n, out, sizeof out);
+    return bolz_write_job_angles(n, 2, edges, at, nodes, n, nodes, n, measured, n, zeros, BOLZ_ANGLE_BYTES * n, out, out_len);
 }
 
 /* The most nodes, no edge, and every node in every set; the job's 160 bytes, and behind it the longest flow file without lists. */
@@ -288,8 +330,9 @@ static void sizes(void)
     size_t o = BOLZ_MOST_OUTPUT, r = BOLZ_ROW_BYTES;
     want("the most nodes", find_nodes(BOLZ_MOST_NODES), 0);
     want("one node more", find_nodes(BOLZ_MOST_NODES + 1), BOLZ_WRONG_OPENING);
-    want("the longest job", written_nodes(BOLZ_MOST_NODES), 0);
-    want("a job of one node more", written_nodes(BOLZ_MOST_NODES + 1), BOLZ_WRONG_OPENING);
+    want("the longest job", written_nodes(BOLZ_MOST_NODES, BOLZ_MOST_JOB), 0);
+    want("a byte less than the longest job", written_nodes(BOLZ_MOST_NODES, BOLZ_MOST_JOB - 1), BOLZ_RESULT_TOO_LONG);
+    want("a job of one node more", written_nodes(BOLZ_MOST_NODES + 1, BOLZ_MOST_JOB), BOLZ_WRONG_OPENING);
     want("the work buffer", find(JOB, BOLZ_WORK_BYTES, o), 0);
     want("a byte less", find(JOB, BOLZ_WORK_BYTES - 1, o), BOLZ_WRONG_SHAPE);
     want("a byte more", find(JOB, BOLZ_WORK_BYTES + 1, o), BOLZ_WRONG_SHAPE);
@@ -308,6 +351,8 @@ static void null_pointers(void)
     want("nothing to write", bolz_write_job(0, 0, NULL, 0, NULL, 0, NULL, 0, NULL, 0, NULL, 0), BOLZ_WRONG_OPENING);
     want("no room", bolz_write_job(0, 1, NULL, 0, NULL, 0, NULL, 0, NULL, 0, NULL, 0), BOLZ_RESULT_TOO_LONG);
     want("no node", bolz_write_job(0, 1, NULL, 0, NULL, 0, NULL, 0, NULL, 0, out, sizeof out), 0);
+    want("no angle", bolz_write_job_angles(0, 2, NULL, 0, NULL, 0, NULL, 0, NULL, 0, NULL, 0, out, sizeof out), 0);
+    want("nothing to read out", bolz_read_angles(NULL, 0, NULL, 0), BOLZ_NO_RECORD);
     want("nothing to add to", bolz_add_signals(NULL, 0, NULL, 0), BOLZ_NO_RECORD);
     want("nothing to edit", bolz_edit_set(NULL, 0, NULL, 0, NULL, 0), BOLZ_NO_RECORD);
     want("nothing to put in", bolz_edit_set(bytes, bytes_of(JOB FLOW, bytes), NULL, 0, NULL, 0), BOLZ_WRONG_LENGTH);
@@ -325,7 +370,8 @@ static void *in_find(void *file) { find(file, BOLZ_WORK_BYTES, sizeof out); retu
 static void *in_verify(void *file) { verify(file); return NULL; }
 static void *in_add(void *file) { added(file, sizeof out); return NULL; }
 static void *in_edit(void *file) { edited(file, "000101", sizeof out); return NULL; }
-static void *in_write(void *file) { written_nodes(BOLZ_MOST_NODES); return file; }
+static void *in_write(void *file) { written_nodes(BOLZ_MOST_NODES, BOLZ_MOST_JOB); return file; }
+static void *in_read_out(void *file) { read_out(file, sizeof out); return NULL; }
 static void *in_solve(void *file) { solve(BOLZ_ROW_BYTES, BOLZ_ROW_BYTES, 1, 0); return file; }
 
 static long used(void *(*call)(void *), void *file)
@@ -382,15 +428,17 @@ int main(int count, char **arguments)
     lists();
     lists_added();
     sets_edited();
+    angles();
     sizes();
     longest_flow();
     null_pointers();
     stack = mmap(NULL, STACK, PROT_READ | PROT_WRITE, MAP_PRIVATE | MAP_ANONYMOUS, -1, 0);
-    stack_of("bolz_find", in_find, JOB, PAULI REST, NULL, BOLZ_FIND_STACK);
-    stack_of("bolz_verify", in_verify, JOB LISTED, PAULI REST LISTED, CAUSAL REST LISTED, BOLZ_VERIFY_STACK);
-    stack_of("bolz_add_signals", in_add, JOB FLOW, JOB LISTED, NULL, BOLZ_ADD_SIGNALS_STACK);
-    stack_of("bolz_edit_set", in_edit, JOB FLOW, JOB LISTED, NULL, BOLZ_EDIT_SET_STACK);
+    stack_of("bolz_find", in_find, JOB, PAULI REST, JOB ANGLES, BOLZ_FIND_STACK);
+    stack_of("bolz_verify", in_verify, JOB ANGLES LISTED, PAULI REST LISTED, CAUSAL REST LISTED, BOLZ_VERIFY_STACK);
+    stack_of("bolz_add_signals", in_add, JOB FLOW, JOB LISTED, JOB ANGLES FLOW, BOLZ_ADD_SIGNALS_STACK);
+    stack_of("bolz_edit_set", in_edit, JOB FLOW, JOB LISTED, JOB ANGLES LISTED, BOLZ_EDIT_SET_STACK);
     stack_of("bolz_write_job", in_write, NULL, NULL, NULL, BOLZ_WRITE_JOB_STACK);
+    stack_of("bolz_read_angles", in_read_out, JOB ANGLES, NULL, NULL, BOLZ_READ_ANGLES_STACK);
     stack_of("bolz_solve", in_solve, NULL, NULL, NULL, BOLZ_SOLVE_STACK);
     puts(wrong ? "the header and the library differ" : "the header and the library agree");
     return wrong;

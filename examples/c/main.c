@@ -1,5 +1,5 @@
-/* The six calls from C: a flow for two joined nodes, its verdict, a wrong flow's refusal; a job written from lists, its flow, that with signal lists
-   and with one set edited; two equations. */
+/* The eight calls from C: a flow for two joined nodes, its verdict, a wrong flow's refusal; a job written from lists, its flow, that with signal lists
+   and with one set edited; the job with angles, its flow, and the angles read out; two equations. */
 #include <stdio.h>
 #include <string.h>
 
@@ -58,11 +58,35 @@ static int with_signals(const uint8_t *path, size_t path_len, size_t flow_len)
     return 0;
 }
 
-/* The path 0-1-2 with input 0 and output 2, measured in XY, as an editor holds it. */
+/* The path 0-1-2 with input 0 and output 2, measured in XY, as an editor holds it; the first two edges are all it has. */
+static const uint8_t edges[] = {2, 1, 0, 1, 1, 0};
+static const uint8_t inputs[] = {0}, outputs[] = {2}, measurements[] = {1, 1, 0};
+
+/* The path with the angles 0.25 and 0, which means X: both nodes are then measured in layer 1. */
+static int with_angles(void)
+{
+    static const double values[] = {0.25, 0.0, 0.0};
+    uint8_t angles[sizeof values], path[128];
+    memcpy(angles, values, sizeof values); /* on a machine that has its lowest byte first */
+    uint64_t written = bolz_write_job_angles(3, 2, edges, 4, inputs, 1, outputs, 1, measurements, 3, angles, sizeof angles, path, sizeof path);
+    tell("write with angles", written);
+    if (BOLZ_NUMBER(written) != 0)
+        return 1;
+    uint64_t found = bolz_find(path, (size_t)written, work, sizeof work, flow, sizeof flow);
+    tell("find", found);
+    if (BOLZ_NUMBER(found) != 0)
+        return 1;
+    print_bytes(flow, found);
+    uint64_t read = bolz_read_angles(path, (size_t)written, flow, sizeof flow);
+    tell("read angles", read);
+    if (BOLZ_NUMBER(read) != 0)
+        return 1;
+    print_bytes(flow, read);
+    return 0;
+}
+
 static int from_lists(void)
 {
-    static const uint8_t edges[] = {2, 1, 0, 1, 1, 0};
-    static const uint8_t inputs[] = {0}, outputs[] = {2}, measurements[] = {1, 1, 0};
     uint8_t path[64];
     tell("write with an edge twice", bolz_write_job(3, 2, edges, 6, inputs, 1, outputs, 1, measurements, 3, path, sizeof path));
     uint64_t written = bolz_write_job(3, 2, edges, 4, inputs, 1, outputs, 1, measurements, 3, path, sizeof path);
@@ -95,7 +119,7 @@ int main(void)
     both[sizeof job + 9] = 1; /* the high byte of the output's layer */
     tell("verify a wrong flow", bolz_verify(both, sizeof job + found, verdict, sizeof verdict));
 
-    if (from_lists() != 0)
+    if (from_lists() != 0 || with_angles() != 0)
         return 1;
 
     /* y = 1 and x + y = 0, each row with its right side behind two columns */

@@ -1,5 +1,6 @@
 //! The finders of modes 2 and 3: layers and sets, after reading.
 
+use crate::angles::working;
 use crate::families::{self, allowed};
 use crate::jobs::{Flow, Job, PAULI, PLANES, WIDE_LAYERS, Y, found_bytes, told_found};
 use crate::many::{self, KINDS};
@@ -120,12 +121,13 @@ fn told_rule(job: &Job, rule: &Rule) -> String {
     if job.n > SMALL { String::new() } else { format!("; by the rule: {}", told_found(&found_bytes(rule.answer().as_ref()), job.n)) }
 }
 
-fn compare(tally: &mut Tally, family: &str, job: &Job) {
+pub fn compare(tally: &mut Tally, family: &str, job: &Job) {
     let file = job.bytes();
-    let rule = Rule::new(job);
+    let working = &working(job);
+    let rule = Rule::new(working);
     let (mine, other) = (find_ours(&file), find_theirs(&file));
     let [flow, original] = [mine.as_deref().ok(), other.as_deref()].map(|bytes| Flow::read(bytes?, job.n));
-    let right = mine.as_ref().is_ok_and(|bytes| is_right(job, &rule, bytes));
+    let right = mine.as_ref().is_ok_and(|bytes| is_right(working, &rule, bytes));
     let answers = || told(job, &mine, other.as_deref());
     let detail = || answers() + &told_rule(job, &rule);
     if rule.in_old_premise() {
@@ -136,11 +138,11 @@ fn compare(tally: &mut Tally, family: &str, job: &Job) {
         tally.add(&format!("{family}, outside the old premise (by the papers' rule)"), label, may && right, detail);
         tally.add_outside();
         if label != ALIKE {
-            tally.add_otherwise(format!("mode {}, {label}", job.mode), job, answers);
+            tally.add_otherwise(format!("mode {}, {label}", working.mode), working, answers);
         }
     }
     if let Some(flow) = flow {
-        flow.sets.keys().for_each(|&u| tally.add_node(job.measured[u as usize]));
+        flow.sets.keys().for_each(|&u| tally.add_node(working.measured[u as usize]));
     }
 }
 

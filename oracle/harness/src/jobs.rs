@@ -18,6 +18,7 @@ const NAMES: [&str; 7] = ["-", "XY", "YZ", "XZ", "X", "Y", "Z"];
 pub const LAYERS: u16 = 0x0011;
 pub const WIDE_LAYERS: u16 = 0x0021;
 pub const SETS: u16 = 0x0012;
+pub const ANGLES: u16 = 0x0024;
 /// A finder's answer where there is no flow.
 pub const NO_FLOW: u16 = 0x0013;
 /// The highest layer that 0021 can hold.
@@ -32,6 +33,8 @@ pub struct Job {
     pub outputs: BTreeSet<u8>,
     /// A measurement for each node; those of outputs are not written.
     pub measured: Vec<u8>,
+    /// An angle for each node, in units of pi, where they are given; those of outputs are not written.
+    pub angles: Option<Vec<f64>>,
 }
 
 #[derive(Clone, Debug, PartialEq, Eq)]
@@ -52,7 +55,7 @@ impl Job {
     /// All nodes in XY, with no edge, input or output.
     pub fn new(n: usize, mode: u8) -> Self {
         let none = BTreeSet::new();
-        Job { n, mode, edges: BTreeSet::new(), inputs: none.clone(), outputs: none, measured: vec![XY; n] }
+        Job { n, mode, edges: BTreeSet::new(), inputs: none.clone(), outputs: none, measured: vec![XY; n], angles: None }
     }
 
     pub fn join(&mut self, a: usize, b: usize) {
@@ -70,12 +73,26 @@ impl Job {
         put_record(&mut out, 0x0003, &inputs);
         put_record(&mut out, 0x0004, &outputs);
         put_record(&mut out, 0x0005, &measured);
+        if let Some(angles) = &self.angles {
+            let written = |u: usize| if self.is_output(u) { 0.0 } else { angles[u] };
+            let payload: Vec<u8> = (0..self.n).flat_map(|u| written(u).to_le_bytes()).collect();
+            put_record(&mut out, ANGLES, &payload);
+        }
         out
+    }
+
+    fn is_output(&self, u: usize) -> bool {
+        self.outputs.contains(&(u as u8))
     }
 
     /// The measurement as a job file has it.
     fn written(&self, u: usize) -> u8 {
-        if self.outputs.contains(&(u as u8)) { 0 } else { self.measured[u] }
+        if self.is_output(u) { 0 } else { self.measured[u] }
+    }
+
+    /// The mode, and whether there are angles, for people.
+    pub fn told_mode(&self) -> String {
+        format!("mode {}{}", self.mode, if self.angles.is_some() { " with angles" } else { "" })
     }
 
     /// For people.
@@ -85,7 +102,8 @@ impl Job {
         let edges = listed(self.edges.iter().map(|(a, b)| format!("{a}-{b}")).collect());
         let measured = listed((0..self.n).map(|u| NAMES[self.written(u) as usize].to_string()).collect());
         let (n, inputs, outputs) = (self.n, nodes(&self.inputs), nodes(&self.outputs));
-        format!("n {n}, edges {edges}, inputs {inputs}, outputs {outputs}, measured {measured}")
+        let angles = self.angles.as_ref().map_or(String::new(), |angles| format!(", angles {angles:?}"));
+        format!("n {n}, edges {edges}, inputs {inputs}, outputs {outputs}, measured {measured}{angles}")
     }
 }
 

@@ -1,5 +1,6 @@
 //! What the oracle and the benchmark share: jobs, the same call on both sides, and the comparisons.
 
+pub mod angles;
 pub mod families;
 pub mod finders;
 pub mod flows;

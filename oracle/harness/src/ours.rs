@@ -1,8 +1,8 @@
 //! The proved library, called as C calls it.
 
 pub const WORK_BYTES: usize = 2048;
-/// Room for any result of finder, verifier and job writer.
-pub const OUT_BYTES: usize = 16908;
+/// Room for any result of finder, verifier, job writers and read-out.
+pub const OUT_BYTES: usize = 17702;
 /// Room for any flow file, its signal lists included.
 pub const FLOW_BYTES: usize = 21016;
 
@@ -25,6 +25,23 @@ unsafe extern "C" {
         out: *mut u8,
         out_len: usize,
     ) -> u64;
+    fn bolz_write_job_angles(
+        n: usize,
+        mode: usize,
+        edges: *const u8,
+        edges_len: usize,
+        inputs: *const u8,
+        inputs_len: usize,
+        outputs: *const u8,
+        outputs_len: usize,
+        measurements: *const u8,
+        measurements_len: usize,
+        angles: *const u8,
+        angles_len: usize,
+        out: *mut u8,
+        out_len: usize,
+    ) -> u64;
+    fn bolz_read_angles(file: *const u8, len: usize, out: *mut u8, out_len: usize) -> u64;
     fn bolz_solve(
         matrix: *mut u8,
         matrix_len: usize,
@@ -78,6 +95,18 @@ pub fn write_job(n: usize, mode: usize, lists: [&[u8]; 4], out: &mut [u8]) -> An
     let [e, i, o, m] = lists.map(|list| (list.as_ptr(), list.len()));
     // SAFETY: each pointer goes with its slice's length.
     decoded(unsafe { bolz_write_job(n, mode, e.0, e.1, i.0, i.1, o.0, o.1, m.0, m.1, out.as_mut_ptr(), out.len()) })
+}
+
+/// The lists with the angles behind them.
+pub fn write_job_angles(n: usize, mode: usize, lists: [&[u8]; 5], out: &mut [u8]) -> Answer {
+    let [e, i, o, m, a] = lists.map(|list| (list.as_ptr(), list.len()));
+    // SAFETY: each pointer goes with its slice's length.
+    decoded(unsafe { bolz_write_job_angles(n, mode, e.0, e.1, i.0, i.1, o.0, o.1, m.0, m.1, a.0, a.1, out.as_mut_ptr(), out.len()) })
+}
+
+pub fn read_angles(file: &[u8], out: &mut [u8]) -> Answer {
+    // SAFETY: each pointer goes with its slice's length.
+    decoded(unsafe { bolz_read_angles(file.as_ptr(), file.len(), out.as_mut_ptr(), out.len()) })
 }
 
 pub fn solve(matrix: &mut [u8], bits: &mut [u8], rows: usize, cols: usize, sides: usize, side: usize) -> Answer {

@@ -1,11 +1,13 @@
 //! The original, from bytes to bytes.
 
-use crate::jobs::{CAUSAL, LAYERS, NO_FLOW, PLANES, Record, SETS, X, XY, XZ, Y, YZ, Z, layers_of, put_record, records};
+use crate::angles::inferred_bytes;
+use crate::jobs::{ANGLES, CAUSAL, LAYERS, NO_FLOW, PAULI, PLANES, Record, SETS, X, XY, XZ, Y, YZ, Z, layers_of, put_record, records};
 use hashbrown::HashMap;
 use original::common::{FlowValidationError, Graph, Layer, Nodes};
 use original::flow;
 use original::gflow::{self, Plane};
 use original::pflow::{self, PPlane};
+use std::borrow::Cow;
 
 type Sets = HashMap<usize, Nodes>;
 
@@ -14,7 +16,7 @@ struct Job<'a> {
     graph: Graph,
     inputs: Nodes,
     outputs: Nodes,
-    measured: &'a [u8],
+    measured: Cow<'a, [u8]>,
 }
 
 fn set_of(bytes: &[u8]) -> Nodes {
@@ -26,7 +28,8 @@ fn records_of(file: &[u8]) -> Vec<Record<'_>> {
     records(file).expect("the file ends with a record")
 }
 
-/// The job in the first five records; the bytes are a valid job's.
+/// The job in the first five records, the bytes being a valid job's; with angles behind them the job that these come to, since the original
+/// has none.
 fn read<'a>(records: &[Record<'a>]) -> Job<'a> {
     let [opening, edges, inputs, outputs, measured] = [0, 1, 2, 3, 4].map(|at| records[at].1);
     let mut graph = vec![Nodes::new(); opening[0] as usize];
@@ -35,7 +38,11 @@ fn read<'a>(records: &[Record<'a>]) -> Job<'a> {
         graph[a].insert(b);
         graph[b].insert(a);
     }
-    Job { mode: opening[1], graph, inputs: set_of(inputs), outputs: set_of(outputs), measured }
+    let (mode, measured) = match records.get(5) {
+        Some((ANGLES, angles)) => (PAULI, inferred_bytes(measured, angles).into()),
+        _ => (opening[1], measured.into()),
+    };
+    Job { mode, graph, inputs: set_of(inputs), outputs: set_of(outputs), measured }
 }
 
 /// The measurement of each node that has one.
@@ -85,7 +92,7 @@ fn write(found: Option<(Sets, Layer)>, out: &mut Vec<u8>) {
 /// How many nodes and measurements the job in the records has, once the original's graph, sets and table are made of them.
 fn made(records: &[Record]) -> usize {
     let job = read(records);
-    let measured = if job.mode == PLANES { table(job.measured, plane).len() } else { table(job.measured, pauli).len() };
+    let measured = if job.mode == PLANES { table(&job.measured, plane).len() } else { table(&job.measured, pauli).len() };
     job.graph.len() + measured
 }
 
@@ -112,8 +119,8 @@ pub fn find(file: &[u8], out: &mut Vec<u8>) {
     let job = read(&records_of(file));
     let found = match job.mode {
         CAUSAL => find_causal(job),
-        PLANES => gflow::find(job.graph, job.inputs, job.outputs, table(job.measured, plane)),
-        _ => pflow::find(job.graph, job.inputs, job.outputs, table(job.measured, pauli)),
+        PLANES => gflow::find(job.graph, job.inputs, job.outputs, table(&job.measured, plane)),
+        _ => pflow::find(job.graph, job.inputs, job.outputs, table(&job.measured, pauli)),
     };
     write(found, out);
 }
@@ -130,7 +137,8 @@ fn sets_of(mut bytes: &[u8]) -> Sets {
 
 /// The flow in the two records behind the job's.
 fn flow_of(records: &[Record]) -> (Sets, Layer) {
-    (sets_of(records[6].1), layers_of(records[5]).expect("the layers are 0011 or 0021"))
+    let [.., layers, (_, sets)] = records else { unreachable!("a flow file is behind the job") };
+    (sets_of(sets), layers_of(*layers).expect("the layers are 0011 or 0021"))
 }
 
 /// Document 01's number for the original's error, with a and b.
@@ -157,8 +165,8 @@ pub fn verify(file: &[u8]) -> (u8, usize, usize) {
             let one = |(u, set): (usize, Nodes)| (u, *set.iter().next().expect("one member, by question 9"));
             flow::verify((sets.into_iter().map(one).collect(), layers), job.graph, job.inputs, job.outputs)
         }
-        PLANES => gflow::verify((sets, layers), job.graph, job.inputs, job.outputs, table(job.measured, plane)),
-        _ => pflow::verify((sets, layers), job.graph, job.inputs, job.outputs, table(job.measured, pauli)),
+        PLANES => gflow::verify((sets, layers), job.graph, job.inputs, job.outputs, table(&job.measured, plane)),
+        _ => pflow::verify((sets, layers), job.graph, job.inputs, job.outputs, table(&job.measured, pauli)),
     };
     match verdict {
         Ok(()) => (0, 0, 0),

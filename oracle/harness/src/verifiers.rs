@@ -84,13 +84,13 @@ pub fn all_small(tally: &mut Tally, random: &mut Random) {
 }
 
 /// A job's flow as found, and with each kind of damage.
-fn around_found(tally: &mut Tally, job: &Job, random: &mut Random) {
+pub fn around_found(tally: &mut Tally, job: &Job, random: &mut Random) {
     let Some(whole) = found(job) else { return };
-    let mode = job.mode;
-    compare_all(tally, &format!("verifier, mode {mode}, found flows"), job, &whole, random);
+    let mode = job.told_mode();
+    compare_all(tally, &format!("verifier, {mode}, found flows"), job, &whole, random);
     for kind in DAMAGES {
         if let Some(flow) = damaged(kind, job, &whole, random) {
-            compare_one(tally, &format!("verifier, mode {mode}, {kind}"), job, &flow, random);
+            compare_one(tally, &format!("verifier, {mode}, {kind}"), job, &flow, random);
         }
     }
 }
@@ -101,9 +101,18 @@ pub fn random_ones(tally: &mut Tally, random: &mut Random, count: usize) {
         let mode = MODES[i / KINDS.len() % MODES.len()];
         let job = many::job(kind, mode, random);
         around_found(tally, &job, random);
-        let n = 1 + random.below(BY_CHANCE);
+        let n = small_size(random);
         let small = many::job_of(kind, mode, n, random);
-        let flow = by_chance(&small, random);
-        compare_one(tally, &format!("verifier, mode {mode}, flows by chance"), &small, &flow, random);
+        around_chance(tally, &small, random);
     }
+}
+
+/// How many nodes a job has whose flow is made by chance.
+pub fn small_size(random: &mut Random) -> usize {
+    1 + random.below(BY_CHANCE)
+}
+
+pub fn around_chance(tally: &mut Tally, job: &Job, random: &mut Random) {
+    let flow = by_chance(job, random);
+    compare_one(tally, &format!("verifier, {}, flows by chance", job.told_mode()), job, &flow, random);
 }

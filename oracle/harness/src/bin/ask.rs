@@ -1,12 +1,9 @@
 //! What the original answers on a file, and what ours does: a job is searched, a job with a flow file behind it is judged.
 
 use harness::finders::find_theirs;
-use harness::jobs::{records, told_found};
+use harness::jobs::{SETS, records, told_found};
 use harness::ours::{self, Answer, OUT_BYTES, WORK_BYTES};
 use harness::theirs;
-
-/// The records of a job; a flow file behind it adds two.
-const JOB_RECORDS: usize = 5;
 
 fn refused(number: u8, a: usize, b: usize) -> String {
     format!("refused {number}, a = {a}, b = {b}")
@@ -37,7 +34,8 @@ fn main() {
     for name in std::env::args().skip(1) {
         let file = std::fs::read(&name).expect("the file can be read");
         let parts = records(&file).expect("the file ends with a record");
-        let [other, mine] = if parts.len() == JOB_RECORDS { searched(&file, parts[0].1[0].into()) } else { judged(&file) };
+        let has_flow = parts.iter().any(|(kind, _)| *kind == SETS);
+        let [other, mine] = if has_flow { judged(&file) } else { searched(&file, parts[0].1[0].into()) };
         println!("{name}: original: {other}; ours: {mine}");
     }
 }

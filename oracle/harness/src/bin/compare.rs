@@ -2,7 +2,7 @@
 
 use harness::random::Random;
 use harness::tally::Tally;
-use harness::{finders, solving, verifiers};
+use harness::{angles, finders, solving, verifiers};
 use std::process::ExitCode;
 
 const SEED: u64 = 20260101;
@@ -14,6 +14,7 @@ const MATRICES: usize = 10_000;
 const WRONG_SHAPES: usize = 100;
 const NO_COLUMN: usize = 10_000;
 const TOO_MANY: usize = 4;
+const ANGLED: usize = 20_000;
 
 fn main() -> ExitCode {
     let seed = std::env::args().nth(1).map_or(SEED, |word| word.parse().expect("the seed is a number"));
@@ -32,5 +33,7 @@ fn main() -> ExitCode {
     solving::wrong_shapes(tally, random, WRONG_SHAPES);
     solving::no_column(tally, random, NO_COLUMN);
     finders::random_lean(tally, random, LEAN_JOBS);
+    angles::all_small(tally, random);
+    angles::random_ones(tally, random, ANGLED);
     if tally.report() { ExitCode::SUCCESS } else { ExitCode::FAILURE }
 }
