@@ -5,6 +5,7 @@
      pointer may be null.
    - A buffer that is not const overlaps no other buffer of the same call.
    - A call needs stack: no more than the sizes below (measured; `bash examples/c/run` measures again and compares).
+   - The role is what the caller says; the library does not check who the caller is.
 
    What a call leaves. A refusal leaves every buffer as it was, but RESULT_TOO_LONG (20) leaves the finder's work buffer all zero. An answer leaves
    the result at the front of the result buffer, the bytes behind it as they were, and the finder's work buffer all zero. No call allocates, and
@@ -22,8 +23,8 @@ extern "C" {
 /* Lengths are 64 bits wide. */
 typedef char bolz_size_t_has_64_bits[sizeof(size_t) == 8 ? 1 : -1];
 
-/* Grows with each change of a file's format, of a size or of a refusal. */
-#define BOLZ_VERSION 6
+/* Grows with each change of a call, of a file's format, of a size or of a refusal. */
+#define BOLZ_VERSION 7
 
 #define BOLZ_MOST_NODES 128
 #define BOLZ_ROW_BYTES 16      /* a row of the work matrix, and the solver's out bits, lowest bit first */
@@ -32,6 +33,10 @@ typedef char bolz_size_t_has_64_bits[sizeof(size_t) == 8 ? 1 : -1];
 #define BOLZ_MOST_OUTPUT 16908 /* no result of finder or verifier is longer */
 #define BOLZ_MOST_FLOW 21016   /* no flow file is longer, its signal lists included */
 #define BOLZ_MOST_JOB 17702    /* no job file is longer, its angles included */
+
+/* Roles, the first argument of every call but the solver's, which takes no job. */
+#define BOLZ_OWNER 0    /* may do everything */
+#define BOLZ_OPERATOR 1 /* may not read angles out or write them; any other number is an operator too, and all 64 bits count */
 
 /* The stack that a call needs, in bytes, measured with some room. */
 #define BOLZ_FIND_STACK 20480
@@ -66,7 +71,8 @@ enum bolz_refusal {
     BOLZ_RESULT_TOO_LONG = 20,
     BOLZ_GIVEN_TWICE = 21,
     BOLZ_WRONG_SIGNALS = 22,
-    BOLZ_WRONG_ANGLE = 23
+    BOLZ_WRONG_ANGLE = 23,
+    BOLZ_NOT_THE_OWNER = 24
 };
 
 /* A result is a refusal if its number is not 0: number * 2^32 + a * 2^16 + b. */
@@ -101,46 +107,54 @@ static inline const char *bolz_words(unsigned number)
     case BOLZ_GIVEN_TWICE: return "a loop, or an edge or node given twice";
     case BOLZ_WRONG_SIGNALS: return "the signal lists are not those of the flow";
     case BOLZ_WRONG_ANGLE: return "an angle is not from 0 to below 2, or at an output not positive zero";
+    case BOLZ_NOT_THE_OWNER: return "only the owner may read angles out or write them";
     default: return "unknown question";
     }
 }
 
 /* A job in mode 2 may have a last record 0024 with an angle for each node, positive zero at outputs. It is then searched and verified in mode 3 with the
    measurements that the angles infer: exactly 0 or 1 means X in XY and Z in YZ and XZ, exactly 0.5 or 1.5 means Y in XY and YZ and X in XZ, and other
-   angles keep their plane. */
+   angles keep their plane.
+
+   The angles are the owner's algorithm. An operator gets NOT_THE_OWNER (24) from bolz_read_angles and bolz_write_job_angles before any other question,
+   whatever the bytes. Every other call is open to both, and the role changes nothing in it. Two jobs that pass reading, differ only in angles and have
+   the same inferred measurements give an operator the same result and the same bytes in every buffer. What does show is that there are angles, and
+   which of them are 0 or 1, which 0.5 or 1.5, and which are others; and a job file has its angles in plain bytes. */
 
 /* The finder: a job file in, a flow file with layers of kind 0021 or 0013 ('no flow') out. The count of bytes written, or a refusal. */
-uint64_t bolz_find(const uint8_t *file, size_t file_len, uint8_t *work, size_t work_len, uint8_t *out, size_t out_len);
+uint64_t bolz_find(uint64_t role, const uint8_t *file, size_t file_len, uint8_t *work, size_t work_len, uint8_t *out, size_t out_len);
 
 /* The verifier: a job file followed by a flow file in, its layers of kind 0021, two bytes each, or 0011, a byte each, with both signal lists (0022
    and 0023) or neither; 0014 ('accepted') out. The count of bytes written, or a refusal. */
-uint64_t bolz_verify(const uint8_t *file, size_t file_len, uint8_t *out, size_t out_len);
+uint64_t bolz_verify(uint64_t role, const uint8_t *file, size_t file_len, uint8_t *out, size_t out_len);
 
 /* Adds the signal lists: a job file followed by a flow file in, the flow file with both lists out, built anew where they stand; layers and sets are
    kept byte for byte, and not verified. A list is n rows of n bits, lowest bit first, each row padded with zeros to a whole byte. Row j, of the nodes
    whose outcomes flip node j, has bit i where i is not j and j lies in the set of i (0022), or has an odd number of neighbours in it (0023).
    The count of bytes written, or a refusal. */
-uint64_t bolz_add_signals(const uint8_t *file, size_t file_len, uint8_t *out, size_t out_len);
+uint64_t bolz_add_signals(uint64_t role, const uint8_t *file, size_t file_len, uint8_t *out, size_t out_len);
 
 /* Edits one node's set: a job file followed by a flow file in, and an entry as in 0012: node, count, members; out the flow file with that entry for the
    node's own, or put in where it had none. In stored signal lists the node's bits follow the new set and all others keep, so lists that were those of
    the flow still are. A count of 0 leaves an entry with no member. The new flow is not verified. The count of bytes written, or a refusal. */
-uint64_t bolz_edit_set(const uint8_t *file, size_t file_len, const uint8_t *entry, size_t entry_len, uint8_t *out, size_t out_len);
+uint64_t bolz_edit_set(uint64_t role, const uint8_t *file, size_t file_len, const uint8_t *entry, size_t entry_len, uint8_t *out, size_t out_len);
 
 /* The job writer: the lists of an editor in, the job file out, each list in it ascending; the same job in another order gives the same bytes.
    n is the number of nodes. Edges are pairs of nodes, either end first, in any order; inputs and outputs are nodes in any order; measurements are a byte for
    each node, 0 at outputs, as in the file. The count of bytes written, or a refusal. */
-uint64_t bolz_write_job(size_t n, size_t mode, const uint8_t *edges, size_t edges_len, const uint8_t *inputs, size_t inputs_len,
+uint64_t bolz_write_job(uint64_t role, size_t n, size_t mode, const uint8_t *edges, size_t edges_len, const uint8_t *inputs, size_t inputs_len,
                         const uint8_t *outputs, size_t outputs_len, const uint8_t *measurements, size_t measurements_len,
                         uint8_t *out, size_t out_len);
 
-/* The same with an angle for each node, BOLZ_ANGLE_BYTES each, which go into the file bit for bit as record 0024; in mode 2 only. */
-uint64_t bolz_write_job_angles(size_t n, size_t mode, const uint8_t *edges, size_t edges_len, const uint8_t *inputs, size_t inputs_len,
+/* The same with an angle for each node, BOLZ_ANGLE_BYTES each, which go into the file bit for bit as record 0024; in mode 2 only, and for the owner
+   only. */
+uint64_t bolz_write_job_angles(uint64_t role, size_t n, size_t mode, const uint8_t *edges, size_t edges_len, const uint8_t *inputs, size_t inputs_len,
                                const uint8_t *outputs, size_t outputs_len, const uint8_t *measurements, size_t measurements_len,
                                const uint8_t *angles, size_t angles_len, uint8_t *out, size_t out_len);
 
-/* Reads the angles out: a job file in, its record 0024, head and all, out; NO_RECORD (1) where it has none. The count of bytes written, or a refusal. */
-uint64_t bolz_read_angles(const uint8_t *file, size_t file_len, uint8_t *out, size_t out_len);
+/* Reads the angles out, for the owner only: a job file in, its record 0024, head and all, out; NO_RECORD (1) where it has none. The count of bytes
+   written, or a refusal. */
+uint64_t bolz_read_angles(uint64_t role, const uint8_t *file, size_t file_len, uint8_t *out, size_t out_len);
 
 /* The solver: matrix of rows times 16 bytes, cols coefficients, which may be none, and then `sides` right sides in each row; it is eliminated in place.
    1: right side `side` has a solution, which is in `bits`; 0: it has none, and `bits` are as they were; or a refusal. */

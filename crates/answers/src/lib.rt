@@ -40,6 +40,9 @@ impl Refusal {
 
     // An angle that is below 0, not below 2 or not a number, or that of an output, other than positive zero.
     pub const WRONG_ANGLE: Refusal = Refusal(23, 0, 0);
+
+    // Angles, which are for the owner, read out or written by another.
+    pub const NOT_THE_OWNER: Refusal = Refusal(24, 0, 0);
 }
 
 // The questions of the verifier, by number: each names its node, a, and 15 and 18 a layer or a node, b.

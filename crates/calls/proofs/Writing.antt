@@ -19,19 +19,19 @@ use Rattle.records.proofs.NodeLists.{once-count}
 use Rattle.records.proofs.PairLists.{edges-count}
 use Rattle.records.proofs.JobLists.{lists-asked}
 use Rattle.records.proofs.WritingJobs.{set-members, set-count}
-use Rattle.demands.specs.Calls.{Outcome, put, writtenJob, writeJobAsks, writeJobCall}
+use Rattle.demands.specs.Calls.{owner, Outcome, put, writtenJob, writeJobAsks, writeJobCall}
 
 -- ---- the call, by what is answered
 module _ (l : JobLists) (out : List ℕ) where
-  pub write-refused : (r : Refusal) → listsAsk l ≡ refuses r → _≡_ {A = Outcome} (record { answer = refuses r; work = []; out = out }) (writeJobCall l out)
+  pub write-refused : (r : Refusal) → listsAsk l ≡ refuses r → _≡_ {A = Outcome} (record { answer = refuses r; work = []; out = out }) (writeJobCall owner l out)
   unfolding writeJobAsks writeJobCall
   write-refused r e = rw e
 
-  pub write-twice : listsAsk l ≡ gives true → givenOnce l ≡ false → _≡_ {A = Outcome} (record { answer = refuses (refusal 21); work = []; out = out }) (writeJobCall l out)
+  pub write-twice : listsAsk l ≡ gives true → givenOnce l ≡ false → _≡_ {A = Outcome} (record { answer = refuses (refusal 21); work = []; out = out }) (writeJobCall owner l out)
   unfolding writeJobAsks writeJobCall
   write-twice e f = rw (e, f)
 
-  pub write-goes : listsAsk l ≡ gives true → givenOnce l ≡ true → put [] (writtenJob l) out ≡ writeJobCall l out
+  pub write-goes : listsAsk l ≡ gives true → givenOnce l ≡ true → put [] (writtenJob l) out ≡ writeJobCall owner l out
   unfolding writeJobAsks writeJobCall
   write-goes e f = rw (e, f)
 

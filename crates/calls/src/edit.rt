@@ -17,6 +17,7 @@ ghost use Rattle.records.specs.BitRows.{rowWidth, withColumn};
 ghost use Rattle.records.specs.SignalLists.{editedList, edited};
 ghost use Rattle.records.specs.Views.{bytesAt, jobAt, flowAt, pairIf};
 ghost use Rattle.demands.specs.Calls.{put, editSetCall};
+ghost use Rattle.demands.specs.Roles.{editing, called};
 ghost use Rattle.calls.specs.Loaded.{flippedBy, ReadAs, FromNode, EntryPlace, editedWith};
 ghost use Rattle.calls.specs.Replies.{replyOf};
 use crate::Reply;
@@ -211,9 +212,10 @@ fn edit_both(file: &[u8], job: JobPlaces, flow: FlowPlaces, entry: &[u8], out: &
     }
 }
 
-// A job and the flow file behind it, and one entry: the flow file with that entry goes to the lent buffer; a refusal leaves it untouched.
-pub fn edit_set(file: &[u8], entry: &[u8], out: &mut [u8]) -> Reply
-    ensures { λ r. ⌜ record { answer = replyOf r; work = []; out = now (out .exit) } ≡ editSetCall (now (file .entry)) (now (entry .entry)) (now (out .entry)) ⌝ }
+// A job and the flow file behind it, and one entry: the flow file with that entry goes to the lent buffer; a refusal leaves it untouched. Open
+// to every role.
+pub fn edit_set(role: u64, file: &[u8], entry: &[u8], out: &mut [u8]) -> Reply
+    ensures { λ r. ⌜ record { answer = replyOf r; work = []; out = now (out .exit) } ≡ called role (editing (now (entry .entry)) (now (out .entry))) (now (file .entry)) ⌝ }
 {
     match read_both(file) {
         BothRead::Both(job, flow) => edit_both(file, job, flow, entry, out),

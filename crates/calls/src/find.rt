@@ -15,6 +15,7 @@ ghost use Rattle.records.specs.Splice.{putFront, putAnswer};
 ghost use Rattle.records.specs.Writing.{flowBytes};
 ghost use Rattle.solver.specs.Solver.{workBytes};
 ghost use Rattle.demands.specs.Calls.{search as searchOfMode, foundBytes, put, findCall};
+ghost use Rattle.demands.specs.Roles.{finding, called};
 ghost use Rattle.calls.specs.Loaded.{jobLoaded};
 ghost use Rattle.calls.specs.Replies.{replyOf, recordsFor};
 use crate::Reply;
@@ -119,8 +120,9 @@ fn find_read(file: &[u8], job: JobPlaces, work: &mut [u8], out: &mut [u8]) -> Re
     find_job(file, job, work, out)
 }
 
-pub fn find(file: &[u8], work: &mut [u8], out: &mut [u8]) -> Reply
-    ensures { λ r. ⌜ record { answer = replyOf r; work = now (work .exit); out = now (out .exit) } ≡ findCall (now (file .entry)) (now (work .entry)) (now (out .entry)) ⌝ }
+// Open to every role.
+pub fn find(role: u64, file: &[u8], work: &mut [u8], out: &mut [u8]) -> Reply
+    ensures { λ r. ⌜ record { answer = replyOf r; work = now (work .exit); out = now (out .exit) } ≡ called role (finding (now (work .entry)) (now (out .entry))) (now (file .entry)) ⌝ }
 {
     match read_job(file) {
         JobRead::Job(job) => find_read(file, job, work, out),

@@ -20,6 +20,11 @@ use answers::Refusal;
 use records::writer::Put;
 use records::writer::write_record;
 
+// Every entry carries the role of its caller: 0 is the owner, any other number an operator.
+pub const OWNER: u64 = 0;
+
+pub const OPERATOR: u64 = 1;
+
 // What an entry answers: how many bytes it wrote, or why it was refused.
 pub enum Reply {
     Wrote(usize),

@@ -6,8 +6,10 @@ ghost use lib.ListN.{length};
 ghost use Rattle.answers.specs.Answer.{gives};
 ghost use Rattle.records.specs.JobFile.{readJob};
 ghost use Rattle.records.specs.Views.{jobAt};
-ghost use Rattle.demands.specs.Calls.{readAnglesCall};
+ghost use Rattle.demands.specs.Calls.{owner, readAnglesCall};
+ghost use Rattle.demands.specs.Roles.{readingOut, called};
 ghost use Rattle.calls.specs.Replies.{replyOf};
+use crate::OWNER;
 use crate::Reply;
 use crate::answered;
 use answers::Refusal;
@@ -21,7 +23,7 @@ use records::writer::write_record;
 // Is there a record of angles in its place (1)? Is nothing left (8)?
 fn read_out(file: &[u8], job: JobPlaces, out: &mut [u8]) -> Reply
     requires { ⌜ (readJob (now file) ≡ gives (jobAt (now file) job)) × (job .end ≤ length (now file)) ⌝ }
-    ensures { λ r. ⌜ record { answer = replyOf r; work = []; out = now (out .exit) } ≡ readAnglesCall (now (file .entry)) (now (out .entry)) ⌝ }
+    ensures { λ r. ⌜ record { answer = replyOf r; work = []; out = now (out .exit) } ≡ readAnglesCall owner (now (file .entry)) (now (out .entry)) ⌝ }
 {
     if !job.angled {
         return Reply::Refused(Refusal::NO_RECORD);
@@ -33,10 +35,13 @@ fn read_out(file: &[u8], job: JobPlaces, out: &mut [u8]) -> Reply
     answered(write_record(out, KIND_ANGLES, payload(file, angles)))
 }
 
-// The record of angles, with its head, goes to the lent buffer; a refusal leaves it untouched.
-pub fn read_angles(file: &[u8], out: &mut [u8]) -> Reply
-    ensures { λ r. ⌜ record { answer = replyOf r; work = []; out = now (out .exit) } ≡ readAnglesCall (now (file .entry)) (now (out .entry)) ⌝ }
+// Is it the owner who asks (24)? Then the record of angles, with its head, goes to the lent buffer; a refusal leaves it untouched.
+pub fn read_angles(role: u64, file: &[u8], out: &mut [u8]) -> Reply
+    ensures { λ r. ⌜ record { answer = replyOf r; work = []; out = now (out .exit) } ≡ called role (readingOut (now (out .entry))) (now (file .entry)) ⌝ }
 {
+    if role != OWNER {
+        return Reply::Refused(Refusal::NOT_THE_OWNER);
+    }
     match read_job(file) {
         JobRead::Job(job) => read_out(file, job, out),
         JobRead::Refused(q) => Reply::Refused(q),

@@ -14,7 +14,8 @@ ghost use Rattle.records.specs.BitRows.{byteBits, rowWidth, withColumn};
 ghost use Rattle.records.specs.SignalLists.{editedList, withSignals};
 ghost use Rattle.records.specs.Encoding.{flowFileBytes};
 ghost use Rattle.records.specs.Views.{bytesAt, jobAt, flowAt};
-ghost use Rattle.demands.specs.Calls.{put, addSignalsCall};
+ghost use Rattle.demands.specs.Calls.{put};
+ghost use Rattle.demands.specs.Roles.{addingLists, called};
 ghost use Rattle.calls.specs.Loaded.{flippedBy, listFor, storedMatch, setBit, setBits, digitsFrom, oddAmong, EntriesFor, ReadAs};
 ghost use Rattle.calls.specs.Replies.{replyOf};
 use crate::Reply;
@@ -221,9 +222,10 @@ fn add_read(file: &[u8], job: JobPlaces, flow: FlowPlaces, out: &mut [u8]) -> Re
     answered(write_signals(out, file, kept, &rows[..size], &odds[..size]))
 }
 
-// A job and the flow file behind it: the flow file with its signal lists goes to the lent buffer; a refusal leaves it untouched.
-pub fn add_signals(file: &[u8], out: &mut [u8]) -> Reply
-    ensures { λ r. ⌜ record { answer = replyOf r; work = []; out = now (out .exit) } ≡ addSignalsCall (now (file .entry)) (now (out .entry)) ⌝ }
+// A job and the flow file behind it: the flow file with its signal lists goes to the lent buffer; a refusal leaves it untouched. Open to
+// every role.
+pub fn add_signals(role: u64, file: &[u8], out: &mut [u8]) -> Reply
+    ensures { λ r. ⌜ record { answer = replyOf r; work = []; out = now (out .exit) } ≡ called role (addingLists (now (out .entry))) (now (file .entry)) ⌝ }
 {
     match read_both(file) {
         BothRead::Both(job, flow) => add_read(file, job, flow, out),

@@ -4,7 +4,8 @@ ghost use mathlib.Core.List.{[]};
 ghost use Prim.Native.Nat.{_≤_};
 ghost use Rattle.nodes.specs.NodeSet.{capacity};
 ghost use Rattle.verdicts.specs.Verdict.{checkDefinition, verify as verifyOf};
-ghost use Rattle.demands.specs.Calls.{verdict, judge, verifyAsks, verifyCall};
+ghost use Rattle.demands.specs.Calls.{verdict, judge, verifyAsks};
+ghost use Rattle.demands.specs.Roles.{verifying, called};
 ghost use Rattle.records.specs.Views.{jobAt, flowAt};
 ghost use Rattle.calls.specs.Loaded.{jobLoaded, flowIn, askedOf, ReadAs};
 ghost use Rattle.calls.specs.Replies.{replyOf};
@@ -108,9 +109,9 @@ fn verify_file(file: &[u8]) -> Asked
 }
 
 // Does the flow file behind the job satisfy the job's mode? The answer 0014 goes to the lent buffer; a refusal
-// leaves it untouched.
-pub fn verify(file: &[u8], out: &mut [u8]) -> Reply
-    ensures { λ r. ⌜ record { answer = replyOf r; work = []; out = now (out .exit) } ≡ verifyCall (now (file .entry)) (now (out .entry)) ⌝ }
+// leaves it untouched. Open to every role.
+pub fn verify(role: u64, file: &[u8], out: &mut [u8]) -> Reply
+    ensures { λ r. ⌜ record { answer = replyOf r; work = []; out = now (out .exit) } ≡ called role (verifying (now (out .entry))) (now (file .entry)) ⌝ }
 {
     match verify_file(file) {
         Asked::Passed => write_bare(out, KIND_ACCEPTED),

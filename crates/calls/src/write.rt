@@ -6,8 +6,10 @@ ghost use mathlib.Core.List.{[]};
 ghost use Rattle.answers.specs.Answer.{gives};
 ghost use Rattle.records.specs.JobLists.{given, listsAsk};
 ghost use Rattle.records.specs.Views.{someIf};
-ghost use Rattle.demands.specs.Calls.{writeJobCall};
+ghost use Rattle.demands.specs.Calls.{owner, writeJobCall};
+ghost use Rattle.demands.specs.Roles.{writing, called};
 ghost use Rattle.calls.specs.Replies.{replyOf};
+use crate::OWNER;
 use crate::Reply;
 use crate::answered;
 use crate::load::load_graph;
@@ -34,7 +36,7 @@ fn write_asked(
     out: &mut [u8],
 ) -> Reply
     requires { ⌜ listsAsk (given n mode (now edges) (now inputs) (now outputs) (now measurements) (someIf angled (now angles))) ≡ gives true ⌝ }
-    ensures { λ r. ⌜ record { answer = replyOf r; work = []; out = now (out .exit) } ≡ writeJobCall (given n mode (now (edges .entry)) (now (inputs .entry)) (now (outputs .entry)) (now (measurements .entry)) (someIf angled (now (angles .entry)))) (now (out .entry)) ⌝ }
+    ensures { λ r. ⌜ record { answer = replyOf r; work = []; out = now (out .exit) } ≡ writeJobCall owner (given n mode (now (edges .entry)) (now (inputs .entry)) (now (outputs .entry)) (now (measurements .entry)) (someIf angled (now (angles .entry)))) (now (out .entry)) ⌝ }
 {
     let nodes = NodeSet::below(n);
     let mut graph = [0u64; TABLE_WORDS];
@@ -76,7 +78,7 @@ fn write_lists(
     angles: &[u8],
     out: &mut [u8],
 ) -> Reply
-    ensures { λ r. ⌜ record { answer = replyOf r; work = []; out = now (out .exit) } ≡ writeJobCall (given n mode (now (edges .entry)) (now (inputs .entry)) (now (outputs .entry)) (now (measurements .entry)) (someIf angled (now (angles .entry)))) (now (out .entry)) ⌝ }
+    ensures { λ r. ⌜ record { answer = replyOf r; work = []; out = now (out .exit) } ≡ writeJobCall owner (given n mode (now (edges .entry)) (now (inputs .entry)) (now (outputs .entry)) (now (measurements .entry)) (someIf angled (now (angles .entry)))) (now (out .entry)) ⌝ }
 {
     match ask_lists(
         n,
@@ -103,7 +105,9 @@ fn write_lists(
     }
 }
 
+// Without angles it is open to every role.
 pub fn write_job(
+    role: u64,
     n: usize,
     mode: usize,
     edges: &[u8],
@@ -112,7 +116,7 @@ pub fn write_job(
     measurements: &[u8],
     out: &mut [u8],
 ) -> Reply
-    ensures { λ r. ⌜ record { answer = replyOf r; work = []; out = now (out .exit) } ≡ writeJobCall (given n mode (now (edges .entry)) (now (inputs .entry)) (now (outputs .entry)) (now (measurements .entry)) none) (now (out .entry)) ⌝ }
+    ensures { λ r. ⌜ record { answer = replyOf r; work = []; out = now (out .exit) } ≡ called role (writing (now (out .entry))) (given n mode (now (edges .entry)) (now (inputs .entry)) (now (outputs .entry)) (now (measurements .entry)) none) ⌝ }
 {
     write_lists(
         n,
@@ -127,8 +131,9 @@ pub fn write_job(
     )
 }
 
-// With an angle for each node, 8 bytes each; in mode 2 only.
+// With an angle for each node, 8 bytes each; in mode 2 only. Is it the owner who writes them (24)?
 pub fn write_job_angles(
+    role: u64,
     n: usize,
     mode: usize,
     edges: &[u8],
@@ -138,8 +143,11 @@ pub fn write_job_angles(
     angles: &[u8],
     out: &mut [u8],
 ) -> Reply
-    ensures { λ r. ⌜ record { answer = replyOf r; work = []; out = now (out .exit) } ≡ writeJobCall (given n mode (now (edges .entry)) (now (inputs .entry)) (now (outputs .entry)) (now (measurements .entry)) (some (now (angles .entry)))) (now (out .entry)) ⌝ }
+    ensures { λ r. ⌜ record { answer = replyOf r; work = []; out = now (out .exit) } ≡ called role (writing (now (out .entry))) (given n mode (now (edges .entry)) (now (inputs .entry)) (now (outputs .entry)) (now (measurements .entry)) (some (now (angles .entry)))) ⌝ }
 {
+    if role != OWNER {
+        return Reply::Refused(Refusal::NOT_THE_OWNER);
+    }
     write_lists(
         n,
         mode,

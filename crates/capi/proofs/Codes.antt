@@ -3,11 +3,12 @@ use Prim.Native.Nat.{ℕ, zero, suc, _≤_, _<_}
 use mathlib.Core.Path.{_≡_, refl}
 use mathlib.Core.Bool.{Bool, true, false, false≢true}
 use mathlib.Core.Option.{Option, none, some}
-use mathlib.Core.List.{List, [], _∷_}
-use mathlib.Core.Logic.{_↔_}
+use mathlib.Core.List.{List, []}
+use mathlib.Core.Logic.{_↔_, _≢_, _⊎_, inl, inr}
 use native.Mathlib.Omega.{arith}
 use lib.ListN.{length}
 use Rattle.nodes.specs.Lists.{has}
+use Rattle.nodes.specs.Options.{isSome}
 use Rattle.answers.specs.Answer.{Refusal, Answer, gives, refuses, asks, _>>_}
 use Rattle.answers.proofs.Answer.{never}
 use Rattle.solver.specs.Solver as Solver
@@ -20,9 +21,11 @@ use Rattle.records.specs.JobLists.{JobLists}
 use Rattle.records.proofs.Records.{written-length}
 use Rattle.records.proofs.Encoding.{job-asked}
 use Rattle.records.proofs.JobLists.{ascending-length, record-few}
-use Rattle.demands.specs.Calls.{Both, readBoth, editAsks, readAnglesAsks, put, findAsks, findOutcome, findCall, verifyAsks, outcome, verifyCall, writtenJob, writeJobAsks, writeJobCall, addedBytes, addSignalsCall, editedBytes, editSetCall, readAnglesCall}
+use Rattle.demands.specs.Roles.{writing, readingOut, turnedAway}
+use Rattle.demands.specs.Calls.{owner, Both, readBoth, editAsks, readAnglesAsks, put, findAsks, findOutcome, findCall, verifyAsks, outcome, verifyCall, writtenJob, writeJobAsks, writeJobCall, addedBytes, addSignalsCall, editedBytes, editSetCall, readAnglesCall}
 use Rattle.demands.proofs.Demand.{found-fits, asked-find}
-use Rattle.demands.proofs.JobWriter.{write-job-asked, write-job-refuses}
+use Rattle.demands.proofs.Roles.{owners-only, as-the-owner}
+use Rattle.demands.proofs.JobWriter.{writerNumbers, write-job-asked, write-job-refuses}
 use Rattle.capi.specs.Codes.{numberUnit, answerCode, coded, counted, codedBits, Tells, TellsWhy}
 use Rattle.demands.proofs.Refusals.{Numbered, AllNumbered, given, asks-then, find-numbered, verify-numbered, both-numbered, edit-numbered, read-angles-numbered}
 use Rattle.demands.proofs.Signals.{added-fits, edited-fits}
@@ -60,20 +63,28 @@ verify-fits file out = by (verifyAsks file) (verify-numbered file)
     by (gives b) t = put-fits (Bytes file) [] (written kindAccepted []) out (omega (arith, written-length kindAccepted []))
     by (refuses r) t = numbered-fits (Bytes file) r t
 
-write-job-fits : (l : JobLists) (out : List ℕ) → Fits Unit (writeJobCall l out .answer)
+-- to the owner; to an operator the same, or 24
+turned-away-fits : (out : List ℕ) → Fits Unit (turnedAway out .answer)
+turned-away-fits out = (omega arith, omega arith, λ x. omega arith)
+
+write-job-fits : (role : ℕ) (l : JobLists) (out : List ℕ) → Fits Unit (writeJobCall role l out .answer)
 unfolding has writeJobCall
-write-job-fits l out = by (writeJobAsks l) refl
+write-job-fits role l out = to (as-the-owner role (writing out) l)
   where
     -- no question has number 0
-    from-one : (q : ℕ) → has (3 ∷ 4 ∷ 5 ∷ 7 ∷ 21 ∷ 23 ∷ []) q ≡ true → 1 ≤ q
+    from-one : (q : ℕ) → has writerNumbers q ≡ true → 1 ≤ q
     from-one zero e = absurd (false≢true e)
     from-one (suc q) e = omega arith
 
-    by : (a : Answer Bool) → writeJobAsks l ≡ a → Fits Unit (outcome a (λ b. writtenJob l) out .answer)
-    by (gives b) e = put-fits Unit [] (writtenJob l) out (omega (arith, ascending-length l (write-job-asked l b e .0)))
+    by : (a : Answer Bool) → writeJobAsks owner l ≡ a → Fits Unit (outcome a (λ b. writtenJob l) out .answer)
+    by (gives b) e = put-fits Unit [] (writtenJob l) out (omega (arith, ascending-length l (write-job-asked owner l b e .0)))
     by (refuses r) e =
         let (same, number) = write-job-refuses l r e in
         rw same (from-one (r .number) number, omega arith, λ x. omega arith)
+
+    to : (writeJobCall role l out ≡ writeJobCall owner l out) ⊎ ((role ≢ owner) × (isSome (l .angles) ≡ true)) → Fits Unit (writeJobCall role l out .answer)
+    to (inl e) = rw e (by (writeJobAsks owner l) refl)
+    to (inr (h, there)) = rw (owners-only .written role h l there out) (turned-away-fits out)
 
 -- what adding and editing write is a flow file
 add-signals-fits : (file out : List ℕ) → Fits Unit (addSignalsCall file out .answer)
@@ -93,15 +104,19 @@ edit-set-fits file entry out = by (editAsks file entry) refl (edit-numbered Unit
     by (refuses r) e t = numbered-fits Unit r t
 
 -- a record of angles is 8 bytes a node
-read-angles-fits : (file out : List ℕ) → Fits Unit (readAnglesCall file out .answer)
+read-angles-fits : (role : ℕ) (file out : List ℕ) → Fits Unit (readAnglesCall role file out .answer)
 unfolding readAnglesCall AllNumbered
-read-angles-fits file out = by (readAnglesAsks file) refl (read-angles-numbered Unit file)
+read-angles-fits role file out = to (as-the-owner role (readingOut out) file)
   where
-    by : (a : Answer JobFile) → readAnglesAsks file ≡ a → AllNumbered Unit a → Fits Unit (outcome a (λ f. angleRecord (f .angles)) out .answer)
+    by : (a : Answer JobFile) → readAnglesAsks owner file ≡ a → AllNumbered Unit a → Fits Unit (outcome a (λ f. angleRecord (f .angles)) out .answer)
     by (gives f) e t =
-        let v = job-asked file f (read-out-asked file f e .0 .0) in
+        let v = job-asked file f (read-out-asked owner file f e .0 .0) in
         put-fits Unit [] (angleRecord (f .angles)) out (omega (arith, record-few (f .n) (f .mode) (has (f .outputs)) (f .angles) (v .angles), v .few))
     by (refuses r) e t = numbered-fits Unit r t
+
+    to : (readAnglesCall role file out ≡ readAnglesCall owner file out) ⊎ ((role ≢ owner) × (true ≡ true)) → Fits Unit (readAnglesCall role file out .answer)
+    to (inl e) = rw e (by (readAnglesAsks owner file) refl (read-angles-numbered Unit file))
+    to (inr (h, there)) = rw (owners-only .readOut role h file out) (turned-away-fits out)
 
 solve-numbered : (matrix out : List ℕ) (rows cols sides side : ℕ) → AllNumbered Unit (Solver.solveAsks matrix out rows cols sides side)
 unfolding Solver.solveAsks
@@ -152,16 +167,16 @@ edit-set-code file entry out =
     let h = edit-set-fits file entry out in
     (tells Unit a h, tells-why Unit a h tt)
 
-pub read-angles-code : (file out : List ℕ) → let o = readAnglesCall file out in Tells (o .answer) (coded o .code) × TellsWhy (o .answer) (coded o .code)
-read-angles-code file out =
-    let a = readAnglesCall file out .answer in
-    let h = read-angles-fits file out in
+pub read-angles-code : (role : ℕ) (file out : List ℕ) → let o = readAnglesCall role file out in Tells (o .answer) (coded o .code) × TellsWhy (o .answer) (coded o .code)
+read-angles-code role file out =
+    let a = readAnglesCall role file out .answer in
+    let h = read-angles-fits role file out in
     (tells Unit a h, tells-why Unit a h tt)
 
-pub write-job-code : (l : JobLists) (out : List ℕ) → let o = writeJobCall l out in Tells (o .answer) (coded o .code) × TellsWhy (o .answer) (coded o .code)
-write-job-code l out =
-    let a = writeJobCall l out .answer in
-    let h = write-job-fits l out in
+pub write-job-code : (role : ℕ) (l : JobLists) (out : List ℕ) → let o = writeJobCall role l out in Tells (o .answer) (coded o .code) × TellsWhy (o .answer) (coded o .code)
+write-job-code role l out =
+    let a = writeJobCall role l out .answer in
+    let h = write-job-fits role l out in
     (tells Unit a h, tells-why Unit a h tt)
 
 pub solve-code : (matrix out : List ℕ) (rows cols sides side : ℕ) → let o = Solver.solveCall matrix out rows cols sides side in

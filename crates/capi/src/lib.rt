@@ -1,11 +1,12 @@
-// The calls as a program in C sees them: a slice is a pointer and a length, and the answer is one number.
+// The calls as a program in C sees them: a slice is a pointer and a length, and the answer is one number. All but the solver's, which no job reaches,
+// carry the role of the caller.
 ghost use mathlib.Core.Path.{_≡_};
 ghost use mathlib.Core.Option.{none, some};
 ghost use mathlib.Core.List.{[]};
 ghost use Rattle.solver.specs.Solver.{MatrixAfter, solvedOf, solveAsks, solveCall};
 ghost use Rattle.answers.specs.Refusals.{refusalOf};
 ghost use Rattle.records.specs.JobLists.{given};
-ghost use Rattle.demands.specs.Calls.{findCall, verifyCall, addSignalsCall, editSetCall, readAnglesCall, writeJobCall};
+ghost use Rattle.demands.specs.Roles.{finding, verifying, addingLists, editing, readingOut, writing, called};
 ghost use Rattle.calls.specs.Replies.{replyOf};
 ghost use Rattle.capi.specs.Codes.{refusalCode, answerCode, coded, counted, codedBits};
 use answers::Refusal;
@@ -53,39 +54,40 @@ fn solved_code(solved: Solved) -> u64
 
 // The finder: the count of bytes written, or the refusal.
 #[no_mangle]
-pub extern "C" fn bolz_find(file: &[u8], work: &mut [u8], out: &mut [u8]) -> u64
-    ensures { λ r. ⌜ record { code = r; work = now (work .exit); out = now (out .exit) } ≡ coded (findCall (now (file .entry)) (now (work .entry)) (now (out .entry))) ⌝ }
+pub extern "C" fn bolz_find(role: u64, file: &[u8], work: &mut [u8], out: &mut [u8]) -> u64
+    ensures { λ r. ⌜ record { code = r; work = now (work .exit); out = now (out .exit) } ≡ coded (called role (finding (now (work .entry)) (now (out .entry))) (now (file .entry))) ⌝ }
 {
-    reply_code(find(file, work, out))
+    reply_code(find(role, file, work, out))
 }
 
 // The verifier: the count of bytes written, or the refusal.
 #[no_mangle]
-pub extern "C" fn bolz_verify(file: &[u8], out: &mut [u8]) -> u64
-    ensures { λ r. ⌜ record { code = r; work = []; out = now (out .exit) } ≡ coded (verifyCall (now (file .entry)) (now (out .entry))) ⌝ }
+pub extern "C" fn bolz_verify(role: u64, file: &[u8], out: &mut [u8]) -> u64
+    ensures { λ r. ⌜ record { code = r; work = []; out = now (out .exit) } ≡ coded (called role (verifying (now (out .entry))) (now (file .entry))) ⌝ }
 {
-    reply_code(verify(file, out))
+    reply_code(verify(role, file, out))
 }
 
 // The signal lists beside a flow: the count of bytes written, or the refusal.
 #[no_mangle]
-pub extern "C" fn bolz_add_signals(file: &[u8], out: &mut [u8]) -> u64
-    ensures { λ r. ⌜ record { code = r; work = []; out = now (out .exit) } ≡ coded (addSignalsCall (now (file .entry)) (now (out .entry))) ⌝ }
+pub extern "C" fn bolz_add_signals(role: u64, file: &[u8], out: &mut [u8]) -> u64
+    ensures { λ r. ⌜ record { code = r; work = []; out = now (out .exit) } ≡ coded (called role (addingLists (now (out .entry))) (now (file .entry))) ⌝ }
 {
-    reply_code(add_signals(file, out))
+    reply_code(add_signals(role, file, out))
 }
 
 // One node's set edited: the count of bytes written, or the refusal.
 #[no_mangle]
-pub extern "C" fn bolz_edit_set(file: &[u8], entry: &[u8], out: &mut [u8]) -> u64
-    ensures { λ r. ⌜ record { code = r; work = []; out = now (out .exit) } ≡ coded (editSetCall (now (file .entry)) (now (entry .entry)) (now (out .entry))) ⌝ }
+pub extern "C" fn bolz_edit_set(role: u64, file: &[u8], entry: &[u8], out: &mut [u8]) -> u64
+    ensures { λ r. ⌜ record { code = r; work = []; out = now (out .exit) } ≡ coded (called role (editing (now (entry .entry)) (now (out .entry))) (now (file .entry))) ⌝ }
 {
-    reply_code(edit_set(file, entry, out))
+    reply_code(edit_set(role, file, entry, out))
 }
 
 // The job writer: the count of bytes written, or the refusal.
 #[no_mangle]
 pub extern "C" fn bolz_write_job(
+    role: u64,
     n: usize,
     mode: usize,
     edges: &[u8],
@@ -95,14 +97,15 @@ pub extern "C" fn bolz_write_job(
     out: &mut [u8],
 ) -> u64
     ensures { λ r. ⌜ record { code = r; work = []; out = now (out .exit) }
-        ≡ coded (writeJobCall (given n mode (now (edges .entry)) (now (inputs .entry)) (now (outputs .entry)) (now (measurements .entry)) none) (now (out .entry))) ⌝ }
+        ≡ coded (called role (writing (now (out .entry))) (given n mode (now (edges .entry)) (now (inputs .entry)) (now (outputs .entry)) (now (measurements .entry)) none)) ⌝ }
 {
-    reply_code(write_job(n, mode, edges, inputs, outputs, measurements, out))
+    reply_code(write_job(role, n, mode, edges, inputs, outputs, measurements, out))
 }
 
 // The job writer with angles: the count of bytes written, or the refusal.
 #[no_mangle]
 pub extern "C" fn bolz_write_job_angles(
+    role: u64,
     n: usize,
     mode: usize,
     edges: &[u8],
@@ -113,17 +116,27 @@ pub extern "C" fn bolz_write_job_angles(
     out: &mut [u8],
 ) -> u64
     ensures { λ r. ⌜ record { code = r; work = []; out = now (out .exit) }
-        ≡ coded (writeJobCall (given n mode (now (edges .entry)) (now (inputs .entry)) (now (outputs .entry)) (now (measurements .entry)) (some (now (angles .entry)))) (now (out .entry))) ⌝ }
+        ≡ coded (called role (writing (now (out .entry))) (given n mode (now (edges .entry)) (now (inputs .entry)) (now (outputs .entry)) (now (measurements .entry)) (some (now (angles .entry))))) ⌝ }
 {
-    reply_code(write_job_angles(n, mode, edges, inputs, outputs, measurements, angles, out))
+    reply_code(write_job_angles(
+        role,
+        n,
+        mode,
+        edges,
+        inputs,
+        outputs,
+        measurements,
+        angles,
+        out,
+    ))
 }
 
 // The angles read out: the count of bytes written, or the refusal.
 #[no_mangle]
-pub extern "C" fn bolz_read_angles(file: &[u8], out: &mut [u8]) -> u64
-    ensures { λ r. ⌜ record { code = r; work = []; out = now (out .exit) } ≡ coded (readAnglesCall (now (file .entry)) (now (out .entry))) ⌝ }
+pub extern "C" fn bolz_read_angles(role: u64, file: &[u8], out: &mut [u8]) -> u64
+    ensures { λ r. ⌜ record { code = r; work = []; out = now (out .exit) } ≡ coded (called role (readingOut (now (out .entry))) (now (file .entry))) ⌝ }
 {
-    reply_code(read_angles(file, out))
+    reply_code(read_angles(role, file, out))
 }
 
 // The solver: 1 for solvable, 0 for not, or the refusal.

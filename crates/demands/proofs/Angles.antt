@@ -22,7 +22,7 @@ use Rattle.records.proofs.Encoding.{job-exact, job-decodes, job-asked, flow-ask
 use Rattle.records.proofs.FlowFile.{nothing-left}
 use Rattle.verdicts.specs.Verdict.{verify}
 use Rattle.verdicts.proofs.Inferred.{inferred-verified}
-use Rattle.demands.specs.Calls.{modeOf, findCall, readAnglesAsks, readAnglesCall}
+use Rattle.demands.specs.Calls.{isOwner, modeOf, findCall, readAnglesAsks, readAnglesCall}
 use Rattle.demands.specs.Demand.{Accepted, DemandHolds}
 use Rattle.demands.specs.Signals.{JobAlone}
 use Rattle.demands.specs.Angles.{PlanesAlone, StaysAccepted, Found, NoLarger, ReadsWithFlow, ReadsOut}
@@ -92,19 +92,19 @@ no-larger angled plain f jobs one other p q g r =
 pub reads-with-flow : ReadsWithFlow
 reads-with-flow job flow f g alone r = whole job f (alone .0) (alone .1) flow g (r .0)
 
-pub read-out-asked : (job : List ℕ) (f : JobFile) → readAnglesAsks job ≡ gives f → JobAlone job f × (isSome (f .angles) ≡ true)
+pub read-out-asked : (role : ℕ) (job : List ℕ) (f : JobFile) → readAnglesAsks role job ≡ gives f → JobAlone job f × (isSome (f .angles) ≡ true)
 unfolding readAnglesAsks
-read-out-asked job f e =
-    let (g, p, q) = bind-out (readJob job) _ f e in
+read-out-asked role job f e =
+    let (g, p, q) = bind-out (readJob job) _ f (asks-out 24 (isOwner role) _ f e .1) in
     let (s, t) = asks-out 1 (isSome (g .angles)) _ f q in
     let (x, n, u) = then-out (nothingLeft (g .after)) _ f t in
     subst (λ (g : JobFile). JobAlone job g × (isSome (g .angles) ≡ true)) (give-inj u) ((p, nothing-left (g .after) x n), s)
 
 pub reads-out : ReadsOut
 unfolding readAnglesCall
-reads-out job wrote bytes w =
-    let (f, e, q) = wrote-out (readAnglesAsks job) (λ f. angleRecord (f .angles)) wrote w in
-    let (alone, there) = read-out-asked job f e in
+reads-out role job wrote bytes w =
+    let (f, e, q) = wrote-out (readAnglesAsks role job) (λ f. angleRecord (f .angles)) wrote w in
+    let (alone, there) = read-out-asked role job f e in
     let parts : job ≡ jobBytes (withoutAngles f) ++ wrote =
     job-exact job f bytes .0 (alone .0) .0 ∙ ap (λ (t : List ℕ). jobBytes f ++ t) (alone .1) ∙ append-nil (jobBytes f) ∙ job-parts f ∙ ap (λ (t : List ℕ). jobBytes (withoutAngles f) ++ t) (sym q) in
     let (p, o) = some-out (f .angles) there in

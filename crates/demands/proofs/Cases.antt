@@ -33,7 +33,7 @@ use Rattle.verdicts.specs.Published.{StrictOrder, Measured, NoInputs, Published
 use Rattle.nodes.specs.Lists.{equal}
 use Rattle.demands.specs.Cases.{AllHold, IsFlow, IsNoFlow, Of, alone, aloneFlow, isolated, isolatedFlow, angled, cases, differences}
 use Rattle.demands.specs.Demand.{Accepted, FlowBytes}
-use Rattle.records.proofs.Encoding.{behind, job-append, flow-carries}
+use Rattle.records.proofs.Encoding.{behind, job-append, job-follows, flow-carries}
 use Rattle.verdicts.proofs.Published.{by-layer}
 use Rattle.demands.proofs.Judging.{accepted-published}
 
@@ -165,7 +165,7 @@ accepted-flow job flow f g reads ends inputs r a = (
   reads,
   r,
   record {
-    lower = accepted-published (job ++ flow) (behind f flow) g (job-append job flow f reads (rw ends (flow-carries (f .n) flow g (r .0)))) (rw ends (r .0)) (r .1) a no-inputs .2;
+    lower = accepted-published (job ++ flow) (behind f flow) g (job-append job flow f reads (job-follows f (f .after ++ flow) (rw ends (flow-carries (f .n) flow g (r .0))))) (rw ends (r .0)) (r .1) a no-inputs .2;
   },
 )
   where

@@ -1,14 +1,15 @@
 -- Request 2026-01 proved: what the job writer writes reads back as the job that its lists mean, one job has one file, and its refusals.
 use Prim.Native.Nat.{ℕ, _*_}
 use mathlib.Core.Path.{_≡_, refl, sym, ap, _∙_, subst}
-use mathlib.Core.Bool.{Bool, true, false}
+use mathlib.Core.Bool.{Bool, true, false, not, _||_}
 use mathlib.Core.Option.{Option, none, some}
 use mathlib.Core.List.{List, [], _∷_, _++_, append-nil}
 use lib.ListN.{length, take}
 use lib.Dec.{eqb}
 use Rattle.nodes.specs.Lists.{has}
+use Rattle.nodes.specs.Options.{isSome}
 use Rattle.answers.specs.Answer.{Refusal, Answer, gives, refuses, refusal, asks, _>>_}
-use Rattle.answers.proofs.Answer.{give-inj, never, asks-yes}
+use Rattle.answers.proofs.Answer.{give-inj, never, asks-yes, asks-out}
 use Rattle.angles.specs.AngleRecord.{angleBytes, anglesAllowed}
 use Rattle.records.specs.Records.{eachAsks}
 use Rattle.records.specs.JobFile.{JobFile, openingAllowed, wholePairs, nodesBelow, allAllowed, measurementsAsks, anglesAsks, hasAngles, readJob}
@@ -16,14 +17,14 @@ use Rattle.records.specs.JobLists.{JobLists, Meaning, listsOf, anglesGiven, lis
 use Rattle.records.specs.Encoding.{Bytes, jobBytes}
 use Rattle.records.proofs.Encoding.{job-exact, job-decodes, job-asked}
 use Rattle.records.proofs.JobLists.{lists-yes, ascending-valid, ascending-means, file-ascending, valid-asks, valid-once, valid-bytes}
-use Rattle.demands.specs.Calls.{outcome, writtenJob, writeJobAsks, writeJobCall}
+use Rattle.demands.specs.Calls.{owner, isOwner, outcome, writtenJob, writeJobAsks, writeJobCall}
 use Rattle.demands.specs.JobWriter.{JobBytes, Wrote, GivesBack, OneFile, SameBytes, WritesAgain}
 use Rattle.demands.proofs.Demand.{put-fits}
 
 -- ---- what the writer has asked and written
-pub write-job-asked : (l : JobLists) (b : Bool) → writeJobAsks l ≡ gives b → (listsAsk l ≡ gives true) × (givenOnce l ≡ true)
+pub write-job-asked : (role : ℕ) (l : JobLists) (b : Bool) → writeJobAsks role l ≡ gives b → (listsAsk l ≡ gives true) × (givenOnce l ≡ true)
 unfolding writeJobAsks
-write-job-asked l b e = by (listsAsk l) refl e
+write-job-asked role l b e = by (listsAsk l) refl (asks-out 24 (isOwner role || not (isSome (l .angles))) _ b e .1)
   where
     by : (m : Answer Bool) → listsAsk l ≡ m → (m >> asks 21 (givenOnce l)) ≡ gives b → (listsAsk l ≡ gives true) × (givenOnce l ≡ true)
     by (gives c) p q = (lists-yes l c p, asks-yes 21 (givenOnce l) b q)
@@ -31,11 +32,11 @@ write-job-asked l b e = by (listsAsk l) refl e
 
 wrote-out : (l : JobLists) (out : List ℕ) (k : ℕ) (s : List ℕ) → Wrote l out k s → (listsAsk l ≡ gives true) × (givenOnce l ≡ true) × (writtenJob l ≡ s)
 unfolding writeJobCall
-wrote-out l out k s (e, q) = by (writeJobAsks l) refl e q
+wrote-out l out k s w = by (writeJobAsks (w .role) l) refl (w .answered) (w .left)
   where
-    by : (m : Answer Bool) → writeJobAsks l ≡ m → outcome m (λ b. writtenJob l) out .answer ≡ gives k → take k (outcome m (λ b. writtenJob l) out .out) ≡ s → (listsAsk l ≡ gives true) × (givenOnce l ≡ true) × (writtenJob l ≡ s)
+    by : (m : Answer Bool) → writeJobAsks (w .role) l ≡ m → outcome m (λ b. writtenJob l) out .answer ≡ gives k → take k (outcome m (λ b. writtenJob l) out .out) ≡ s → (listsAsk l ≡ gives true) × (givenOnce l ≡ true) × (writtenJob l ≡ s)
     by (refuses r) p e q = absurd (never e)
-    by (gives b) p e q = let (asked, once) = write-job-asked l b p in (asked, once, sym (put-fits [] (writtenJob l) out k e) ∙ q)
+    by (gives b) p e q = let (asked, once) = write-job-asked (w .role) l b p in (asked, once, sym (put-fits [] (writtenJob l) out k e) ∙ q)
 
 -- ---- what it writes reads back
 pub gives-back : GivesBack
@@ -77,9 +78,13 @@ writes-again s f p out =
     rw (valid-asks f v, valid-once f v, ← own-bytes s f p)
 
 -- ---- the refusals
+-- the questions of the writers, 20 and the operator's 24 aside
+abbrev pub writerNumbers : List ℕ
+writerNumbers = 3 ∷ 4 ∷ 5 ∷ 7 ∷ 21 ∷ 23 ∷ []
+
 -- with one of these numbers, and no a and b
 abbrev Refused : Refusal → Type 0
-Refused r = (r ≡ refusal (r .number)) × (has (3 ∷ 4 ∷ 5 ∷ 7 ∷ 21 ∷ 23 ∷ []) (r .number) ≡ true)
+Refused r = (r ≡ refusal (r .number)) × (has writerNumbers (r .number) ≡ true)
 
 abbrev AllRefused : Answer Bool → Type 0
 AllRefused m = (r : Refusal) → m ≡ refuses r → Refused r
@@ -99,7 +104,7 @@ angles-refused n mode output (some p) =
     both-asked _ _ (asked 4 (hasAngles mode) (refl, refl))
     (both-asked _ _ (asked 3 (eqb (length p) (angleBytes * n)) (refl, refl)) (asked 23 (anglesAllowed n output p) (refl, refl)))
 
-pub write-job-refuses : (l : JobLists) (r : Refusal) → writeJobAsks l ≡ refuses r → (r ≡ refusal (r .number)) × (has (3 ∷ 4 ∷ 5 ∷ 7 ∷ 21 ∷ 23 ∷ []) (r .number) ≡ true)
+pub write-job-refuses : (l : JobLists) (r : Refusal) → writeJobAsks owner l ≡ refuses r → (r ≡ refusal (r .number)) × (has writerNumbers (r .number) ≡ true)
 unfolding has listsAsk measurementsAsks writeJobAsks
 write-job-refuses l r e =
     both-asked (listsAsk l) _

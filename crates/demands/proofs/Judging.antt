@@ -20,7 +20,7 @@ use Rattle.verdicts.specs.Verdict.{verify}
 use Rattle.demands.specs.Calls.{modeOf, Both, readBoth, verdict, listsMatch, judge, verifyAsks}
 use Rattle.verdicts.specs.Published.{Measured, NoInputs, PublishedFlow, byLayer, LayerRule, Domain, CausalAccepted, AcceptedFlow}
 use Rattle.answers.proofs.Answer.{give-inj, never, bind-out, then-out, asks-yes}
-use Rattle.records.proofs.Encoding.{job-asked, job-append, flow-asked, flow-carries}
+use Rattle.records.proofs.Encoding.{job-asked, job-append, job-follows, flow-asked, flow-carries}
 use Rattle.records.proofs.JobFile.{measured-range, output-zero, measured-most, measured-plane}
 use Rattle.records.proofs.FlowFile.{set-entry, place-entry, set-at, nodes-below, members-below, nothing-left, one-member-asked, one-member-other, one-member}
 use Rattle.verdicts.proofs.Rule.{Readable}
@@ -90,7 +90,7 @@ module _ (file : List ℕ) (f : JobFile) (reads-job : readJob file ≡ gives f) 
   before = record { n = f .n; mode = f .mode; edges = f .edges; inputs = f .inputs; outputs = f .outputs; measurements = f .measurements; angles = f .angles; after = flow }
 
   pub whole : readJob (file ++ flow) ≡ gives before
-  whole = job-append file flow f reads-job (rw ends (flow-carries (f .n) flow g reads-flow)) ∙ rw ends
+  whole = job-append file flow f reads-job (job-follows f (f .after ++ flow) (rw ends (flow-carries (f .n) flow g reads-flow))) ∙ rw ends
 
   pub whole-both : g .after ≡ [] → (b : Bool) × (oneMember (f .mode) (g .sets) ≡ gives b) → ReadBoth (file ++ flow) before g
   whole-both e s = record { reads-job = whole; reads-flow = reads-flow; ends = e; single = s }

@@ -5,5 +5,6 @@ pub mod JobWriter
 pub mod Judging
 pub mod Layers
 pub mod Refusals
+pub mod Roles
 pub mod Signals
 pub mod Solutions

@@ -1,4 +1,4 @@
--- Every refusal of the questions in specs/Calls has a number from 1 to 23, but not the writer's 20, and a byte a; its b fits two bytes, where
+-- Every refusal of the questions in specs/Calls, but of those that ask for the owner (24), has a number from 1 to 23, but not the writer's 20, and a byte a; its b fits two bytes, where
 -- the file holds bytes.
 use Prim.Native.Nat.{ℕ, zero, suc, _+_, _≤_, _<_}
 use mathlib.Core.Path.{_≡_, refl}
@@ -22,7 +22,7 @@ use Rattle.flows.specs.Job.{Job}
 use Rattle.solver.specs.Solver.{workBytes}
 use Rattle.verdicts.specs.Verdict as Q
 use Rattle.verdicts.specs.Verdict.{ask, _next_, eachFrom, each}
-use Rattle.demands.specs.Calls.{modeOf, hasSearch, findAsks, readBoth, editAsks, readAnglesAsks, verdict, listsMatch, judge, verifyAsks}
+use Rattle.demands.specs.Calls.{owner, modeOf, hasSearch, findAsks, readBoth, editAsks, readAnglesAsks, verdict, listsMatch, judge, verifyAsks}
 use Rattle.demands.proofs.Judging.{both-out}
 
 pub record Numbered (bytes : Type 0) (r : Refusal) : Type 0 where
@@ -197,7 +197,7 @@ both-numbered bytes file =
     (asks-then bytes 9 (not (eqb (f .mode) modeCausal) || allEntries (λ e. eqb (length (e .set)) 1) (g .sets)) _ (omega arith) (omega arith)
     (given bytes _))))
 
-pub read-angles-numbered : (bytes : Type 0) (file : List ℕ) → AllNumbered bytes (readAnglesAsks file)
+pub read-angles-numbered : (bytes : Type 0) (file : List ℕ) → AllNumbered bytes (readAnglesAsks owner file)
 unfolding readAnglesAsks
 read-angles-numbered bytes file =
     bind-numbered bytes (readJob file) _ (job-numbered bytes file)

@@ -44,5 +44,5 @@ ReadsWithFlow = (job flow : List ℕ) (f : JobFile) (g : FlowFile) → JobAlone 
 
 -- The angles come out as they stand in the file, bit for bit.
 abbrev pub ReadsOut : Type 0
-ReadsOut = (job wrote : List ℕ) → Bytes job → Wrote (readAnglesCall job) wrote
+ReadsOut = (role : ℕ) (job wrote : List ℕ) → Bytes job → Wrote (readAnglesCall role job) wrote
     → (f : JobFile) × (p : List ℕ) × JobAlone job f × (f .angles ≡ some p) × (wrote ≡ written kindAngles p) × (job ≡ jobBytes (withoutAngles f) ++ wrote)

@@ -1,6 +1,6 @@
 -- The calls, for every argument: the answer and what each lent buffer then holds.
 use Prim.Native.Nat.{ℕ}
-use mathlib.Core.Bool.{Bool, true, cond, _&&_, _||_}
+use mathlib.Core.Bool.{Bool, true, cond, not, _&&_, _||_}
 use mathlib.Core.Option.{Option, none, some}
 use mathlib.Core.List.{List, [], _∷_}
 use lib.Dec.{eqb}
@@ -27,6 +27,13 @@ use Rattle.verdicts.specs.Verdict.{verify}
 -- Besides the questions of reading only two read the mode of the file itself: 9 (has each causal entry one member) and 10 (is the mode 2 or 3).
 abbrev pub modeOf : JobFile → ℕ
 modeOf f = workingOf f .mode
+
+-- ---- who calls: every call carries a role, 0 is the owner, any other number an operator
+abbrev pub owner : ℕ
+owner = 0
+
+abbrev pub isOwner : ℕ → Bool
+isOwner role = eqb role owner
 
 -- ---- what the finder writes
 -- mode 2 searches by planes, mode 3 by Paulis
@@ -95,17 +102,20 @@ editAsks file entry = do
   oneMember (b .job .mode) (entryOf entry ∷ [])
   gives b
 
--- those of reading the angles out: the job's records, is there a record of angles in its place (1), is nothing left (8)
-unfoldable pub readAnglesAsks : List ℕ → Answer JobFile
-readAnglesAsks file = do
+-- those of reading the angles out: is it the owner who wants them (24), the job's records, is there a record of angles in its place (1), is nothing left (8)
+unfoldable pub readAnglesAsks : (role : ℕ) → List ℕ → Answer JobFile
+readAnglesAsks role file = do
+  asks 24 (isOwner role)
   f ← readJob file
   asks 1 (isSome (f .angles))
   nothingLeft (f .after)
   gives f
 
--- the job writer's: those of each list (3, 4, 5, 7, 23), and then whether each edge and node was given once (21)
-unfoldable pub writeJobAsks : JobLists → Answer Bool
-writeJobAsks l = do
+-- the job writer's: where there are angles, is it the owner who writes them (24), those of each list (3, 4, 5, 7, 23), and then whether each edge and node was
+-- given once (21)
+unfoldable pub writeJobAsks : (role : ℕ) → JobLists → Answer Bool
+writeJobAsks role l = do
+  asks 24 (isOwner role || not (isSome (l .angles)))
   listsAsk l
   asks 21 (givenOnce l)
 
@@ -136,12 +146,12 @@ outcome (gives a) result out = put [] (result a) out
 unfoldable pub verifyCall : (file out : List ℕ) → Outcome
 verifyCall file out = outcome (verifyAsks file) (λ b. written kindAccepted []) out
 
-unfoldable pub writeJobCall : JobLists → (out : List ℕ) → Outcome
-writeJobCall l out = outcome (writeJobAsks l) (λ b. writtenJob l) out
+unfoldable pub writeJobCall : (role : ℕ) → JobLists → (out : List ℕ) → Outcome
+writeJobCall role l out = outcome (writeJobAsks role l) (λ b. writtenJob l) out
 
 -- reading out: the record of angles, with its head
-unfoldable pub readAnglesCall : (file out : List ℕ) → Outcome
-readAnglesCall file out = outcome (readAnglesAsks file) (λ f. angleRecord (f .angles)) out
+unfoldable pub readAnglesCall : (role : ℕ) (file out : List ℕ) → Outcome
+readAnglesCall role file out = outcome (readAnglesAsks role file) (λ f. angleRecord (f .angles)) out
 
 -- adding: the flow file with its signal lists, anew where they stand
 abbrev pub addedBytes : Both → List ℕ

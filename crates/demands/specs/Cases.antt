@@ -201,9 +201,12 @@ refusedN = 4 ∷ 0 ∷ 0 ∷ 0 ∷ 0x1F ∷ 0 ∷ 0x0F ∷ 1 ∷ 1 ∷ 0 ∷ []
 abbrev pub caseN : Case
 caseN = verifier jobA (flow (1 ∷ 1 ∷ []) (0 ∷ 1 ∷ 1 ∷ [])) refusedN
 
--- ---- jobs with angles: 0.25 keeps its plane, 0 means X in XY, 1 means Z in YZ
+-- ---- jobs with angles: 0.25 keeps its plane, 0 means X in XY, 0.5 means Y, 1 means Z in YZ
 abbrev pub quarter : List ℕ
 quarter = 0 ∷ 0 ∷ 0 ∷ 0 ∷ 0 ∷ 0 ∷ 0xD0 ∷ 0x3F ∷ []
+
+abbrev pub half : List ℕ
+half = 0 ∷ 0 ∷ 0 ∷ 0 ∷ 0 ∷ 0 ∷ 0xE0 ∷ 0x3F ∷ []
 
 abbrev pub one : List ℕ
 one = 0 ∷ 0 ∷ 0 ∷ 0 ∷ 0 ∷ 0 ∷ 0xF0 ∷ 0x3F ∷ []
@@ -222,6 +225,11 @@ caseHidden = finder (withAngles (path 2 1 1) (quarter ++ nought ++ nought)) (pat
 abbrev pub caseOrdinary : Case
 caseOrdinary = finder (withAngles (path 2 1 1) (quarter ++ quarter ++ nought)) (pathFlow 2 1 0) (pathFlow 2 1 0 ∷ [])
 
+-- so 0.5 for 0.25 at node 1 shows: sets {1, 2} of 0 and {2} of 1
+abbrev pub caseHalf : Case
+caseHalf = let found = flow (1 ∷ 1 ∷ 0 ∷ []) (0 ∷ 2 ∷ 1 ∷ 2 ∷ 1 ∷ 1 ∷ 2 ∷ []) in
+    finder (withAngles (path 2 1 1) (quarter ++ half ++ nought)) found (found ∷ pathFlow 2 1 0 ∷ [])
+
 -- C with Z: layer 0
 abbrev pub caseZ : Case
 caseZ = finder (withAngles (alone 2 2) one) (aloneFlow 0) (aloneFlow 0 ∷ aloneFlow 1 ∷ [])
@@ -238,7 +246,7 @@ abbrev pub caseSigned : Case
 caseSigned = finder (withAngles (isolated 2 2) (quarter ++ (0 ∷ 0 ∷ 0 ∷ 0 ∷ 0 ∷ 0 ∷ 0 ∷ 0x80 ∷ []))) (refused 23 0 0) []
 
 abbrev pub angled : List Case
-angled = caseHidden ∷ caseOrdinary ∷ caseZ ∷ caseEmpty ∷ caseTwo ∷ caseSigned ∷ []
+angled = caseHidden ∷ caseOrdinary ∷ caseHalf ∷ caseZ ∷ caseEmpty ∷ caseTwo ∷ caseSigned ∷ []
 
 abbrev pub cases : List Case
 cases =

@@ -8,15 +8,17 @@ use Rattle.answers.specs.Answer.{gives}
 use Rattle.records.specs.Encoding.{Bytes, AngleBytes}
 use Rattle.records.specs.JobFile.{JobFile, readJob}
 use Rattle.records.specs.JobLists.{JobLists, listsOf, meaning}
-use Rattle.demands.specs.Calls.{put, writeJobCall}
+use Rattle.demands.specs.Calls.{owner, put, writeJobCall}
 
 -- the bytes are a job file, and nothing else
 abbrev pub JobBytes : List ℕ → JobFile → Type 0
 JobBytes bytes f = (readJob bytes ≡ gives f) × (f .after ≡ []) × Bytes bytes
 
--- the bytes that the writer wrote: the first `k` of the result buffer
-abbrev pub Wrote : JobLists → (out : List ℕ) → (k : ℕ) → List ℕ → Type 0
-Wrote l out k bytes = (writeJobCall l out .answer ≡ gives k) × (take k (writeJobCall l out .out) ≡ bytes)
+-- the bytes that the writer wrote, for whatever role: the first `k` of the result buffer
+pub record Wrote (l : JobLists) (out : List ℕ) (k : ℕ) (bytes : List ℕ) : Type 0 where
+  pub role : ℕ
+  pub answered : writeJobCall role l out .answer ≡ gives k
+  pub left : take k (writeJobCall role l out .out) ≡ bytes
 
 -- what the writer writes reads back as the job that the lists mean; angles are lent as bytes
 abbrev pub GivesBack : Type 0
@@ -30,6 +32,6 @@ OneFile = (s t : List ℕ) (f g : JobFile) → JobBytes s f → JobBytes t g →
 abbrev pub SameBytes : Type 0
 SameBytes = (l m : JobLists) → AngleBytes (l .angles) → AngleBytes (m .angles) → (out other : List ℕ) (j k : ℕ) (s t : List ℕ) → Wrote l out j s → Wrote m other k t → (s ≡ t ↔ meaning l ≡ meaning m)
 
--- every readable job file is what the writer writes for its own lists, into any buffer that it fits
+-- every readable job file is what the writer writes for its own lists, to the owner, into any buffer that it fits
 abbrev pub WritesAgain : Type 0
-WritesAgain = (s : List ℕ) (f : JobFile) → JobBytes s f → (out : List ℕ) → writeJobCall (listsOf f) out ≡ put [] s out
+WritesAgain = (s : List ℕ) (f : JobFile) → JobBytes s f → (out : List ℕ) → writeJobCall owner (listsOf f) out ≡ put [] s out

@@ -5,5 +5,6 @@ pub mod Demand
 pub mod JobWriter
 pub mod Layers
 pub mod Programs
+pub mod Roles
 pub mod Signals
 pub mod Solutions

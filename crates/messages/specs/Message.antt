@@ -35,6 +35,7 @@ questions =
     ∷ (21, "a loop, or an edge or node given twice")
     ∷ (22, "the signal lists are not those of the flow")
     ∷ (23, "an angle is not from 0 to below 2, or at an output not positive zero")
+    ∷ (24, "only the owner may read angles out or write them")
     ∷ []
 
 abbrev pub unknown : String

@@ -189,7 +189,8 @@ pub fn message(q: Refusal, out: &mut [u8]) -> usize
         the result does not fit the lent buffer\n\
         a loop, or an edge or node given twice\n\
         the signal lists are not those of the flow\n\
-        an angle is not from 0 to below 2, or at an output not positive zero\n",
+        an angle is not from 0 to below 2, or at an output not positive zero\n\
+        only the owner may read angles out or write them\n",
         q,
         out,
     )

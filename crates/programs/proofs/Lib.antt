@@ -1,2 +1,2 @@
-pub mod Both
 pub mod Printing
+pub mod Streams

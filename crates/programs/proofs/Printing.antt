@@ -23,10 +23,9 @@ use Rattle.answers.proofs.Answer.{give-inj, never}
 use Rattle.records.proofs.Records.{written-length}
 use Rattle.records.proofs.Encoding.{job-asked}
 use Rattle.demands.specs.Calls.{foundBytes, Outcome, put, findAsks, findOutcome, findCall, verifyAsks, outcome, verifyCall}
-use Rattle.demands.specs.Programs.{judgedBytes, refusalBytes, findOutput, findProgram, verifyOutput, verifyProgram}
+use Rattle.demands.specs.Programs.{judgedBytes, refusalBytes, findOutput, findProgram, verifyOutput, verifyProgram, Printed, tooLong, printed, refusalIn, findPrinted, verifyPrinted}
 use Rattle.demands.proofs.Demand.{found-fits, asked-find}
 use Rattle.demands.proofs.Refusals.{AllNumbered, find-numbered}
-use Rattle.programs.specs.Printing.{Printed, tooLong, printed, refusalIn, findPrinted, verifyPrinted}
 
 refuse-inj : {A : Type 0} {r s : Refusal} → _≡_ {A = Answer A} (refuses r) (refuses s) → r ≡ s
 refuse-inj e = cc

@@ -3,8 +3,9 @@ pub mod output; // output.rt: what each writes on standard output, in a buffer o
 
 ghost use mathlib.Core.Path.{_≡_};
 ghost use Rattle.messages.specs.Message.{putWhole};
-ghost use Rattle.programs.specs.Printing.{refusedOf, findPrinted, verifyPrinted};
-ghost use Rattle.programs.specs.Both.{errorOf, both};
+ghost use Rattle.demands.specs.Programs.{errorOf};
+ghost use Rattle.demands.specs.Roles.{operator, finderProgram, verifierProgram, called};
+ghost use Rattle.programs.specs.Printing.{refusedOf};
 use messages::message;
 use output::Told;
 use output::find_bytes;
@@ -28,7 +29,7 @@ fn report(told: Told, error: &mut [u8]) -> usize
 
 // All that the finder writes: a flow file, 0013 or 001F, and with 001F its line.
 pub fn find_program(input: &[u8], output: &mut [u8], error: &mut [u8]) -> Counts
-    ensures { λ r. ⌜ record { output = record { count = r .output; out = now (output .exit) }; error = record { count = r .error; out = now (error .exit) } } ≡ both (findPrinted (now (input .entry)) (now (output .entry))) (now (error .entry)) ⌝ }
+    ensures { λ r. ⌜ record { output = record { count = r .output; out = now (output .exit) }; error = record { count = r .error; out = now (error .exit) } } ≡ called operator (finderProgram (now (output .entry)) (now (error .entry))) (now (input .entry)) ⌝ }
 {
     let answer = find_bytes(input, output);
     let count = answer.count;
@@ -42,7 +43,7 @@ pub fn find_program(input: &[u8], output: &mut [u8], error: &mut [u8]) -> Counts
 
 // All that the verifier writes: 0014 or 001F, and with 001F its line.
 pub fn verify_program(input: &[u8], output: &mut [u8], error: &mut [u8]) -> Counts
-    ensures { λ r. ⌜ record { output = record { count = r .output; out = now (output .exit) }; error = record { count = r .error; out = now (error .exit) } } ≡ both (verifyPrinted (now (input .entry)) (now (output .entry))) (now (error .entry)) ⌝ }
+    ensures { λ r. ⌜ record { output = record { count = r .output; out = now (output .exit) }; error = record { count = r .error; out = now (error .exit) } } ≡ called operator (verifierProgram (now (output .entry)) (now (error .entry))) (now (input .entry)) ⌝ }
 {
     let answer = verify_bytes(input, output);
     let count = answer.count;

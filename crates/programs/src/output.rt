@@ -1,11 +1,12 @@
-// The two programs on lent bytes: all that each writes for the bytes of its standard input.
+// The two programs on lent bytes: all that each writes for the bytes of its standard input. Both call as operator.
 ghost use mathlib.Core.Path.{_≡_};
 ghost use mathlib.Core.Option.{some};
 ghost use Prim.Native.Nat.{min};
 ghost use Rattle.answers.specs.Refusals.{refusalOf};
-ghost use Rattle.demands.specs.Programs.{judgedBytes, refusalBytes};
-ghost use Rattle.programs.specs.Printing.{printed, findPrinted, verifyPrinted, outputOf};
+ghost use Rattle.demands.specs.Programs.{judgedBytes, refusalBytes, printed, findPrinted, verifyPrinted};
+ghost use Rattle.programs.specs.Printing.{outputOf};
 use answers::Refusal;
+use calls::OPERATOR;
 use calls::Reply;
 use calls::find::find;
 use calls::verify::verify;
@@ -88,7 +89,7 @@ pub fn find_bytes(input: &[u8], out: &mut [u8]) -> Output
 {
     let n = judged(input.len());
     let mut work = [0u8; WORK_BYTES];
-    match find(&input[0..n], &mut work, out) {
+    match find(OPERATOR, &input[0..n], &mut work, out) {
         Reply::Wrote(k) => wrote(k),
         Reply::Refused(q) => {
             if q.0 == TOO_LONG {
@@ -104,7 +105,7 @@ pub fn verify_bytes(input: &[u8], out: &mut [u8]) -> Output
     ensures { λ r. ⌜ outputOf r (now (out .exit)) ≡ verifyPrinted (now (input .entry)) (now (out .entry)) ⌝ }
 {
     let n = judged(input.len());
-    match verify(&input[0..n], out) {
+    match verify(OPERATOR, &input[0..n], out) {
         Reply::Wrote(k) => wrote(k),
         Reply::Refused(q) => write_refusal(out, q),
     }

@@ -248,9 +248,12 @@ job-refuses s r e = job-lawful .refusing .refused s r (made-refuses (job .decode
 abbrev pub behind : JobFile → List ℕ → JobFile
 behind f g = record { n = f .n; mode = f .mode; edges = f .edges; inputs = f .inputs; outputs = f .outputs; measurements = f .measurements; angles = f .angles; after = f .after ++ g }
 
--- a job reads the same with bytes behind it, where these carry no angles
-pub job-append : (s g : List ℕ) (f : JobFile) → readJob s ≡ gives f → carries kindAngles (f .after ++ g) ≡ false → readJob (s ++ g) ≡ gives (behind f g)
-job-append s g f e c = job-reads (s ++ g) (behind f g) (job-appends .appends s (jobValue f) (f .after) g (job-decoded s f e) (job-follows f (f .after ++ g) c))
+-- a job reads the same with bytes behind it that may follow: all that carry no angles, and behind angles any
+pub job-append : (s g : List ℕ) (f : JobFile) → readJob s ≡ gives f → job .mayFollow (jobValue f) (f .after ++ g) ≡ true → readJob (s ++ g) ≡ gives (behind f g)
+job-append s g f e c = job-reads (s ++ g) (behind f g) (job-appends .appends s (jobValue f) (f .after) g (job-decoded s f e) c)
+
+pub job-append-angled : (s g : List ℕ) (f : JobFile) (p : List ℕ) → f .angles ≡ some p → readJob s ≡ gives f → readJob (s ++ g) ≡ gives (behind f g)
+job-append-angled s g f p a e = job-append s g f e (rw a)
 
 -- ---- a flow
 flow-lawful : (n : ℕ) → n ≤ mostNodes → Lawful ReadingRefusal (flow n)

@@ -1,14 +1,19 @@
 // Stored answers, run again on the library through its entries for C. Standard input holds entries one after another, each a
 // call and what it should answer and leave: cases A to N of document 01 and its edges, by name; the original's answers; each refusal at
-// its boundary, flows by either kind of layers; jobs written from lists; signal lists added, judged and edited; jobs with angles. oracle/README.md
-// says how they were made. One entry is wrong on purpose: a run that does not report it compares nothing.
+// its boundary, flows by either kind of layers; jobs written from lists; signal lists added, judged and edited; jobs with angles; every role; and twins, jobs
+// that differ in angles and that no operator can tell apart. oracle/README.md says how they were made. One entry is wrong on purpose: a run that does not
+// report it compares nothing.
+mod ask; // ask.rt: the call of one entry
 mod entry; // entry.rt: what the head of an entry says
 mod flow; // flow.rt: the flow of the finder, compared after reading
-mod run; // run.rt: the call of one entry, compared
+mod run; // run.rt: what the call answers and leaves, compared
 
 ghost use Prim.Native.Nat.{_≤_};
 ghost use lib.ListN.{length};
+use entry::APART;
 use entry::HEAD_BYTES;
+use entry::TWINS;
+use entry::kind;
 use entry::number;
 use entry::two_bytes;
 use run::as_stored;
@@ -18,13 +23,20 @@ const STANDARD_INPUT: i32 = 0;
 const STANDARD_OUTPUT: i32 = 1;
 
 // No entry is longer: its head, and a name, a query and a result of 65,535 bytes each.
-const MOST_ENTRY: usize = 196620;
+const MOST_ENTRY: usize = 196621;
 
 // No more entries are read.
 const MOST_ENTRIES: u64 = 1048576;
 
 // The numbers of all questions, and 0 for an answer.
-const NUMBERS: usize = 24;
+const NUMBERS: usize = 25;
+
+// Behind them are counted the twins, and the pairs that are told apart.
+const TWINS_AT: usize = 25;
+
+const APART_AT: usize = 26;
+
+const COUNTS: usize = 27;
 
 fn print(words: &[u8]) {
     io::write_all(STANDARD_OUTPUT, words);
@@ -46,9 +58,17 @@ fn tell_equal(equal: &[u64]) {
     }
 }
 
-// One more, where the table has the number.
-fn count(equal: &mut [u64], number: u8) {
-    let i = number as usize;
+// Where an entry is counted.
+fn place(head: &[u8]) -> usize {
+    match kind(head) {
+        TWINS => TWINS_AT,
+        APART => APART_AT,
+        _ => number(head) as usize,
+    }
+}
+
+// One more, where the table has the place.
+fn count(equal: &mut [u64], i: usize) {
     if i >= equal.len() {
         return;
     }
@@ -77,9 +97,9 @@ fn replay_one(bytes: &[u8], entry: u64, equal: &mut [u64]) -> bool {
     if len < HEAD_BYTES {
         return false;
     }
-    let name = HEAD_BYTES + two_bytes(bytes[9], bytes[10]);
-    let query = name + two_bytes(bytes[11], bytes[12]);
-    let end = query + two_bytes(bytes[13], bytes[14]);
+    let name = HEAD_BYTES + two_bytes(bytes[10], bytes[11]);
+    let query = name + two_bytes(bytes[12], bytes[13]);
+    let end = query + two_bytes(bytes[14], bytes[15]);
     if end > len {
         return false;
     }
@@ -87,7 +107,7 @@ fn replay_one(bytes: &[u8], entry: u64, equal: &mut [u64]) -> bool {
     let same = as_stored(head, &bytes[name..query], &bytes[query..end]);
     tell(&bytes[HEAD_BYTES..name], entry, same);
     if same {
-        count(equal, number(head));
+        count(equal, place(head));
     }
     true
 }
@@ -105,9 +125,9 @@ fn next_entry(bytes: &mut [u8]) -> usize
         return got;
     }
     let end = HEAD_BYTES
-        + two_bytes(bytes[9], bytes[10])
-        + two_bytes(bytes[11], bytes[12])
-        + two_bytes(bytes[13], bytes[14]);
+        + two_bytes(bytes[10], bytes[11])
+        + two_bytes(bytes[12], bytes[13])
+        + two_bytes(bytes[14], bytes[15]);
     if end > len {
         return 0;
     }
@@ -141,9 +161,11 @@ fn replay_all(bytes: &mut [u8], equal: &mut [u64]) -> u64 {
 
 fn main() {
     let mut bytes = [0u8; MOST_ENTRY];
-    let mut equal = [0u64; NUMBERS];
+    let mut equal = [0u64; COUNTS];
     let entries = replay_all(&mut bytes, &mut equal);
-    tell_equal(&equal);
-    print_count(b"entries: ", entries);
+    tell_equal(&equal[0..NUMBERS]);
+    print_count(b"twins: ", equal[TWINS_AT]);
+    print_count(b" as stored\npairs told apart: ", equal[APART_AT]);
+    print_count(b" as stored\nentries: ", entries);
     print(b"\n");
 }

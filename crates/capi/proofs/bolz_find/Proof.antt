@@ -7,8 +7,8 @@ use Rattle.capi.proofs.bolz_find.Tie as tie
 
 returns : tie.Need-returns
 returns c = let f = c .before .before .before .before .before .find in
-    let o = f .last .1 .1 .0 in
-    let w = f .last .1 .0 in
+    let o = f .last .1 .1 .1 .0 in
+    let w = f .last .1 .1 .0 in
     ap {B = Coded} (λ (k : ℕ). record { code = k; work = w; out = o }) (c .reply-code .ensures) ∙ ap coded (f .ensures)
 
 pub bolz-find-spec : {M : Type 1} → statement M

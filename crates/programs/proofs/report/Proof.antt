@@ -2,8 +2,8 @@ use mathlib.Core.Path.{sym, ap, _∙_}
 use Rattle.messages.specs.Message.{putWhole}
 use Rattle.programs.specs.Printing.{refusedOf}
 use Rattle.programs.specs.declared.output.Told.{Told}
-use Rattle.programs.specs.Both.{errorOf}
-use Rattle.programs.proofs.Both.{nothing-put}
+use Rattle.demands.specs.Programs.{errorOf}
+use Rattle.programs.proofs.Streams.{nothing-put}
 use borrow.Author.Needs.{needs}
 use Rattle.programs.proofs.report.Statement.{statement}
 use Rattle.programs.proofs.report.Tie as tie

@@ -17,7 +17,7 @@ returns : tie.Need-returns
 returns c = let a = c .before .before .before .before .before .before .before .before .before .before .before .before .args in
     let r = c .before .before .before .before .before .before .verify in
     let j = c .before .before .before .before .before .before .before .before .before .judged in
-    let o = r .last .1 .0 in
+    let o = r .last .1 .1 .0 in
     let here = ap {B = Outcome} (λ (x : Reply). record { answer = replyOf x; work = []; out = o }) (sym (c .before .before .k .given .1)) in
     let call = here ∙ r .ensures ∙ ap (λ (s : List ℕ). verifyCall s (a .out .now)) (first-bytes judgedBytes (j .result) (a .input .now) (j .ensures)) in
     ap (λ (x : Output). outputOf x o) (c .wrote .ensures) ∙ verify-gives (a .input .now) (a .out .now) o [] (c .before .before .k .given .0 .0) call
@@ -26,7 +26,7 @@ returns-2 : tie.Need-returns-2
 returns-2 c = let a = c .before .before .before .before .before .before .before .before .before .before .before .before .before .before .before .args in
     let r = c .before .before .before .before .before .before .before .before .before .verify in
     let j = c .before .before .before .before .before .before .before .before .before .before .before .before .judged in
-    let o = r .last .1 .0 in
+    let o = r .last .1 .1 .0 in
     let here = ap {B = Outcome} (λ (x : Reply). record { answer = replyOf x; work = []; out = o }) (sym (c .before .before .before .before .before .q .given .1)) in
     let call = here ∙ r .ensures ∙ ap (λ (s : List ℕ). verifyCall s (a .out .now)) (first-bytes judgedBytes (j .result) (a .input .now) (j .ensures)) in
     c .before .before .write-refusal .ensures ∙ verify-refuses (a .input .now) (a .out .now) o [] (refusalOf (c .before .before .before .before .before .q .given .0 .0)) call

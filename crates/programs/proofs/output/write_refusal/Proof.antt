@@ -3,9 +3,9 @@ use Rattle.answers.specs.Answer.{gives, refuses, refusal}
 use Rattle.answers.specs.Refusals.{refusalOf}
 use Rattle.records.specs.Records.{inTwoBytes}
 use Rattle.records.specs.Splice.{putOf}
-use Rattle.demands.specs.Programs.{refusalBytes}
+use Rattle.demands.specs.Programs.{refusalBytes, tooLong}
 use Rattle.programs.specs.declared.output.Output.{Output}
-use Rattle.programs.specs.Printing.{tooLong, outputOf}
+use Rattle.programs.specs.Printing.{outputOf}
 use Rattle.programs.proofs.Printing.{refusal-put}
 use borrow.Author.Needs.{needs}
 use Rattle.programs.proofs.output.write_refusal.Statement.{statement}
