@@ -6,7 +6,7 @@ use crate::timing::{Times, medians};
 use harness::finders::is_same;
 use harness::jobs::{Flow, Job, PAULI, PLANES, records};
 use harness::many::{self, KINDS};
-use harness::ours::{self, Answer, OUT_BYTES, WORK_BYTES};
+use harness::ours::{self, Answer, OPERATOR, OUT_BYTES, WORK_BYTES};
 use harness::random::Random;
 use harness::rule::Rule;
 use harness::theirs;
@@ -29,7 +29,7 @@ impl Ours {
     }
 
     fn find(&mut self, file: &[u8]) -> usize {
-        match ours::find(file, &mut self.work, &mut self.out) {
+        match ours::find(OPERATOR, file, &mut self.work, &mut self.out) {
             Answer::Value(count) => count,
             refused => panic!("a job was refused: {refused:?}"),
         }

@@ -5,7 +5,7 @@ use crate::summary::{Row, Table};
 use crate::timing::{Times, medians};
 use harness::flows::{found, widened};
 use harness::jobs::Job;
-use harness::ours::{self, Answer};
+use harness::ours::{self, Answer, OPERATOR};
 use harness::theirs;
 
 /// A run takes at least so many microseconds.
@@ -20,7 +20,7 @@ fn files_of(family: &Family, n: usize) -> Vec<Vec<u8>> {
 }
 
 fn accept(file: &[u8], out: &mut [u8]) {
-    assert_eq!(ours::verify(file, out), Answer::Value(ACCEPTED_BYTES), "ours refuses a found flow");
+    assert_eq!(ours::verify(OPERATOR, file, out), Answer::Value(ACCEPTED_BYTES), "ours refuses a found flow");
     assert_eq!(theirs::verify(file), (0, 0, 0), "the original refuses a found flow");
 }
 
@@ -31,7 +31,7 @@ fn times(files: &[Vec<u8>]) -> Times {
         files,
         RUN,
         [
-            &mut |file| usize::from(ours::verify(file, out) == Answer::Value(ACCEPTED_BYTES)),
+            &mut |file| usize::from(ours::verify(OPERATOR, file, out) == Answer::Value(ACCEPTED_BYTES)),
             &mut |file| usize::from(theirs::verify(file).0 == 0),
             &mut |file| theirs::prepare_verify(file),
         ],

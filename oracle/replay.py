@@ -4,10 +4,12 @@
 First stand cases A to N of document 01 and its edges, each claim by its name. SAMPLE is what oracle/export wrote: jobs and flows with the
 original's answers, or, where a search may lack columns, those of the papers' rule. Behind them stands a table, made here from documents 01 and 02 alone as the cases are, that reaches every refusal at each record or
 list where it can occur, on both sides of its boundary; and one entry that is wrong on purpose.
-An entry: kind, number, a, then two bytes each, lowest first: b, length of work buffer, of result buffer, of name, of query, of result; then
+An entry: kind, role, number, a, then two bytes each, lowest first: b, length of work buffer, of result buffer, of name, of query, of result; then
 name, query and result. Number 0 is an answer. Kinds: f finder, v verifier, s solver, w job writer, W the same with angles, which stand behind its
 lists, o read-out of angles, r the original's verdict (18 stands for 18 or 19), a adding of signal lists, e editing of a set: its query is the
-length of the lent entry in two bytes, the entry, then job and flow. A finder's flow is compared after reading: the original's have layers of kind 0011."""
+length of the lent entry in two bytes, the entry, then job and flow. A finder's flow is compared after reading: the original's have layers of kind 0011.
+Pairs, one call of two queries on buffers that are filled alike: t twins, whose answers and buffers must be the same afterwards, d two that must be told apart.
+The query of a pair is the kind of the call, the length of the first query in two bytes, and both; number and a are the numbers of the two answers."""
 import itertools
 import random
 import struct
@@ -16,7 +18,7 @@ import typing
 
 WORK = 2048
 OUT = 16908
-HEAD = 15
+HEAD = 16
 CAUSAL, PLANES, PAULI = 1, 2, 3
 XY, YZ, XZ, X, Y, Z = 1, 2, 3, 4, 5, 6
 ACCEPTED = b"\0\0\0\0\x14\0"
@@ -25,11 +27,36 @@ NO_FLOW = b"\0\0\0\0\x13\0"
 NARROW, WIDE = 0x11, 0x21
 ANGLES = 0x24
 WRAPS = 65535
+OWNER, LARGEST = 0, 2**64 - 1
+# by some of its bits alone all but the last would be the owner
+OPERATORS = (1, 2, 2**8, 2**16, 2**32, 2**63, LARGEST)
+# the byte that stands for a role; TURNS stands for none, and is in no entry at the end
+ROLES = {OWNER: 0, 1: 1, 2: 2, 2**8: 8, 2**16: 16, 2**32: 32, 2**63: 63, LARGEST: 255}
+TURNS = 254
 
 
-def entry(kind, query, result=b"", number=0, a=0, b=0, work=WORK, out=OUT, name=""):
+def entry(kind, query, result=b"", number=0, a=0, b=0, work=WORK, out=OUT, name="", role=None):
     rest = struct.pack("<HHHHHH", b, work, out, len(name), len(query), len(result))
-    return bytes([ord(kind), number, a]) + rest + name.encode() + query + result
+    return bytes([ord(kind), TURNS if role is None else ROLES[role], number, a]) + rest + name.encode() + query + result
+
+
+def kind_of(made):
+    return chr(made[0])
+
+
+def number_of(made):
+    return made[2]
+
+
+def with_roles(entries):
+    """Where no role is given it turns, for each kind of its own, over the owner, 1 and the largest number. But read-out, writing with angles and the solver are
+    the owner's, and what 24 refuses and twins are the operators' in turn."""
+    turns = {}
+    for made in entries:
+        kind = kind_of(made)
+        roles = OPERATORS if kind == "t" or number_of(made) == 24 else (OWNER,) if kind in "oWs" else (OWNER, 1, LARGEST)
+        turn = turns.setdefault((kind, roles), itertools.cycle(roles))
+        yield made[:1] + bytes([ROLES[next(turn)]]) + made[2:] if made[1] == TURNS else made
 
 
 def record(kind, payload):
@@ -348,8 +375,11 @@ def planes():
 
 def own_verdict(edge, m, inside, odd):
     """On one edge with output 1: does m, the measurement of node 0, hold?"""
-    holds = {XY: not inside and odd, YZ: inside and not odd, XZ: inside and odd, X: odd, Y: inside != odd, Z: inside}[m]
-    yield from verdict(edge, judged([1, 0], (0, [0] * inside + [1] * odd)), 0 if holds else 19, 0)
+    yield from verdict(edge, judged([1, 0], (0, [0] * inside + [1] * odd)), 0 if own_holds(m, inside, odd) else 19, 0)
+
+
+def own_holds(m, inside, odd):
+    return {XY: not inside and odd, YZ: inside and not odd, XZ: inside and odd, X: odd, Y: inside != odd, Z: inside}[m]
 
 
 def causal_order():
@@ -749,8 +779,12 @@ def add(file, result=b"", number=0, out=LISTED_OUT, name=""):
     return entry("a", file, result, number, out=out, name=name)
 
 
+def edit_query(file, lent):
+    return struct.pack("<H", len(lent)) + lent + file
+
+
 def edit(file, lent, result=b"", number=0, out=LISTED_OUT, name=""):
-    return entry("e", struct.pack("<H", len(lent)) + lent + file, result, number, out=out, name=name)
+    return entry("e", edit_query(file, lent), result, number, out=out, name=name)
 
 
 def exactly(make, *words, result):
@@ -960,8 +994,8 @@ def lengths_behind(n, first, second):
 def refused_files():
     """All that the verifier refuses in reading, above, adding and editing refuse too."""
     for made in itertools.chain(heads(), payloads(), flows()):
-        if made[0] == ord("v") and made[1] > 0:
-            yield from refused_by_both(made[HEAD:], made[1])
+        if kind_of(made) == "v" and number_of(made) > 0:
+            yield from refused_by_both(made[HEAD:], number_of(made))
 
 
 def sets_edited():
@@ -1212,8 +1246,8 @@ def angle_places():
     for tail in (b"", angles, record(ANGLES, angle_bytes(TWO, TWO, TWO))):
         yield from read(changed(PATH, 4, record(5, [XY, XZ + 1, 0]) + tail), 7)
     for made in itertools.chain(heads(), payloads()):
-        if made[0] == ord("f") and made[1] > 0:
-            yield entry("o", made[HEAD:], number=made[1])
+        if kind_of(made) == "f" and number_of(made) > 0:
+            yield entry("o", made[HEAD:], number=number_of(made))
 
 
 def three_calls(mode, tail, finds, judges, reads):
@@ -1291,13 +1325,240 @@ def lists_beside_angles():
             yield entry("v", flipped(right, 0, n - 1, 0).file(), number=22)
 
 
+# ---- Roles, request 2026-07 of document 02: 24 at its two calls, then twins, which no operator can tell apart.
+
+def written(table):
+    """The query that writes the job of a table, with its angles."""
+    return lists(table.n, table.mode, sum(table.edges, ()), table.inputs, table.outputs, table.measured, table.angles)
+
+
+def each_role():
+    """Every call by every role: at two of them an operator is refused, and at no other has the role a say."""
+    table = path_table(PLANES, angles=ANGLED[-1][6:])
+    set_of_0 = (0, [1, 2])
+    calls = [("f", table.job(), table.flow()), ("v", table.file(), ACCEPTED), ("a", table.file(), with_lists(table).flow()),
+             ("e", edit_query(table.file(), lent(*set_of_0)), with_set(table, *set_of_0).flow()), ("w", lists(**EDITED), ascending(**EDITED)),
+             ("o", table.job(), ANGLED[-1]), ("W", written(table), table.job())]
+    for role, (kind, query, result) in itertools.product(ROLES, calls):
+        closed = kind in "oW" and role != OWNER
+        yield entry(kind, query, b"" if closed else result, 24 if closed else 0, role=role, out=LISTED_OUT)
+        # 11 and 20 are not the role's either
+        if kind == "f":
+            yield entry(kind, query, number=11, role=role, work=0)
+        yield entry(kind, query, number=24 if closed else 20, role=role, out=len(result) - 1)
+    # no bytes, and a job without angles: 1 for the owner
+    for role, query, out in itertools.product(ROLES, (b"", b"".join(PATH)), (OUT, 0)):
+        yield entry("o", query, number=24 if role != OWNER else 1, role=role, out=out)
+    edge = EDGE + bytes.fromhex("10000000 2400 000000000000e83f 0000000000000000")
+    yield entry("o", edge, number=24, name="A with angles read out by an operator (24)", role=1)
+    yield entry("W", lists(2, PLANES, [1, 0], [0], [1], [XY, 0], edge[-16:]), number=24, name="A with angles written by an operator (24)", role=1)
+
+
+def before_any_other():
+    """24 whatever is right or wrong: all that is asked above of read-out and of writing with angles, asked by operators; each second time no byte is lent."""
+    made = [each for part in (by_hand, angle_places, no_node, angle_room, angle_lists) for each in part() if kind_of(each) in "oW"]
+    for at, each in enumerate(made):
+        out, name, query = struct.unpack_from("<HHH", each, 8)
+        start = HEAD + name
+        yield entry(kind_of(each), each[start:start + query], number=24, out=out if at % 2 else 0)
+    for n, mode in [(2**64 - 1, 2**64 - 1), (0, 0), (129, PLANES)]:
+        yield entry("W", lists(n, mode), number=24)
+        yield entry("W", lists(n, mode, [0], [255], [255], [255], b"\xff"), number=24, out=0)
+
+
+# What infers the same in every plane: 0 and 1, 0.5 and 1.5, and any other angle.
+ALLOWED = [angle for angle in TRIED if angle_number(angle) == 0]
+ALIKE = [[angle for angle in ALLOWED if inferred(XY, angle) == m] for m in (X, Y, XY)]
+HALF = bits_of(0.5)
+
+
+def pair(kind, call, queries, number=0, other=None, **more):
+    first, second = queries
+    query = call.encode() + struct.pack("<H", len(first)) + first + second
+    return entry(kind, query, number=number, a=number if other is None else other, **more)
+
+
+def twins_by_hand():
+    """Case G with angles, every byte by hand: 0.25 and the double behind it at node 0; then 0.5 against 0.25 at node 1, which is told apart."""
+    quarter, next_one, half, zero = (bytes.fromhex(word) for word in ("000000000000d03f", "010000000000d03f", "000000000000e03f", "0000000000000000"))
+    jobs = [path_job(PLANES, XY, XY) + bytes.fromhex("18000000 2400") + first + quarter + zero for first in (quarter, next_one)]
+    yield pair("t", "f", jobs, name="G's twins found", role=1)
+    yield pair("t", "v", [file + path_flow(2, 1, 0) for file in jobs], name="G's twins accepted", role=1)
+    yield pair("t", "o", jobs, 24, name="G's twins read out by an operator (24)", role=1)
+    yield pair("d", "o", jobs, name="G's twins read out by the owner", role=OWNER)
+    jobs = [path_job(PLANES, XY, XY) + bytes.fromhex("18000000 2400") + quarter + second + zero for second in (half, quarter)]
+    yield pair("d", "f", jobs, name="G, a half told from a quarter", role=1)
+
+
+def told_apart():
+    """Whether an angle is special does show: by finder and verifier, and by nothing else to an operator; to the owner by all that has the angles."""
+    tables = {m: path_table(PLANES, angles=angle_bytes(QUARTER, angle, 0), layers=[1, 1, 0]) for m, angle in ((X, 0), (Y, HALF), (XY, QUARTER))}
+    numbers = {X: 0, Y: 19, XY: 18}
+    for one, two in itertools.permutations(tables, 2):
+        both = [tables[one], tables[two]]
+        jobs, files = [table.job() for table in both], [table.file() for table in both]
+        for role in (OWNER, 1, LARGEST):
+            yield pair("d", "f", jobs, role=role)
+            yield pair("d", "v", files, numbers[one], numbers[two], role=role)
+        yield pair("t", "a", files)
+        yield pair("t", "e", [edit_query(file, lent(0, [2])) for file in files])
+        yield pair("t", "o", jobs, 24)
+        yield pair("t", "W", [written(table) for table in both], 24)
+        if one < two:
+            yield from owners(*both)
+    # an operator learns nothing of a job by 24, though it has no angles or is none
+    for one, two in itertools.permutations([b"".join(PATH), b"".join(ANGLED), b"", b"\0"], 2):
+        yield pair("t", "o", [one, two], 24)
+
+
+def owners(one, two):
+    """The owner reads out and writes each table's own angles, so the two are told apart."""
+    both = [one, two]
+    for table in both:
+        yield entry("o", table.job(), record(ANGLES, table.angles))
+        yield entry("W", written(table), table.job())
+    yield pair("d", "o", [table.job() for table in both], role=OWNER)
+    yield pair("d", "W", [written(table) for table in both], role=OWNER)
+
+
+def each_bit():
+    """Two ordinary angles that differ in one bit, any but the highest two, by which they would be 2 or more, or negative; and two zeros that differ in the sign."""
+    tenths = bits_of(0.3)
+    for one, two in [*((tenths, tenths ^ 1 << at) for at in range(62)), (0, SIGN)]:
+        both = [path_table(PLANES, angles=angle_bytes(angle, QUARTER, 0)) for angle in (one, two)]
+        yield pair("t", "f", [table.job() for table in both])
+        yield pair("t", "v", [table.file() for table in both])
+        yield pair("d", "o", [table.job() for table in both], role=OWNER)
+
+
+def each_alike():
+    """Each angle that is tried above beside the next that infers the same, in each plane."""
+    for plane, angles in itertools.product(ALL_PLANES, ALIKE):
+        for one, two in zip(angles, angles[1:] + angles[:1]):
+            both = [four_table([plane])._replace(angles=angle_bytes(0, angle, QUARTER, 0)) for angle in (one, two)]
+            yield pair("t", "f", [table.job() for table in both])
+            yield pair("t", "v", [table.file() for table in both])
+
+
+def four_table(planes):
+    """A path of four for each of the planes, and the flow that these have without angles."""
+    measured, edges, sets = [], [], {}
+    for at, plane in zip(range(0, 4 * len(planes), 4), planes):
+        measured += [0, plane, XZ, 0]
+        edges += [(at + u, at + u + 1) for u in range(3)]
+        sets.update({at + u: [at + v for v in members] for u, members in zip((1, 2), FOUR_SETS[plane])})
+    outputs = [at for at, m in enumerate(measured) if m == 0]
+    return Table(len(measured), PLANES, edges, [], outputs, measured, [int(m != 0) for m in measured], sets)
+
+
+def twin_angles(draw, table, special):
+    """Two lists of angles, at each measured node two that infer the same: special ones by this share, and else ordinary ones, of which one in two is tried
+    above; and the first list with the last bit of its first ordinary angle changed, or the one before, where that would make it special."""
+    def ordinary():
+        return ALIKE[2][int(draw() * len(ALIKE[2]))] if draw() < 0.5 else bits_of(2 * draw()) | 1
+    one, two = [0] * table.n, [0] * table.n
+    for u in range(table.n):
+        if u not in table.outputs:
+            of = ALIKE[int(draw() * 2)] if draw() < special else [ordinary(), ordinary()]
+            one[u], two[u] = sorted(of, key=lambda _: draw())[:2]
+    near = list(one)
+    for u in [u for u in range(table.n) if inferred(XY, one[u]) == XY][:1]:
+        near[u] ^= 1 if inferred(XY, one[u] ^ 1) == XY else 2
+    return angle_bytes(*one), angle_bytes(*two), angle_bytes(*near)
+
+
+def drawn_twins():
+    """Twins of every size, with and without special angles, by every call."""
+    draw = random.Random(2207).random
+    shares = {0: [0], 2: [0, 1], 3: [0, 0.5, 1], 5: [0.5], 8: [0], 9: [0.5], 33: [0.5], 128: [0]}
+    tables = [(judged_table(draw, n, PLANES), share) for n in shares for share in shares[n]]
+    tables += [(Table(1, PLANES, [], [], [], [YZ], [1], {0: [0]}), share) for share in (0, 1)]
+    tables += [(four_table([ALL_PLANES[int(draw() * 3)] for _ in range(count)]), share) for count, share in [(1, 0), (2, 0.5), (6, 0.5)]]
+    for table, share in tables:
+        yield from twins_of(table, *twin_angles(draw, table, share))
+    many = four_table([ALL_PLANES[int(draw() * 3)] for _ in range(32)])
+    one, two, _ = twin_angles(draw, many, 0.5)
+    yield from itertools.islice(every_call(many._replace(angles=one), many._replace(angles=two)), 8)
+
+
+def twins_of(table, one, two, near):
+    """By every call the two lists of angles, and by finder and verifier the nearest one."""
+    both = [table._replace(angles=angles) for angles in (one, two)]
+    yield from every_call(*both)
+    if one != two:
+        yield from owners(*both)
+    if one != near:
+        both = [table._replace(angles=angles) for angles in (one, near)]
+        yield pair("t", "f", [each.job() for each in both])
+        yield pair("t", "v", [each.file() for each in both])
+        yield pair("d", "o", [each.job() for each in both], role=OWNER)
+
+
+def every_call(one, two):
+    """Answered, and refused: what a refusal leaves is compared too. Five bytes hold no result."""
+    both, n = [one, two], one.n
+    jobs, files = [table.job() for table in both], [table.file() for table in both]
+    edited = [edit_query(file, lent(max(n - 1, 0), [0] * min(n, 1))) for file in files]
+    yield pair("t", "f", jobs)
+    yield pair("t", "f", jobs, role=OWNER)
+    yield pair("t", "v", files)
+    yield pair("t", "v", files, role=OWNER)
+    yield pair("t", "a", files)
+    yield pair("t", "e", edited, 0 if n else 5)
+    yield pair("t", "o", jobs, 24)
+    yield pair("t", "W", [written(table) for table in both], 24)
+    yield pair("t", "f", jobs, 11, work=WORK - 1)
+    yield pair("t", "e", [edit_query(file, lent(n, [])) for file in files], 5)
+    for call, queries in [("f", jobs), ("v", files), ("a", files), ("e", edited)]:
+        if n or call != "e":
+            yield pair("t", call, queries, 20, out=5)
+        yield pair("t", call, [query + b"\0" for query in queries], 8)
+        if call != "f":
+            yield pair("t", call, [query[:-1] for query in queries], 2 if one.sets else 1)
+    yield from refused_flows(both)
+
+
+def refused_flows(both):
+    """13, 14, 15, 17 and 22 of the verifier; and what it refuses, with lists added, and edited."""
+    table = both[0]
+    measured = sorted(table.sets)
+    wrong = [(22, {"lists": flipped(with_lists(table), 1, 0, table.n - 1).lists})] if table.n else []
+    if table.outputs:
+        last = table.outputs[-1]
+        wrong += [(15, {"layers": changed(table.layers, last, 1)}), (17, {"sets": {**table.sets, last: []}})]
+    if measured:
+        wrong.append((14, {"sets": {u: table.sets[u] for u in measured[1:]}}))
+    if table.inputs and measured[1:]:
+        wrong.append((13, {"sets": {**table.sets, measured[-1]: table.inputs[:1]}}))
+    for number, changes in wrong:
+        files = [each._replace(**changes).file() for each in both]
+        yield pair("t", "v", files, number)
+        if number in (14, 22):
+            yield pair("t", "a", files)
+            yield pair("t", "e", [edit_query(file, lent(0, [])) for file in files])
+
+
+def inferred_verdicts():
+    """18 and 19, which go by what is inferred: node 0 of an edge in each plane by each of its sets, and the path with its nodes in one layer."""
+    for plane, angles, (inside, odd) in itertools.product(ALL_PLANES, ALIKE, [(0, 1), (1, 0), (1, 1)]):
+        number = 0 if own_holds(inferred(plane, angles[0]), inside, odd) else 19
+        ask = flow([1, 0], (0, [0] * inside + [1] * odd))
+        yield pair("t", "v", [job(2, PLANES, [(0, 1)], [], [1], [plane, 0], angle_bytes(angle, 0)) + ask for angle in angles[-2:]], number)
+    for angles, number in zip(ALIKE, (0, 19, 18)):
+        for layers, given in [([1, 1, 0], number), ([1, 0, 0], 18)]:
+            both = [path_table(PLANES, layers=layers, angles=angle_bytes(first, angle, 0)) for first, angle in zip(ALIKE[2], angles[-2:])]
+            yield pair("t", "v", [table.file() for table in both], given)
+
+
 def expected(entries, wrong):
-    """What the program prints: the entries with a name, the wrong entry, and how many of each number are as stored."""
-    names = [e[HEAD:HEAD + struct.unpack_from("<H", e, 9)[0]].decode() for e in entries]
+    """What the program prints: the entries with a name, the wrong entry, and how many of each number, of twins, and of other pairs are as stored."""
+    names = [e[HEAD:HEAD + struct.unpack_from("<H", e, 10)[0]].decode() for e in entries]
     lines = [f"entry {at}: DIFFERENT" if at == wrong else f"{name}: as the documents say" for at, name in enumerate(names) if name or at == wrong]
-    for number in range(24):
-        count = sum(e[1] == number for at, e in enumerate(entries) if at != wrong)
-        lines.append(f"number {number}: {count} as stored")
+    places = [kind_of(e) if kind_of(e) in "td" else number_of(e) for at, e in enumerate(entries) if at != wrong]
+    for number in range(25):
+        lines.append(f"number {number}: {places.count(number)} as stored")
+    lines.append(f"twins: {places.count('t')} as stored")
+    lines.append(f"pairs told apart: {places.count('d')} as stored")
     lines.append(f"entries: {len(entries)}")
     return "\n".join(lines) + "\n"
 
@@ -1313,8 +1574,10 @@ def main():
     writer = (openings, nodes_of_lists, measurements, given_twice, room, precedence, random_jobs)
     signals = (hand_made, sizes, longest, stored_lists, every_bit, judged_first, places, refused_files, sets_edited, lent_entries, first_of_two)
     angles = (by_hand, each_angle, angle_verdicts, angle_places, no_node, angle_room, angle_lists, lists_beside_angles)
-    for part in (heads, payloads, flows, finder, verifier, solver, solver_without_columns, finder_without_columns) + writer + signals + angles:
+    roles = (each_role, before_any_other, twins_by_hand, told_apart, each_bit, each_alike, inferred_verdicts, drawn_twins)
+    for part in (heads, payloads, flows, finder, verifier, solver, solver_without_columns, finder_without_columns) + writer + signals + angles + roles:
         entries.extend(part())
+    entries = list(with_roles(entries))
     with open(f"{folder}/stdin", "wb") as file:
         file.write(b"".join(entries))
     with open(f"{folder}/stdout", "w") as file:

@@ -1,6 +1,6 @@
 /* Holds the header against the library: each refusal by its name, layers of both kinds, signal lists added, edited and verified, angles written, read out
-   and searched by, the sizes on both sides, null pointers, the stack that a call needs. With an argument it prints the header's words of every number instead, each as the programs print them with a = 3
-   and b = 7. */
+   and searched by, what each role may do and what it leaves, the sizes on both sides, null pointers, the stack that a call needs. With an argument it
+   prints the header's words of every number instead, each as the programs print them with a = 3 and b = 7. */
 #define _DEFAULT_SOURCE
 #include <pthread.h>
 #include <stdio.h>
@@ -27,13 +27,22 @@
 #define ROWS "020000002200" "0001"
 #define ODDS "020000002300" "0000"
 #define LISTED FLOW ROWS ODDS
-/* Angles: 0.25, 0, -0 and 2, and the record with the first at node 0. */
+/* Angles: 0.25 and the double behind it, 0, -0, 0.5, 1, 1.5 and 2, and the record with the first at node 0. */
 #define QUARTER "000000000000d03f"
+#define BEHIND "010000000000d03f"
 #define NOUGHT "0000000000000000"
 #define SIGNED "0000000000000080"
+#define HALF "000000000000e03f"
+#define ONE "000000000000f03f"
+#define THREE_HALVES "000000000000f83f"
 #define TWO "0000000000000040"
 #define ANGLES "100000002400" QUARTER NOUGHT
 
+#define COUNT(list) (sizeof(list) / sizeof *(list))
+
+/* The owner's role and operators': to a library that looks at some bits only, one of these is the owner. */
+static const uint64_t roles[] = {BOLZ_OWNER, BOLZ_OPERATOR, 256, UINT64_C(1) << 32, UINT64_MAX};
+static uint64_t role = BOLZ_OWNER; /* of the calls below */
 static uint8_t bytes[1024];
 static uint8_t work[BOLZ_WORK_BYTES + 1];
 static uint8_t out[BOLZ_MOST_FLOW];
@@ -51,23 +60,23 @@ static size_t bytes_of(const char *digits, uint8_t *to)
 
 static uint64_t find(const char *file, size_t work_len, size_t out_len)
 {
-    return bolz_find(bytes, bytes_of(file, bytes), work, work_len, out, out_len);
+    return bolz_find(role, bytes, bytes_of(file, bytes), work, work_len, out, out_len);
 }
 
 static uint64_t verify(const char *file)
 {
-    return bolz_verify(bytes, bytes_of(file, bytes), out, sizeof out);
+    return bolz_verify(role, bytes, bytes_of(file, bytes), out, sizeof out);
 }
 
 static uint64_t added(const char *file, size_t out_len)
 {
-    return bolz_add_signals(bytes, bytes_of(file, bytes), out, out_len);
+    return bolz_add_signals(role, bytes, bytes_of(file, bytes), out, out_len);
 }
 
 static uint64_t edited(const char *file, const char *entry, size_t out_len)
 {
     static uint8_t e[8];
-    return bolz_edit_set(bytes, bytes_of(file, bytes), e, bytes_of(entry, e), out, out_len);
+    return bolz_edit_set(role, bytes, bytes_of(file, bytes), e, bytes_of(entry, e), out, out_len);
 }
 
 static uint64_t solve(size_t matrix_len, size_t bits_len, size_t cols, size_t side)
@@ -81,26 +90,26 @@ static uint64_t solve(size_t matrix_len, size_t bits_len, size_t cols, size_t si
 static uint64_t written(size_t n, size_t mode, const char *edges, const char *inputs, const char *outputs, const char *measured, size_t out_len)
 {
     static uint8_t e[8], i[8], o[8], m[8];
-    return bolz_write_job(n, mode, e, bytes_of(edges, e), i, bytes_of(inputs, i), o, bytes_of(outputs, o), m, bytes_of(measured, m), out, out_len);
+    return bolz_write_job(role, n, mode, e, bytes_of(edges, e), i, bytes_of(inputs, i), o, bytes_of(outputs, o), m, bytes_of(measured, m), out, out_len);
 }
 
 static uint64_t written_angles(size_t mode, const char *measured, const char *angles, size_t out_len)
 {
     static const uint8_t edge[] = {1, 0};
     static uint8_t m[8], a[32];
-    return bolz_write_job_angles(2, mode, edge, 2, edge + 1, 1, edge, 1, m, bytes_of(measured, m), a, bytes_of(angles, a), out, out_len);
+    return bolz_write_job_angles(role, 2, mode, edge, 2, edge + 1, 1, edge, 1, m, bytes_of(measured, m), a, bytes_of(angles, a), out, out_len);
 }
 
 static uint64_t read_out(const char *file, size_t out_len)
 {
-    return bolz_read_angles(bytes, bytes_of(file, bytes), out, out_len);
+    return bolz_read_angles(role, bytes, bytes_of(file, bytes), out, out_len);
 }
 
 static void want(const char *what, uint64_t result, unsigned number)
 {
     if (BOLZ_NUMBER(result) == number)
         return;
-    printf("%s: %u and not %u\n", what, BOLZ_NUMBER(result), number);
+    printf("%s, role %lu: %u and not %u\n", what, (unsigned long)role, BOLZ_NUMBER(result), number);
     wrong = 1;
 }
 
@@ -109,7 +118,7 @@ static void want_bytes(const char *what, uint64_t result, const uint8_t *wanted,
 {
     if (result == count && memcmp(out, wanted, count) == 0)
         return;
-    printf("%s: %lu and not %lu, or other bytes\n", what, (unsigned long)result, (unsigned long)count);
+    printf("%s, role %lu: %lu and not %lu, or other bytes\n", what, (unsigned long)role, (unsigned long)result, (unsigned long)count);
     wrong = 1;
 }
 
@@ -273,7 +282,7 @@ static uint64_t find_nodes(unsigned n)
     bytes_of("000000000500", file + at);
     file[at] = (uint8_t)n;
     memset(file + at + 6, 0, n);
-    return bolz_find(file, at + 6 + n, work, BOLZ_WORK_BYTES, out, sizeof out);
+    return bolz_find(role, file, at + 6 + n, work, BOLZ_WORK_BYTES, out, sizeof out);
 }
 
 /* n nodes, all of them inputs and outputs, each joined to each, the last ones first: the longest job file of n nodes. */
@@ -289,7 +298,7 @@ static uint64_t written_nodes(unsigned n, size_t out_len)
             edges[at + 1] = (uint8_t)b;
         }
     }
-    return bolz_write_job_angles(n, 2, edges, at, nodes, n, nodes, n, measured, n, zeros, BOLZ_ANGLE_BYTES * n, out, out_len);
+    return bolz_write_job_angles(role, n, 2, edges, at, nodes, n, nodes, n, measured, n, zeros, BOLZ_ANGLE_BYTES * n, out, out_len);
 }
 
 /* The most nodes, no edge, and every node in every set; the job's 160 bytes, and behind it the longest flow file without lists. */
@@ -316,13 +325,13 @@ static void longest_flow(void)
 {
     static uint8_t file[160 + BOLZ_MOST_FLOW], entry[2 + BOLZ_MOST_NODES];
     size_t len = full_sets(file), most = BOLZ_MOST_FLOW;
-    want("a byte less than the longest flow", bolz_add_signals(file, len, out, most - 1), BOLZ_RESULT_TOO_LONG);
-    want_bytes("the longest flow without its lists", bolz_add_signals(file, len, out, most) - (most - (len - 160)), file + 160, len - 160);
+    want("a byte less than the longest flow", bolz_add_signals(role, file, len, out, most - 1), BOLZ_RESULT_TOO_LONG);
+    want_bytes("the longest flow without its lists", bolz_add_signals(role, file, len, out, most) - (most - (len - 160)), file + 160, len - 160);
     memcpy(entry, file + 160 + 6 + 2 * BOLZ_MOST_NODES + 6, sizeof entry);
     memcpy(file + 160, out, most);
-    want_bytes("the longest flow anew", bolz_add_signals(file, sizeof file, out, most), file + 160, most);
-    want("its first entry, a byte less", bolz_edit_set(file, sizeof file, entry, sizeof entry, out, most - 1), BOLZ_RESULT_TOO_LONG);
-    want_bytes("its first entry", bolz_edit_set(file, sizeof file, entry, sizeof entry, out, most), file + 160, most);
+    want_bytes("the longest flow anew", bolz_add_signals(role, file, sizeof file, out, most), file + 160, most);
+    want("its first entry, a byte less", bolz_edit_set(role, file, sizeof file, entry, sizeof entry, out, most - 1), BOLZ_RESULT_TOO_LONG);
+    want_bytes("its first entry", bolz_edit_set(role, file, sizeof file, entry, sizeof entry, out, most), file + 160, most);
 }
 
 static void sizes(void)
@@ -346,18 +355,140 @@ static void sizes(void)
 
 static void null_pointers(void)
 {
-    want("nothing to find", bolz_find(NULL, 0, NULL, 0, NULL, 0), BOLZ_NO_RECORD);
-    want("nothing to verify", bolz_verify(NULL, 0, NULL, 0), BOLZ_NO_RECORD);
-    want("nothing to write", bolz_write_job(0, 0, NULL, 0, NULL, 0, NULL, 0, NULL, 0, NULL, 0), BOLZ_WRONG_OPENING);
-    want("no room", bolz_write_job(0, 1, NULL, 0, NULL, 0, NULL, 0, NULL, 0, NULL, 0), BOLZ_RESULT_TOO_LONG);
-    want("no node", bolz_write_job(0, 1, NULL, 0, NULL, 0, NULL, 0, NULL, 0, out, sizeof out), 0);
-    want("no angle", bolz_write_job_angles(0, 2, NULL, 0, NULL, 0, NULL, 0, NULL, 0, NULL, 0, out, sizeof out), 0);
-    want("nothing to read out", bolz_read_angles(NULL, 0, NULL, 0), BOLZ_NO_RECORD);
-    want("nothing to add to", bolz_add_signals(NULL, 0, NULL, 0), BOLZ_NO_RECORD);
-    want("nothing to edit", bolz_edit_set(NULL, 0, NULL, 0, NULL, 0), BOLZ_NO_RECORD);
-    want("nothing to put in", bolz_edit_set(bytes, bytes_of(JOB FLOW, bytes), NULL, 0, NULL, 0), BOLZ_WRONG_LENGTH);
-    want("no room for lists", bolz_add_signals(bytes, bytes_of(JOB FLOW, bytes), NULL, 0), BOLZ_RESULT_TOO_LONG);
+    want("nothing to find", bolz_find(role, NULL, 0, NULL, 0, NULL, 0), BOLZ_NO_RECORD);
+    want("nothing to verify", bolz_verify(role, NULL, 0, NULL, 0), BOLZ_NO_RECORD);
+    want("nothing to write", bolz_write_job(role, 0, 0, NULL, 0, NULL, 0, NULL, 0, NULL, 0, NULL, 0), BOLZ_WRONG_OPENING);
+    want("no room", bolz_write_job(role, 0, 1, NULL, 0, NULL, 0, NULL, 0, NULL, 0, NULL, 0), BOLZ_RESULT_TOO_LONG);
+    want("no node", bolz_write_job(role, 0, 1, NULL, 0, NULL, 0, NULL, 0, NULL, 0, out, sizeof out), 0);
+    want("no angle", bolz_write_job_angles(role, 0, 2, NULL, 0, NULL, 0, NULL, 0, NULL, 0, NULL, 0, out, sizeof out), 0);
+    want("nothing to read out", bolz_read_angles(role, NULL, 0, NULL, 0), BOLZ_NO_RECORD);
+    want("nothing to add to", bolz_add_signals(role, NULL, 0, NULL, 0), BOLZ_NO_RECORD);
+    want("nothing to edit", bolz_edit_set(role, NULL, 0, NULL, 0, NULL, 0), BOLZ_NO_RECORD);
+    want("nothing to put in", bolz_edit_set(role, bytes, bytes_of(JOB FLOW, bytes), NULL, 0, NULL, 0), BOLZ_WRONG_LENGTH);
+    want("no room for lists", bolz_add_signals(role, bytes, bytes_of(JOB FLOW, bytes), NULL, 0), BOLZ_RESULT_TOO_LONG);
     want("nothing to solve", bolz_solve(NULL, 0, NULL, 0, 0, 0, 0, 0), BOLZ_WRONG_SHAPE);
+}
+
+/* ---- Roles: the whole result and every byte of the buffers. */
+
+#define PAINT 0xA5
+
+/* What a call leaves. */
+struct left {
+    uint64_t result;
+    uint8_t work[sizeof work], out[sizeof out];
+};
+
+/* A call on a file or a list in digits, with so much room for its result. */
+typedef uint64_t call_on(const char *digits, size_t room);
+
+static uint64_t to_find(const char *file, size_t room) { return find(file, BOLZ_WORK_BYTES, room); }
+static uint64_t to_verify(const char *file, size_t room) { return bolz_verify(role, bytes, bytes_of(file, bytes), out, room); }
+static uint64_t to_edit(const char *file, size_t room) { return edited(file, "000101", room); }
+static uint64_t to_write(const char *measured, size_t room) { return written(2, 2, "0100", "00", "01", measured, room); }
+static uint64_t to_write_angles(const char *angles, size_t room) { return written_angles(2, "0100", angles, room); }
+static uint64_t to_write_wrongly(const char *angles, size_t room) { return written_angles(3, "0101", angles, room); }
+
+static void leave(struct left *left, uint64_t as, call_on *call, const char *digits, size_t room)
+{
+    memset(work, PAINT, sizeof work);
+    memset(out, PAINT, sizeof out);
+    role = as;
+    left->result = call(digits, room);
+    role = BOLZ_OWNER;
+    memcpy(left->work, work, sizeof work);
+    memcpy(left->out, out, sizeof out);
+}
+
+static void want_same(const char *what, uint64_t as, const struct left *wanted, const struct left *left)
+{
+    int buffers = memcmp(left->work, wanted->work, sizeof work) == 0 && memcmp(left->out, wanted->out, sizeof out) == 0;
+    if (left->result == wanted->result && buffers)
+        return;
+    printf("%s, role %lu: %lx and not %lx%s\n", what, (unsigned long)as, (unsigned long)left->result, (unsigned long)wanted->result,
+           buffers ? "" : ", or other bytes");
+    wrong = 1;
+}
+
+static struct left first, second;
+static const size_t rooms[] = {sizeof out, 3, 0};
+
+/* Whatever the role, the call leaves what it leaves to the owner. */
+static void open_to_all(const char *what, call_on *call, const char *const *all, size_t count)
+{
+    for (size_t f = 0; f < count; f++)
+        for (size_t m = 0; m < COUNT(rooms); m++) {
+            leave(&first, BOLZ_OWNER, call, all[f], rooms[m]);
+            for (size_t i = 0; i < COUNT(roles); i++) {
+                leave(&second, roles[i], call, all[f], rooms[m]);
+                want_same(what, roles[i], &first, &second);
+            }
+        }
+}
+
+/* An operator gets 24, a = b = 0, before any other question, and no byte changes. */
+static void for_the_owner(const char *what, call_on *call, const char *const *all, size_t count)
+{
+    first.result = (uint64_t)BOLZ_NOT_THE_OWNER << 32;
+    memset(first.work, PAINT, sizeof work);
+    memset(first.out, PAINT, sizeof out);
+    for (size_t f = 0; f < count; f++)
+        for (size_t m = 0; m < COUNT(rooms); m++)
+            for (size_t i = 1; i < COUNT(roles); i++) {
+                leave(&second, roles[i], call, all[f], rooms[m]);
+                want_same(what, roles[i], &first, &second);
+            }
+}
+
+/* Two jobs that differ in one angle and infer the same, alone and with a flow behind them, leave an operator the same. */
+static void hidden(const char *plane, const char *angle, const char *other)
+{
+    static const char *const flows[] = {"", FLOW, LISTED, "040000002100" "00000000" SETS};
+    static call_on *const calls[] = {to_find, to_verify, added, to_edit};
+    static char one[512], two[512];
+    for (size_t f = 0; f < COUNT(flows); f++) {
+        snprintf(one, sizeof one, OPEN EDGES INPUTS OUTPUTS "020000000500%s00" "100000002400%s" NOUGHT "%s", plane, angle, flows[f]);
+        snprintf(two, sizeof two, OPEN EDGES INPUTS OUTPUTS "020000000500%s00" "100000002400%s" NOUGHT "%s", plane, other, flows[f]);
+        for (size_t c = 0; c < COUNT(calls); c++)
+            for (size_t i = 1; i < COUNT(roles); i++) {
+                leave(&first, roles[i], calls[c], one, sizeof out);
+                leave(&second, roles[i], calls[c], two, sizeof out);
+                want_same(two, roles[i], &first, &second);
+            }
+    }
+}
+
+static void by_roles(void)
+{
+    static const char *const files[] = {
+        "", OPEN, JOB, JOB "00", CAUSAL REST, PAULI REST, PAULI REST ANGLES, JOB ANGLES, JOB ANGLES ANGLES, JOB "100000002400" TWO NOUGHT,
+        JOB FLOW, JOB LISTED, PAULI REST LISTED, CAUSAL REST FLOW, JOB ANGLES FLOW, JOB ANGLES LISTED,
+    };
+    static const char *const measurements[] = {"0100", "0101", ""};
+    static const char *const all_angles[] = {QUARTER NOUGHT, TWO NOUGHT, QUARTER, ""};
+    static const char *const planes[] = {"01", "02", "03"};
+    open_to_all("find", to_find, files, COUNT(files));
+    open_to_all("verify", to_verify, files, COUNT(files));
+    open_to_all("add signals", added, files, COUNT(files));
+    open_to_all("edit", to_edit, files, COUNT(files));
+    open_to_all("write", to_write, measurements, COUNT(measurements));
+    for_the_owner("read angles", read_out, files, COUNT(files));
+    for_the_owner("write with angles", to_write_angles, all_angles, COUNT(all_angles));
+    for_the_owner("write with angles, wrong lists", to_write_wrongly, all_angles, COUNT(all_angles));
+    for (size_t i = 1; i < COUNT(roles); i++) {
+        role = roles[i];
+        want("no bytes to read out", bolz_read_angles(role, NULL, 0, NULL, 0), BOLZ_NOT_THE_OWNER);
+        want("no node to write", bolz_write_job_angles(role, 0, 2, NULL, 0, NULL, 0, NULL, 0, NULL, 0, NULL, 0, NULL, 0), BOLZ_NOT_THE_OWNER);
+        want("too many nodes", bolz_write_job_angles(role, SIZE_MAX, SIZE_MAX, NULL, 0, NULL, 0, NULL, 0, NULL, 0, NULL, 0, NULL, 0), BOLZ_NOT_THE_OWNER);
+    }
+    role = BOLZ_OWNER;
+    for (size_t p = 0; p < COUNT(planes); p++) {
+        hidden(planes[p], QUARTER, BEHIND);
+        hidden(planes[p], "0100000000000000", "ffffffffffffff3f"); /* the least and the greatest that are not special */
+        hidden(planes[p], NOUGHT, SIGNED);
+        hidden(planes[p], NOUGHT, ONE);
+        hidden(planes[p], HALF, THREE_HALVES);
+    }
 }
 
 /* ---- The stack: each call runs in a thread whose stack was painted. */
@@ -422,13 +553,18 @@ int main(int count, char **arguments)
         words();
         return 0;
     }
-    refusals();
-    layers();
-    refused_lists();
-    lists();
-    lists_added();
-    sets_edited();
+    for (size_t i = 0; i < COUNT(roles); i++) {
+        role = roles[i];
+        refusals();
+        layers();
+        refused_lists();
+        lists();
+        lists_added();
+        sets_edited();
+    }
+    role = BOLZ_OWNER;
     angles();
+    by_roles();
     sizes();
     longest_flow();
     null_pointers();

@@ -1,5 +1,6 @@
 /* The eight calls from C: a flow for two joined nodes, its verdict, a wrong flow's refusal; a job written from lists, its flow, that with signal lists
-   and with one set edited; the job with angles, its flow, and the angles read out; two equations. */
+   and with one set edited; the job with angles, its flow, and the angles read out; two equations. An operator calls, who is refused the angles; they
+   are written and read out by their owner. */
 #include <stdio.h>
 #include <string.h>
 
@@ -40,21 +41,21 @@ static int with_signals(const uint8_t *path, size_t path_len, size_t flow_len)
     uint8_t verdict[6];
     memcpy(both, path, path_len);
     memcpy(both + path_len, flow, flow_len);
-    uint64_t added = bolz_add_signals(both, path_len + flow_len, flow, sizeof flow);
+    uint64_t added = bolz_add_signals(BOLZ_OPERATOR, both, path_len + flow_len, flow, sizeof flow);
     tell("add signals", added);
     if (BOLZ_NUMBER(added) != 0)
         return 1;
     print_bytes(flow, added);
     memcpy(both + path_len, flow, (size_t)added);
-    uint64_t edited = bolz_edit_set(both, path_len + (size_t)added, entry, sizeof entry, flow, sizeof flow);
+    uint64_t edited = bolz_edit_set(BOLZ_OPERATOR, both, path_len + (size_t)added, entry, sizeof entry, flow, sizeof flow);
     tell("edit", edited);
     if (BOLZ_NUMBER(edited) != 0)
         return 1;
     print_bytes(flow, edited);
     memcpy(both + path_len, flow, (size_t)edited);
-    tell("verify", bolz_verify(both, path_len + (size_t)edited, verdict, sizeof verdict));
+    tell("verify", bolz_verify(BOLZ_OPERATOR, both, path_len + (size_t)edited, verdict, sizeof verdict));
     both[path_len + edited - 1] ^= 1;
-    tell("verify a wrong list", bolz_verify(both, path_len + (size_t)edited, verdict, sizeof verdict));
+    tell("verify a wrong list", bolz_verify(BOLZ_OPERATOR, both, path_len + (size_t)edited, verdict, sizeof verdict));
     return 0;
 }
 
@@ -62,22 +63,23 @@ static int with_signals(const uint8_t *path, size_t path_len, size_t flow_len)
 static const uint8_t edges[] = {2, 1, 0, 1, 1, 0};
 static const uint8_t inputs[] = {0}, outputs[] = {2}, measurements[] = {1, 1, 0};
 
-/* The path with the angles 0.25 and 0, which means X: both nodes are then measured in layer 1. */
+/* The path with the angles 0.25 and 0, which means X: both nodes are then measured in layer 1. The operator gets its flow, and not the angles. */
 static int with_angles(void)
 {
     static const double values[] = {0.25, 0.0, 0.0};
     uint8_t angles[sizeof values], path[128];
     memcpy(angles, values, sizeof values); /* on a machine that has its lowest byte first */
-    uint64_t written = bolz_write_job_angles(3, 2, edges, 4, inputs, 1, outputs, 1, measurements, 3, angles, sizeof angles, path, sizeof path);
+    uint64_t written = bolz_write_job_angles(BOLZ_OWNER, 3, 2, edges, 4, inputs, 1, outputs, 1, measurements, 3, angles, sizeof angles, path, sizeof path);
     tell("write with angles", written);
     if (BOLZ_NUMBER(written) != 0)
         return 1;
-    uint64_t found = bolz_find(path, (size_t)written, work, sizeof work, flow, sizeof flow);
+    uint64_t found = bolz_find(BOLZ_OPERATOR, path, (size_t)written, work, sizeof work, flow, sizeof flow);
     tell("find", found);
     if (BOLZ_NUMBER(found) != 0)
         return 1;
     print_bytes(flow, found);
-    uint64_t read = bolz_read_angles(path, (size_t)written, flow, sizeof flow);
+    tell("read angles as operator", bolz_read_angles(BOLZ_OPERATOR, path, (size_t)written, flow, sizeof flow));
+    uint64_t read = bolz_read_angles(BOLZ_OWNER, path, (size_t)written, flow, sizeof flow);
     tell("read angles", read);
     if (BOLZ_NUMBER(read) != 0)
         return 1;
@@ -88,13 +90,13 @@ static int with_angles(void)
 static int from_lists(void)
 {
     uint8_t path[64];
-    tell("write with an edge twice", bolz_write_job(3, 2, edges, 6, inputs, 1, outputs, 1, measurements, 3, path, sizeof path));
-    uint64_t written = bolz_write_job(3, 2, edges, 4, inputs, 1, outputs, 1, measurements, 3, path, sizeof path);
+    tell("write with an edge twice", bolz_write_job(BOLZ_OPERATOR, 3, 2, edges, 6, inputs, 1, outputs, 1, measurements, 3, path, sizeof path));
+    uint64_t written = bolz_write_job(BOLZ_OPERATOR, 3, 2, edges, 4, inputs, 1, outputs, 1, measurements, 3, path, sizeof path);
     tell("write", written);
     if (BOLZ_NUMBER(written) != 0)
         return 1;
     print_bytes(path, written);
-    uint64_t found = bolz_find(path, (size_t)written, work, sizeof work, flow, sizeof flow);
+    uint64_t found = bolz_find(BOLZ_OPERATOR, path, (size_t)written, work, sizeof work, flow, sizeof flow);
     tell("find", found);
     if (BOLZ_NUMBER(found) != 0)
         return 1;
@@ -104,7 +106,7 @@ static int from_lists(void)
 
 int main(void)
 {
-    uint64_t found = bolz_find(job, sizeof job, work, sizeof work, flow, sizeof flow);
+    uint64_t found = bolz_find(BOLZ_OPERATOR, job, sizeof job, work, sizeof work, flow, sizeof flow);
     tell("find", found);
     if (BOLZ_NUMBER(found) != 0)
         return 1; /* refused: nothing was written, and found is no count */
@@ -114,10 +116,10 @@ int main(void)
     memcpy(both, job, sizeof job);
     memcpy(both + sizeof job, flow, (size_t)found);
     uint8_t verdict[6];
-    tell("verify", bolz_verify(both, sizeof job + found, verdict, sizeof verdict));
+    tell("verify", bolz_verify(BOLZ_OPERATOR, both, sizeof job + found, verdict, sizeof verdict));
 
     both[sizeof job + 9] = 1; /* the high byte of the output's layer */
-    tell("verify a wrong flow", bolz_verify(both, sizeof job + found, verdict, sizeof verdict));
+    tell("verify a wrong flow", bolz_verify(BOLZ_OPERATOR, both, sizeof job + found, verdict, sizeof verdict));
 
     if (from_lists() != 0 || with_angles() != 0)
         return 1;

@@ -14,9 +14,9 @@ use crate::theirs;
 const ALIKE: &str = "as the original";
 
 /// The bytes that ours writes, or the refusal.
-pub fn find_ours(file: &[u8]) -> Result<Vec<u8>, Answer> {
+pub fn find_ours(role: u64, file: &[u8]) -> Result<Vec<u8>, Answer> {
     let (mut work, mut out) = (vec![0; WORK_BYTES], vec![0; OUT_BYTES]);
-    match ours::find(file, &mut work, &mut out) {
+    match ours::find(role, file, &mut work, &mut out) {
         Answer::Value(count) => Ok(out[..count].to_vec()),
         refused => Err(refused),
     }
@@ -125,11 +125,12 @@ pub fn compare(tally: &mut Tally, family: &str, job: &Job) {
     let file = job.bytes();
     let working = &working(job);
     let rule = Rule::new(working);
-    let (mine, other) = (find_ours(&file), find_theirs(&file));
+    let role = tally.role();
+    let (mine, other) = (find_ours(role, &file), find_theirs(&file));
     let [flow, original] = [mine.as_deref().ok(), other.as_deref()].map(|bytes| Flow::read(bytes?, job.n));
     let right = mine.as_ref().is_ok_and(|bytes| is_right(working, &rule, bytes));
     let answers = || told(job, &mine, other.as_deref());
-    let detail = || answers() + &told_rule(job, &rule);
+    let detail = || format!("role {role}, {}{}", answers(), told_rule(job, &rule));
     if rule.in_old_premise() {
         let same = matches!((&mine, &other), (Ok(a), Some(b)) if is_same(a, b, job.n));
         tally.add(family, depth(other.as_deref(), job.n), same && right, detail);
@@ -224,7 +225,7 @@ pub fn too_many(tally: &mut Tally, random: &mut Random, count: usize) {
     for i in 0..count {
         let n = families::HIGHEST + 1 + random.below(20);
         let job = families::path(n, [PLANES, PAULI][i % 2]);
-        let (mine, other) = (find_ours(&job.bytes()), find_theirs(&job.bytes()));
+        let (mine, other) = (find_ours(tally.role(), &job.bytes()), find_theirs(&job.bytes()));
         let same = mine == Err(Answer::Refused(4, 0, 0)) && other.is_some();
         let answer = if other.is_some() { "answer" } else { "panic" };
         tally.add("finder, more than 128 nodes (ours: 4)", answer, same, || format!("{n} nodes, ours {mine:?}"));

@@ -9,6 +9,7 @@ pub mod jobs;
 pub mod many;
 pub mod ours;
 pub mod random;
+pub mod roles;
 pub mod rule;
 pub mod solving;
 pub mod tally;

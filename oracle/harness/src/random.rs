@@ -9,6 +9,11 @@ impl Random {
         Random { state: seed }
     }
 
+    /// Other numbers by the same seed; those of this one stay as they are.
+    pub fn beside(&self) -> Self {
+        Random::new(!self.state)
+    }
+
     pub fn next(&mut self) -> u64 {
         self.state = self.state.wrapping_add(0x9E37_79B9_7F4A_7C15);
         let mut z = self.state;

@@ -1,6 +1,7 @@
 //! Counts of what was compared, and the first differences.
 
 use crate::jobs::{Flow, Job, LAYERS};
+use crate::ours::{OWNER, ROLES};
 use std::collections::BTreeMap;
 
 /// So many differences are shown whole.
@@ -24,6 +25,8 @@ pub struct Tally {
     /// How many flows were judged by layers of kind 0011, of kind 0021 up to layer 255, and of kind 0021 beyond.
     judged: [usize; 3],
     differences: Vec<String>,
+    /// How often a role was taken by turns.
+    turns: usize,
     /// How many jobs were outside the old premise, and how many of these the original answers otherwise.
     outside: usize,
     otherwise: usize,
@@ -60,6 +63,13 @@ impl Tally {
         self.judged[usize::from(flow.kind != LAYERS) + usize::from(beyond)] += 1;
     }
 
+    /// The role of the next call, by turns: which it is must not matter.
+    pub fn role(&mut self) -> u64 {
+        let role = ROLES[self.turns % ROLES.len()];
+        self.turns += 1;
+        role
+    }
+
     pub fn add_outside(&mut self) {
         self.outside += 1;
     }
@@ -84,6 +94,8 @@ impl Tally {
         println!("\nnodes in the found flows: XY, YZ, XZ, X, Y, Z: {:?}", &self.measured[1..]);
         let [narrow, wide, beyond] = self.judged;
         println!("judged flows: kind 0011: {narrow}; kind 0021: {}, {beyond} of them with a layer past 255", wide + beyond);
+        let by_owner = (0..self.turns).filter(|turn| ROLES[turn % ROLES.len()] == OWNER).count();
+        println!("calls of ours by turns: {by_owner} as owner, {} as operator", self.turns - by_owner);
         println!("outside the old premise: {} jobs, of which the original answers {} otherwise", self.outside, self.otherwise);
         for (kind, (_, detail)) in &self.smallest {
             println!("smallest, {kind}: {detail}");

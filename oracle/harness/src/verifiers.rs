@@ -25,8 +25,8 @@ fn same(mine: Answer, other: (u8, usize, usize)) -> bool {
     match (mine, other) {
         (Answer::Value(_), (0, _, _)) => true,
         (Answer::Refused(18 | 19, _, _), (18 | 19, _, _)) => true,
-        (Answer::Refused(x @ (15 | 16), a, b), (y, c, d)) => x == y && a as usize == c && b as usize == d,
-        (Answer::Refused(x @ (13 | 14 | 17), _, _), (y, _, _)) => x == y,
+        (Answer::Refused(x @ (15 | 16), a, b), (y, c, d)) => x == y.into() && a as usize == c && b as usize == d,
+        (Answer::Refused(x @ (13 | 14 | 17), _, _), (y, _, _)) => x == y.into(),
         _ => false,
     }
 }
@@ -35,7 +35,8 @@ fn same(mine: Answer, other: (u8, usize, usize)) -> bool {
 /// since the original looks at the nodes with a wrong set first and at those without one then.
 fn is_named(mine: Answer, file: &[u8]) -> bool {
     let Answer::Refused(number, a, b) = mine else { return true };
-    number == 14 || (0..RUNS).any(|_| theirs::verify(file) == (number, a as usize, b as usize))
+    let named = |(x, c, d): (u8, usize, usize)| (u32::from(x), c, d) == (number, a.into(), b.into());
+    number == 14 || (0..RUNS).any(|_| named(theirs::verify(file)))
 }
 
 fn label(number: u8) -> String {
@@ -48,11 +49,12 @@ fn label(number: u8) -> String {
 
 fn compare(tally: &mut Tally, family: &str, job: &Job, flow: &Flow) {
     let file = [job.bytes(), flow.bytes()].concat();
-    let mine = ours::verify(&file, &mut [0; 6]);
+    let role = tally.role();
+    let mine = ours::verify(role, &file, &mut [0; 6]);
     let other = std::panic::catch_unwind(|| theirs::verify(&file)).ok();
     let answer = other.map_or("panic".to_string(), |o| label(o.0));
     let agree = other.is_some_and(|o| same(mine, o)) && (job.n > CLOSELY || is_named(mine, &file));
-    tally.add(family, &answer, agree, || format!("file {} ours {mine:?} original {other:?}", hex(&file)));
+    tally.add(family, &answer, agree, || format!("role {role}, file {} ours {mine:?} original {other:?}", hex(&file)));
     tally.add_flow(flow);
 }
 

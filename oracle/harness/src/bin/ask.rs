@@ -1,17 +1,17 @@
-//! What the original answers on a file, and what ours does: a job is searched, a job with a flow file behind it is judged.
+//! What the original answers on a file, and what ours does to an operator: a job is searched, a job with a flow file behind it is judged.
 
 use harness::finders::find_theirs;
 use harness::jobs::{SETS, records, told_found};
-use harness::ours::{self, Answer, OUT_BYTES, WORK_BYTES};
+use harness::ours::{self, Answer, OPERATOR, OUT_BYTES, WORK_BYTES};
 use harness::theirs;
 
-fn refused(number: u8, a: usize, b: usize) -> String {
+fn refused(number: u32, a: usize, b: usize) -> String {
     format!("refused {number}, a = {a}, b = {b}")
 }
 
 fn searched(file: &[u8], n: usize) -> [String; 2] {
     let (mut work, mut out) = ([0; WORK_BYTES], [0; OUT_BYTES]);
-    let mine = match ours::find(file, &mut work, &mut out) {
+    let mine = match ours::find(OPERATOR, file, &mut work, &mut out) {
         Answer::Value(len) => told_found(&out[..len], n),
         Answer::Refused(number, a, b) => refused(number, a as usize, b as usize),
     };
@@ -19,13 +19,13 @@ fn searched(file: &[u8], n: usize) -> [String; 2] {
 }
 
 fn judged(file: &[u8]) -> [String; 2] {
-    let mine = match ours::verify(file, &mut [0; OUT_BYTES]) {
+    let mine = match ours::verify(OPERATOR, file, &mut [0; OUT_BYTES]) {
         Answer::Value(_) => "accepted".to_string(),
         Answer::Refused(number, a, b) => refused(number, a as usize, b as usize),
     };
     let other = match theirs::verify(file) {
         (0, _, _) => "accepted".to_string(),
-        (number, a, b) => refused(number, a, b),
+        (number, a, b) => refused(number.into(), a, b),
     };
     [other, mine]
 }
