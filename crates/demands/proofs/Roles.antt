@@ -10,6 +10,7 @@ use native.Mathlib.Omega.{arith}
 use borrow.Author.Tests.{eqb-true, eq-eqb, ne-eqb}
 use lib.ListN.{length, length-append, take, getD}
 use lib.Dec.{eqb}
+use lib.Ieee.{Float}
 use lib.Seq.{take-append-add}
 use Rattle.nodes.specs.Lists.{has, zeros}
 use Rattle.nodes.proofs.Logic.{or-all}
@@ -33,7 +34,7 @@ use Rattle.records.proofs.JobLists.{job-parts, ascending-length, file-ascending
 use Rattle.demands.specs.Calls.{owner, isOwner, search, foundBytes, hasSearch, findAsks, Both, readBoth, judge, verifyAsks, editAsks, readAnglesAsks, writeJobAsks, put, findOutcome, findCall, outcome, verifyCall, writeJobCall, readAnglesCall, addedBytes, addSignalsCall, editedBytes, editSetCall}
 use Rattle.demands.specs.Programs.{judgedBytes, findOutput, findProgram, verifyOutput, verifyProgram, printed, refusalIn, streams}
 use Rattle.demands.specs.JobWriter.{JobBytes}
-use Rattle.demands.specs.Roles.{Call, finding, verifying, finderProgram, verifierProgram, writing, readingOut, addingLists, editing, called, wantsAngles, OwnersOnly, OpenToBoth, AsTheOwner, withAngles, Twins, TwinFiles, Secrecy, special, OnlySpecialShow}
+use Rattle.demands.specs.Roles.{Call, finding, verifying, finderProgram, verifierProgram, writing, readingOut, addingLists, editing, called, wantsAngles, OwnersOnly, OpenToBoth, AsTheOwner, havingAngles, Twins, TwinFiles, Secrecy, special, OnlySpecialShow}
 
 -- ---- who may
 pub owners-only : OwnersOnly
@@ -76,8 +77,8 @@ record TwinsRead (file other : List ℕ) : Type 0 where
   readsOther : readJob other ≡ gives (holding job others after)
   inferred : inferredBytes (job .measurements) angles ≡ inferredBytes (job .measurements) others
 
-read-behind : (s t : List ℕ) (f : JobFile) (p : List ℕ) → JobBytes s (withAngles f p) → readJob (s ++ t) ≡ gives (holding f p t)
-read-behind s t f p (reads, ends, bytes) = job-append-angled s t (withAngles f p) p refl reads
+read-behind : (s t : List ℕ) (f : JobFile) (p : List ℕ) → JobBytes s (havingAngles f p) → readJob (s ++ t) ≡ gives (holding f p t)
+read-behind s t f p (reads, ends, bytes) = job-append-angled s t (havingAngles f p) p refl reads
 
 twins-read : (s t u : List ℕ) → Twins s t → TwinsRead (s ++ u) (t ++ u)
 twins-read s t u w = record {
@@ -161,12 +162,12 @@ taken : (k : ℕ) (l r : List ℕ) → length l ≤ k → take k (l ++ r) ≡ l 
 taken k l r h = let e : k ≡ length l + (k - length l) = omega arith in ap (λ (i : ℕ). take i (l ++ r)) e ∙ take-append-add l r (k - length l)
 
 -- twins are of one length, which has room
-angled-length : (s : List ℕ) (f : JobFile) (p : List ℕ) → JobBytes s (withAngles f p) → (length s ≡ length (jobBytes (withoutAngles f)) + (headBytes + angleBytes * f .n)) × (length s ≤ mostJob)
+angled-length : (s : List ℕ) (f : JobFile) (p : List ℕ) → JobBytes s (havingAngles f p) → (length s ≡ length (jobBytes (withoutAngles f)) + (headBytes + angleBytes * f .n)) × (length s ≤ mostJob)
 angled-length s f p (reads, ends, bytes) =
-    let v = job-asked s (withAngles f p) reads in
-    let own : s ≡ jobBytes (withAngles f p) = job-exact s (withAngles f p) bytes .0 reads .0 ∙ append-nil (jobBytes (withAngles f p)) in
-    let parts : length s ≡ length (jobBytes (withoutAngles f)) + length (written kindAngles p) = ap length (own ∙ job-parts (withAngles f p)) ∙ length-append (jobBytes (withoutAngles f)) (written kindAngles p) in
-    let few : length (jobBytes (withAngles f p)) ≤ mostJob = rw (← file-ascending (withAngles f p) v refl) (ascending-length _ (valid-asks (withAngles f p) v)) in
+    let v = job-asked s (havingAngles f p) reads in
+    let own : s ≡ jobBytes (havingAngles f p) = job-exact s (havingAngles f p) bytes .0 reads .0 ∙ append-nil (jobBytes (havingAngles f p)) in
+    let parts : length s ≡ length (jobBytes (withoutAngles f)) + length (written kindAngles p) = ap length (own ∙ job-parts (havingAngles f p)) ∙ length-append (jobBytes (withoutAngles f)) (written kindAngles p) in
+    let few : length (jobBytes (havingAngles f p)) ≤ mostJob = rw (← file-ascending (havingAngles f p) v refl) (ascending-length _ (valid-asks (havingAngles f p) v)) in
     (omega (arith, parts, written-length kindAngles p, v .angles .1), rw own few)
 
 first-twins : (k : ℕ) (file other : List ℕ) → mostJob ≤ k → TwinFiles file other → TwinsRead (take k file) (take k other)
@@ -210,20 +211,21 @@ keeps-plane p = by (eqb p planeXY) refl (eqb p planeYZ) refl (eqb p planeXZ) ref
     by false e false f true g = sym (eqb-true p planeXZ g)
     by false e false f false g = refl
 
+ordinary-keeps : (p : ℕ) (x : Float) → special (Value x) ≡ special NotANumber → inferredFrom p (Value x) ≡ p
+unfolding inferredByte inferredIn
+ordinary-keeps p x e =
+    let whole : isWhole x ≡ false = ap (λ (s : Bool × Bool). s .0) e in
+    let half : isHalf x ≡ false = ap (λ (s : Bool × Bool). s .1) e in
+    rw (whole, half) (keeps-plane p)
+
 same-inferred : (p : ℕ) (a b : Angle) → special a ≡ special b → inferredFrom p a ≡ inferredFrom p b
 unfolding inferredByte inferredIn
 same-inferred p (Value x) (Value y) e =
     let whole : isWhole x ≡ isWhole y = ap (λ (s : Bool × Bool). s .0) e in
     let half : isHalf x ≡ isHalf y = ap (λ (s : Bool × Bool). s .1) e in
     rw (whole, half)
-same-inferred p (Value x) NotANumber e =
-    let whole : isWhole x ≡ false = ap (λ (s : Bool × Bool). s .0) e in
-    let half : isHalf x ≡ false = ap (λ (s : Bool × Bool). s .1) e in
-    rw (whole, half) (keeps-plane p)
-same-inferred p NotANumber (Value y) e =
-    let whole : isWhole y ≡ false = ap (λ (s : Bool × Bool). s .0) (sym e) in
-    let half : isHalf y ≡ false = ap (λ (s : Bool × Bool). s .1) (sym e) in
-    rw (whole, half) (sym (keeps-plane p))
+same-inferred p (Value x) NotANumber e = ordinary-keeps p x e
+same-inferred p NotANumber (Value y) e = sym (ordinary-keeps p y (sym e))
 same-inferred p NotANumber NotANumber e = refl
 
 pub only-special-show : OnlySpecialShow

@@ -98,16 +98,16 @@ abbrev pub AsTheOwner : Type 0
 AsTheOwner = (role : ℕ) (c : Call) (source : Source c) → (called role c source ≡ called owner c source) ⊎ ((role ≢ owner) × (wantsAngles c source ≡ true))
 
 -- ---- nor see them
-abbrev pub withAngles : JobFile → List ℕ → JobFile
-withAngles f angles = jobWith (f .n) (f .mode) (f .edges) (f .inputs) (f .outputs) (f .measurements) (some angles)
+abbrev pub havingAngles : JobFile → List ℕ → JobFile
+havingAngles f angles = jobWith (f .n) (f .mode) (f .edges) (f .inputs) (f .outputs) (f .measurements) (some angles)
 
 -- two readable jobs that differ only in angles, with the same inferred measurements
 pub record Twins (one other : List ℕ) : Type 0 where
   pub job : JobFile
   pub angles : List ℕ
   pub others : List ℕ
-  pub reads : JobBytes one (withAngles job angles)
-  pub readsOther : JobBytes other (withAngles job others)
+  pub reads : JobBytes one (havingAngles job angles)
+  pub readsOther : JobBytes other (havingAngles job others)
   pub inferred : inferredBytes (job .measurements) angles ≡ inferredBytes (job .measurements) others
 
 -- with the same bytes behind them, whatever these are
