@@ -4,11 +4,8 @@
 ghost use Prim.Native.Nat.{_+_, _*_, _<_, _≤_};
 ghost use mathlib.Core.Path.{_≡_};
 ghost use lib.ListN.{length, getD};
-ghost use Rattle.messages.specs.Message.{line, putWhole};
+ghost use Rattle.answers.specs.Refusals.{refusalOf};
 use answers::Refusal;
-use libc::STDOUT_FILENO;
-use messages::LINE_ROOM;
-use messages::message;
 use records::common::ENTRY_HEAD_BYTES;
 use records::common::FlowPlaces;
 use records::common::FlowRead;
@@ -32,6 +29,9 @@ use records::signals::row_width;
 use streams::Input;
 use streams::only_usage;
 use streams::output_failed;
+use streams::print;
+use streams::print_line;
+use streams::print_number;
 use streams::read_input;
 use streams::write_error;
 
@@ -205,14 +205,6 @@ fn judge(file: &[u8]) -> Judged {
 
 // ---- Showing. Each tells whether it was written.
 
-fn print(text: &[u8]) -> bool {
-    io::write_all(STDOUT_FILENO, text)
-}
-
-fn print_number(x: usize) -> bool {
-    io::print_decimal(STDOUT_FILENO, x as u64)
-}
-
 fn show_member(k: usize) -> bool {
     print(b" ") && print_number(k)
 }
@@ -342,20 +334,14 @@ fn show_flow(file: &[u8], flow: FlowPlaces) -> bool
     show_nodes(file, flow, n) && show_lists(file, flow, n)
 }
 
-// The line of 001F at the front of the buffer; how many bytes it takes.
-fn put_refusal(file: &[u8], out: &mut [u8]) -> usize
-    ensures { λ r. ⌜ record { count = r; out = now (out .exit) } ≡ putWhole (line (record { number = getD (now (file .entry)) 6 0; a = getD (now (file .entry)) 7 0; b = getD (now (file .entry)) 8 0 + 256 * getD (now (file .entry)) 9 0 })) (now (out .entry)) ⌝ }
+// What 001F tells.
+fn refusal_in(file: &[u8]) -> Refusal
+    ensures { λ r. ⌜ refusalOf r ≡ record { number = getD (now (file .entry)) 6 0; a = getD (now (file .entry)) 7 0; b = getD (now (file .entry)) 8 0 + 256 * getD (now (file .entry)) 9 0 } ⌝ }
 {
     let q = byte_at(file, HEAD_BYTES);
     let a = byte_at(file, HEAD_BYTES + 1);
     let b = two_bytes(file, HEAD_BYTES + 2);
-    message(Refusal(q, a, b), out)
-}
-
-fn show_refusal(file: &[u8]) -> bool {
-    let mut line = [0u8; LINE_ROOM];
-    let k = put_refusal(file, &mut line);
-    print(&line[..k])
+    Refusal(q, a, b)
 }
 
 fn complain(text: &[u8]) -> bool {
@@ -370,7 +356,7 @@ fn show(file: &[u8]) -> bool
         Judged::Flow(flow) => show_flow(file, flow),
         Judged::NoFlow => print(b"no flow\n"),
         Judged::Accepted => print(b"accepted\n"),
-        Judged::Refusal => show_refusal(file),
+        Judged::Refusal => print_line(refusal_in(file)),
         Judged::Cut => complain(b"the file is cut off\n"),
         Judged::Other => complain(b"no file of flow_find or flow_verify\n"),
     }

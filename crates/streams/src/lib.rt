@@ -1,9 +1,12 @@
 // The standard streams of the programs. Where reading or writing fails, a line on standard error says so.
 ghost use lib.ListN.{length};
 ghost use Rattle.streams.specs.Streams.{InBuffer};
+use answers::Refusal;
 use libc::STDERR_FILENO;
 use libc::STDIN_FILENO;
 use libc::STDOUT_FILENO;
+use messages::LINE_ROOM;
+use messages::message;
 
 // How many bytes were read to the front of the buffer; or a read failed.
 pub enum Input {
@@ -55,9 +58,37 @@ pub fn write_output(bytes: &[u8]) {
     }
 }
 
+// Text on standard output, piece by piece; was it written?
+pub fn print(text: &[u8]) -> bool {
+    io::write_all(STDOUT_FILENO, text)
+}
+
+pub fn print_number(x: usize) -> bool {
+    io::print_decimal(STDOUT_FILENO, x as u64)
+}
+
 // A failure here has no stream left to be told on.
 pub fn write_error(bytes: &[u8]) {
     io::write_all(STDERR_FILENO, bytes);
+}
+
+pub fn error_number(x: usize) {
+    io::print_decimal(STDERR_FILENO, x as u64);
+}
+
+// The line of a refusal; was it written?
+fn write_line(to: i32, q: Refusal) -> bool {
+    let mut line = [0u8; LINE_ROOM];
+    let k = message(q, &mut line);
+    io::write_all(to, &line[..k])
+}
+
+pub fn print_line(q: Refusal) -> bool {
+    write_line(STDOUT_FILENO, q)
+}
+
+pub fn tell(q: Refusal) {
+    write_line(STDERR_FILENO, q);
 }
 
 // A program takes no arguments: with any it says what it reads and writes, and ends.

@@ -1,0 +1,14 @@
+pub mod Parting
+pub mod Lexing
+pub mod Values
+pub mod Naming
+pub mod Numbers
+pub mod Reading
+pub mod Made
+pub mod ShownWords
+pub mod ShownLists
+pub mod Gathered
+pub mod ShowsBack
+pub mod Placed
+pub mod Showing
+pub mod Examples
