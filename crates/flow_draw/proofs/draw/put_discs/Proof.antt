@@ -1,0 +1,28 @@
+use Prim.Native.Nat.{_-_}
+use borrow.Author.Needs.{needs}
+use Rattle.flow_draw.proofs.draw.put_discs.Statement.{statement}
+use Rattle.flow_draw.proofs.draw.put_discs.Tie as tie
+
+abbrev Inv-loop : tie.InvT-loop
+Inv-loop nodes xs rows v₀ t5 v = Unit {0}
+
+abbrev μ-loop : tie.MeasureT-loop
+μ-loop nodes xs rows v₀ t5 v = 128 - v
+
+pub put-discs-spec : {M : Type 1} → statement M
+put-discs-spec =
+    tie.close
+    (tie.spec
+    Inv-loop
+    μ-loop
+    (λ c. search needs)
+    (λ c κs. search needs)
+    (λ c. search needs)
+    (λ c κs. search needs)
+    (λ c κs. search needs)
+    (λ c κs. search needs)
+    (λ c. search needs)
+    (λ c. search needs)
+    (λ c. search needs)
+    (λ c. search needs)
+    (λ c. search needs))
