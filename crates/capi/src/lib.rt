@@ -53,40 +53,35 @@ fn solved_code(solved: Solved) -> u64
 }
 
 // The finder: the count of bytes written, or the refusal.
-#[unsafe(no_mangle)]
-pub extern "C" fn bolz_find(role: u64, file: &[u8], work: &mut [u8], out: &mut [u8]) -> u64
+pub fn bolz_find(role: u64, file: &[u8], work: &mut [u8], out: &mut [u8]) -> u64
     ensures { record { code = result; work = work.new; out = out.new } ≡ coded (called role (finding work.old out.old) file.now) }
 {
     reply_code(find(role, file, work, out))
 }
 
 // The verifier: the count of bytes written, or the refusal.
-#[unsafe(no_mangle)]
-pub extern "C" fn bolz_verify(role: u64, file: &[u8], out: &mut [u8]) -> u64
+pub fn bolz_verify(role: u64, file: &[u8], out: &mut [u8]) -> u64
     ensures { record { code = result; work = []; out = out.new } ≡ coded (called role (verifying out.old) file.now) }
 {
     reply_code(verify(role, file, out))
 }
 
 // The signal lists beside a flow: the count of bytes written, or the refusal.
-#[unsafe(no_mangle)]
-pub extern "C" fn bolz_add_signals(role: u64, file: &[u8], out: &mut [u8]) -> u64
+pub fn bolz_add_signals(role: u64, file: &[u8], out: &mut [u8]) -> u64
     ensures { record { code = result; work = []; out = out.new } ≡ coded (called role (adding_lists out.old) file.now) }
 {
     reply_code(add_signals(role, file, out))
 }
 
 // One node's set edited: the count of bytes written, or the refusal.
-#[unsafe(no_mangle)]
-pub extern "C" fn bolz_edit_set(role: u64, file: &[u8], entry: &[u8], out: &mut [u8]) -> u64
+pub fn bolz_edit_set(role: u64, file: &[u8], entry: &[u8], out: &mut [u8]) -> u64
     ensures { record { code = result; work = []; out = out.new } ≡ coded (called role (editing entry.now out.old) file.now) }
 {
     reply_code(edit_set(role, file, entry, out))
 }
 
 // The job writer: the count of bytes written, or the refusal.
-#[unsafe(no_mangle)]
-pub extern "C" fn bolz_write_job(
+pub fn bolz_write_job(
     role: u64,
     n: usize,
     mode: usize,
@@ -103,8 +98,7 @@ pub extern "C" fn bolz_write_job(
 }
 
 // The job writer with angles: the count of bytes written, or the refusal.
-#[unsafe(no_mangle)]
-pub extern "C" fn bolz_write_job_angles(
+pub fn bolz_write_job_angles(
     role: u64,
     n: usize,
     mode: usize,
@@ -132,16 +126,14 @@ pub extern "C" fn bolz_write_job_angles(
 }
 
 // The angles read out: the count of bytes written, or the refusal.
-#[unsafe(no_mangle)]
-pub extern "C" fn bolz_read_angles(role: u64, file: &[u8], out: &mut [u8]) -> u64
+pub fn bolz_read_angles(role: u64, file: &[u8], out: &mut [u8]) -> u64
     ensures { record { code = result; work = []; out = out.new } ≡ coded (called role (reading_out out.old) file.now) }
 {
     reply_code(read_angles(role, file, out))
 }
 
 // The solver: 1 for solvable, 0 for not, or the refusal.
-#[unsafe(no_mangle)]
-pub extern "C" fn bolz_solve(
+pub fn bolz_solve(
     matrix: &mut [u8],
     bits: &mut [u8],
     rows: usize,

@@ -1,6 +1,6 @@
 -- Demand 3, for both modes: the finder's flow is accepted, every accepted flow gives each node at least the layer of
 -- the finder's, and 'no flow' is said exactly where no flow is accepted.
-use Prim.Native.Nat.{ℕ, ◌+◌, ◌≤◌, ◌<◌}
+use Prim.Native.Nat.{ℕ, ◌≤◌, ◌<◌}
 use mathlib.Core.Path.{◌≡◌, refl, sym, ap, ◌∙◌, subst}
 use mathlib.Core.Bool.{Bool, true, false, cond}
 use mathlib.Core.Option.{Option, none, some}

@@ -1,7 +1,7 @@
 -- Request 2026-07 proved: angles are read out and written for the owner only, every other call is open to both, and no call shows an operator more of the angles than the
 -- measurements that they infer. All calls are in one list, `Call`; a call added to it wants its line in each of these proofs.
 use Prim.Native.Nat.{ℕ, ◌+◌, ◌-◌, ◌*◌, ◌≤◌}
-use mathlib.Core.Path.{◌≡◌, refl, sym, ap, ◌∙◌}
+use mathlib.Core.Path.{◌≡◌, refl, sym, ap, subst, ◌∙◌}
 use mathlib.Core.Bool.{Bool, true, false, cond, false≢true}
 use mathlib.Core.Option.{none, some}
 use mathlib.Core.List.{List, [], ◌∷◌, ◌++◌, append-nil}
@@ -26,7 +26,8 @@ use Rattle.records.specs.Records.{head_bytes, written, kind_angles, kind_accepte
 use Rattle.records.specs.JobFile.{JobFile, mode_pauli, read_job, has_edge, job_of}
 use Rattle.records.specs.JobLists.{without_angles}
 use Rattle.records.specs.FlowFile.{FlowFile, read_flow, entry_of, entry_asks, nothing_left, one_member}
-use Rattle.records.specs.Encoding.{job_bytes}
+use Rattle.records.specs.Encoding.{job_bytes, flow_file_bytes}
+use Rattle.records.specs.SignalLists.{with_signals}
 use Rattle.records.specs.Writing.{most_job, flow_bytes}
 use Rattle.records.proofs.Records.{written-length}
 use Rattle.records.proofs.Encoding.{job_exact, job_asked, job-append_angled}
@@ -34,7 +35,7 @@ use Rattle.records.proofs.JobLists.{job_parts, ascending-length, file_ascending,
 use Rattle.demands.specs.Calls.{owner, is_owner, progress_by_mode, found_bytes, has_search, find_asks, Both, read_both, judge, verify_asks, edit_asks, read_angles_asks, write_job_asks, put, find_outcome, find_call, outcome, verify_call, write_job_call, read_angles_call, added_bytes, add_signals_call, edited_bytes, edit_set_call}
 use Rattle.demands.specs.Programs.{judged_bytes, find_output, find_program, verify_output, verify_program, printed, refusal_in, streams}
 use Rattle.demands.specs.JobWriter.{IsJobBytes}
-use Rattle.demands.specs.Roles.{Call, finding, verifying, finder_program, verifier_program, writing, reading_out, adding_lists, editing, called, wants_angles, OwnersOnly, OpenToBoth, AsTheOwner, having_angles, IsTwin, IsTwinFile, Secrecy, special, OnlySpecialShow}
+use Rattle.demands.specs.Roles.{finding, verifying, finder_program, verifier_program, writing, reading_out, adding_lists, editing, called, wants_angles, OwnersOnly, OpenToBoth, AsTheOwner, having_angles, IsTwin, IsTwinFile, Secrecy, special, OnlySpecialShow}
 
 -- ---- who may
 pub owners_only : OwnersOnly
@@ -143,7 +144,7 @@ module _ (file other : List ℕ) (w : ReadsTwins file other) where
   verify_same made = both_same (λ m. made (m >>= λ b. judge b.job b.flow)) (λ h. ap made (judged_same h))
 
   added_same : (h : FlowFile) → added_bytes (record { job = f; flow = h }) ≡ added_bytes (record { job = g; flow = h })
-  added_same h = rw same_job
+  added_same h = ap (λ (j : Job). flow_file_bytes (with_signals j h)) same_job
 
   edited_same : (entry : List ℕ) (h : FlowFile) → edited_bytes entry (record { job = f; flow = h }) ≡ edited_bytes entry (record { job = g; flow = h })
   edited_same entry h = rw same_job
@@ -167,7 +168,7 @@ angled_length s f p (reads, ends, bytes) =
     let v = job_asked s (having_angles f p) reads in
     let own : s ≡ job_bytes (having_angles f p) = ((job_exact s (having_angles f p) bytes).0 reads).0 ∙ append-nil (job_bytes (having_angles f p)) in
     let parts : length s ≡ length (job_bytes (without_angles f)) + length (written kind_angles p) = ap length (own ∙ job_parts (having_angles f p)) ∙ length-append (job_bytes (without_angles f)) (written kind_angles p) in
-    let few : length (job_bytes (having_angles f p)) ≤ most_job = rw (← file_ascending (having_angles f p) v refl) (ascending-length _ (valid_asks (having_angles f p) v)) in
+    let few : length (job_bytes (having_angles f p)) ≤ most_job = subst (λ (g : JobFile). length (job_bytes g) ≤ most_job) (file_ascending (having_angles f p) v refl) (ascending-length _ (valid_asks (having_angles f p) v)) in
     (omega (arith, parts, written-length kind_angles p, v.angles.1), rw own few)
 
 first_twins : (k : ℕ) (file other : List ℕ) → most_job ≤ k → IsTwinFile file other → ReadsTwins (take k file) (take k other)

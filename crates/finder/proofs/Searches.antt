@@ -8,7 +8,7 @@ use native.Mathlib.Omega.{arith}
 use native.Mathlib.Numerals.{add-one, lt_of_le_of_ne}
 use native.Mathlib.Decide.{ℕ_discrete}
 use lib.Dec.{T, eqb, leb, ltb, le→leb, leb→le, eqb→eq, ltb→lt}
-use lib.ListN.{length, get_or, set}
+use lib.ListN.{length, get_or}
 use Rattle.nodes.specs.Bit.{bit, digits}
 use Rattle.nodes.specs.Row.{any_below, all_below}
 use Rattle.nodes.specs.NodeSet.{member, capacity, highest, word_bits}

@@ -1,4 +1,4 @@
-// The picture in pieces, straight to standard output. Each function tells whether it was written.
+// The picture in pieces, straight to standard output. A write that fails ends it.
 // Painted in this order: bands, edges, what pointing at a node shows, nodes. The last let the pointer through. Each of the four loops
 // closes its group and opens the next one's.
 ghost use Rattle.std.specs.Prelude.{◌<◌, ◌≤◌, length};
@@ -9,6 +9,8 @@ use calls::Reply;
 use flows::{PAULI_X, PAULI_Y, PAULI_Z, PLANE_XY, PLANE_XZ, PLANE_YZ};
 use nodes::utils::{NodeSet, odd_neighbors, set_at};
 use records::common::{MOST_NODES, byte_at};
+use std::io;
+use std::io::Stdout;
 use streams::{print, print_line, print_number};
 
 // The legend's room.
@@ -34,46 +36,42 @@ fn mark_from(text: &[u8], start: usize) -> usize
     i
 }
 
-fn put_number(numbers: &[usize], i: usize) -> bool {
+fn put_number(out: Stdout, numbers: &[usize], i: usize) -> io::Result<()> {
     if i < numbers.len() {
-        return print_number(numbers[i]);
+        return print_number(out, numbers[i]);
     }
-    true
+    Ok(())
 }
 
 // A text with a number for each #.
-fn fill(text: &[u8], numbers: &[usize]) -> bool {
+fn fill(out: Stdout, text: &[u8], numbers: &[usize]) -> io::Result<()> {
     let mut start = 0;
     let mut i = 0;
     while start < text.len() {
         let end = mark_from(text, start);
-        if !print(&text[start..end]) {
-            return false;
-        }
+        print(out, &text[start..end])?;
         if end == text.len() {
-            return true;
+            return Ok(());
         }
-        if !put_number(numbers, i) {
-            return false;
-        }
+        put_number(out, numbers, i)?;
         start = end + 1;
         i += 1;
     }
-    true
+    Ok(())
 }
 
 // A text with one number.
-fn put_one(text: &[u8], x: usize) -> bool {
+fn put_one(out: Stdout, text: &[u8], x: usize) -> io::Result<()> {
     let numbers = [x];
-    fill(text, &numbers)
+    fill(out, text, &numbers)
 }
 
 // A text, where it belongs.
-fn put_flag(here: bool, text: &[u8]) -> bool {
+fn put_flag(out: Stdout, here: bool, text: &[u8]) -> io::Result<()> {
     if here {
-        return print(text);
+        return print(out, text);
     }
-    true
+    Ok(())
 }
 
 fn height_of(row: usize) -> usize
@@ -84,41 +82,42 @@ fn height_of(row: usize) -> usize
 }
 
 // A text with the place of a node.
-fn put_at(text: &[u8], x: usize, row: usize) -> bool
+fn put_at(out: Stdout, text: &[u8], x: usize, row: usize) -> io::Result<()>
     requires { row < 65536 }
 {
     let numbers = [x, height_of(row)];
-    fill(text, &numbers)
+    fill(out, text, &numbers)
 }
 
 // The nodes of a set, each behind a space.
-fn put_members(nodes: NodeSet) -> bool {
+fn put_members(out: Stdout, nodes: NodeSet) -> io::Result<()> {
     let mut v = 0;
     while v < MOST_NODES {
-        if nodes.has(v) && !put_one(b" #", v) {
-            return false;
+        if nodes.has(v) {
+            put_one(out, b" #", v)?;
         }
         v += 1;
     }
-    true
+    Ok(())
 }
 
-fn put_measurement(m: u8) -> bool {
+fn put_measurement(out: Stdout, m: u8) -> io::Result<()> {
     match m {
-        PLANE_XY => print(b"XY"),
-        PLANE_YZ => print(b"YZ"),
-        PLANE_XZ => print(b"XZ"),
-        PAULI_X => print(b"X"),
-        PAULI_Y => print(b"Y"),
-        PAULI_Z => print(b"Z"),
-        _ => true,
+        PLANE_XY => print(out, b"XY"),
+        PLANE_YZ => print(out, b"YZ"),
+        PLANE_XZ => print(out, b"XZ"),
+        PAULI_X => print(out, b"X"),
+        PAULI_Y => print(out, b"Y"),
+        PAULI_Z => print(out, b"Z"),
+        _ => Ok(()),
     }
 }
 
 // ---- Head, caption and legend.
 
-fn put_style() -> bool {
+fn put_style(out: Stdout) -> io::Result<()> {
     print(
+        out,
         b"<style>\n\
 text{font:12px sans-serif;fill:#222}\n\
 .c{font-size:15px;font-weight:bold}\n\
@@ -143,37 +142,47 @@ text{font:12px sans-serif;fill:#222}\n\
     )
 }
 
-fn put_head(width: usize, height: usize) -> bool {
+fn put_head(out: Stdout, width: usize, height: usize) -> io::Result<()> {
     let numbers = [width, height, width, height];
     fill(
+        out,
         b"<svg xmlns=\"http://www.w3.org/2000/svg\" width=\"#\" height=\"#\" viewBox=\"0 0 # #\">\n",
         &numbers,
-    ) && put_style()
-        && print(b"<rect width=\"100%\" height=\"100%\" fill=\"white\"/>\n")
+    )?;
+    put_style(out)?;
+    print(
+        out,
+        b"<rect width=\"100%\" height=\"100%\" fill=\"white\"/>\n",
+    )
 }
 
-fn put_verdict(reply: Reply) -> bool {
+fn put_verdict(out: Stdout, reply: Reply) -> io::Result<()> {
     match reply {
-        Reply::Wrote(_) => print(b"<tspan class=\"good\">accepted</tspan>"),
+        Reply::Wrote(_) => print(out, b"<tspan class=\"good\">accepted</tspan>"),
         Reply::Refused(q) => {
-            print(b"<tspan class=\"bad\">") && print_line(q) && print(b"</tspan>")
+            print(out, b"<tspan class=\"bad\">")?;
+            print_line(out, q)?;
+            print(out, b"</tspan>")
         }
     }
 }
 
-fn put_caption(known: Known, reply: Reply) -> bool {
+fn put_caption(out: Stdout, known: Known, reply: Reply) -> io::Result<()> {
     let numbers = [known.n, known.mode as usize];
     fill(
+        out,
         b"<text x=\"16\" y=\"26\" class=\"c\"># nodes, mode #",
         &numbers,
-    ) && put_flag(known.angled, b" with angles")
-        && print(b": ")
-        && put_verdict(reply)
-        && print(b"</text>\n")
+    )?;
+    put_flag(out, known.angled, b" with angles")?;
+    print(out, b": ")?;
+    put_verdict(out, reply)?;
+    print(out, b"</text>\n")
 }
 
-fn put_legend() -> bool {
+fn put_legend(out: Stdout) -> io::Result<()> {
     print(
+        out,
         b"<g class=\"n\">\
 <rect x=\"16\" y=\"42\" width=\"14\" height=\"14\"/><text x=\"36\" y=\"53\">input</text>\
 <circle cx=\"85\" cy=\"49\" r=\"7\"/><text x=\"98\" y=\"53\">measured</text>\
@@ -187,24 +196,32 @@ fn put_legend() -> bool {
 
 // ---- Bands: one for each column.
 
-fn put_heading(known: Known, layers: &[u16], head: usize) -> bool {
+fn put_heading(out: Stdout, known: Known, layers: &[u16], head: usize) -> io::Result<()> {
     if at_end(known, layers, head) {
-        return print(b"outputs</text>\n");
+        return print(out, b"outputs</text>\n");
     }
-    put_one(b"layer #</text>\n", at(layers, head))
+    put_one(out, b"layer #</text>\n", at(layers, head))
 }
 
-fn put_band(left: usize, width: usize, height: usize) -> bool
+fn put_band(out: Stdout, left: usize, width: usize, height: usize) -> io::Result<()>
     requires { (left < 65536) × (width < 65536) }
 {
     let numbers = [left, BANDS, width, height, left + width / 2, BANDS + 18];
     fill(
+        out,
         b"<rect x=\"#\" y=\"#\" width=\"#\" height=\"#\" rx=\"6\"/><text x=\"#\" y=\"#\">",
         &numbers,
     )
 }
 
-fn put_bands(known: Known, columns: Columns, layers: &[u16], heads: &[u16], lefts: &[u16]) -> bool
+fn put_bands(
+    out: Stdout,
+    known: Known,
+    columns: Columns,
+    layers: &[u16],
+    heads: &[u16],
+    lefts: &[u16],
+) -> io::Result<()>
     requires { columns.rows ≤ 256 }
 {
     let height = height_of(columns.rows) - ROW / 2 - BANDS;
@@ -212,41 +229,40 @@ fn put_bands(known: Known, columns: Columns, layers: &[u16], heads: &[u16], left
     while c < columns.count {
         let left = at(lefts, c);
         let width = minus(at(lefts, c + 1), left + GAP);
-        if !(put_band(left, width, height) && put_heading(known, layers, at(heads, c))) {
-            return false;
-        }
+        put_band(out, left, width, height)?;
+        put_heading(out, known, layers, at(heads, c))?;
         c += 1;
     }
-    print(b"</g>\n<g class=\"e\">\n")
+    print(out, b"</g>\n<g class=\"e\">\n")
 }
 
 // ---- Edges. All nodes stand in rows, so that half way between two rows no node is met. The numbers are chosen so that within 14 rows
 // no edge comes as near as a circle's radius to the centre of a node that is not its end.
 
 // A curve from where the path is, level where it leaves and where it arrives.
-fn put_curve(x: usize, y: usize, to: usize, bottom: usize) -> bool {
-    let out = minus(to, x) / 8 * 7;
-    let numbers = [x + out, y, minus(to, out), bottom, to, bottom];
-    fill(b"C#,# #,# #,#", &numbers)
+fn put_curve(out: Stdout, x: usize, y: usize, to: usize, bottom: usize) -> io::Result<()> {
+    let bend = minus(to, x) / 8 * 7;
+    let numbers = [x + bend, y, minus(to, bend), bottom, to, bottom];
+    fill(out, b"C#,# #,# #,#", &numbers)
 }
 
 // Within a line of nodes: straight to the next row, else in an arc beside the nodes between, on the side that rows take in turn.
-fn put_arc(x: usize, upper: usize, lower: usize) -> bool
+fn put_arc(out: Stdout, x: usize, upper: usize, lower: usize) -> io::Result<()>
     requires { (x < 65536) × (upper < 65536) × (lower < 65536) }
 {
     let far = minus(lower, upper);
     let bottom = height_of(lower);
     if far < 2 {
-        return put_at(b"L#,#", x, lower);
+        return put_at(out, b"L#,#", x, lower);
     }
-    let out = 24 + 2 * far;
+    let bend = 24 + 2 * far;
     let side = if upper % 2 == 0 {
-        x + out
+        x + bend
     } else {
-        minus(x, out)
+        minus(x, bend)
     };
     let numbers = [side, height_of(upper), side, bottom, x, bottom];
-    fill(b"C#,# #,# #,#", &numbers)
+    fill(out, b"C#,# #,# #,#", &numbers)
 }
 
 // Half a row beside this one, on the side of the other; of one row it is the side that rows take in turn.
@@ -262,34 +278,48 @@ fn lane_of(row: usize, end: usize) -> usize
 }
 
 // Past other lines of nodes: along half a row beside the left end. There are five tracks, so that few edges lie on one another.
-fn put_lane(a: usize, b: usize, x: usize, row: usize, to: usize, end: usize) -> bool
+fn put_lane(
+    out: Stdout,
+    a: usize,
+    b: usize,
+    x: usize,
+    row: usize,
+    to: usize,
+    end: usize,
+) -> io::Result<()>
     requires { (a < 128) × (b < 128) × (x < 65536) × (row < 65536) × (end < 65536) }
 {
     let level = lane_of(row, end) - 6 + (a + 2 * b) % 5 * 3;
     let turn = minus(to, PITCH * 7 / 8);
-    put_curve(x, height_of(row), x + PITCH * 3 / 4, level)
-        && put_one(b"H#", turn)
-        && put_curve(turn, level, to, height_of(end))
+    put_curve(out, x, height_of(row), x + PITCH * 3 / 4, level)?;
+    put_one(out, b"H#", turn)?;
+    put_curve(out, turn, level, to, height_of(end))
 }
 
 // From left to right, or from top to bottom.
-fn put_edge(a: usize, b: usize, x: usize, row: usize, to: usize, end: usize) -> bool
+fn put_edge(
+    out: Stdout,
+    a: usize,
+    b: usize,
+    x: usize,
+    row: usize,
+    to: usize,
+    end: usize,
+) -> io::Result<()>
     requires { (a < 128) × (b < 128) × (x < 65536) × (row < 65536) × (to < 65536) × (end < 65536) }
 {
-    if !put_at(b"<path d=\"M#,#", x, row) {
-        return false;
-    }
-    let drawn = if x == to {
-        put_arc(x, row, end)
+    put_at(out, b"<path d=\"M#,#", x, row)?;
+    if x == to {
+        put_arc(out, x, row, end)?;
     } else if to <= x + PITCH + GAP {
-        put_curve(x, height_of(row), to, height_of(end))
+        put_curve(out, x, height_of(row), to, height_of(end))?;
     } else {
-        put_lane(a, b, x, row, to, end)
-    };
-    drawn && print(b"\"/>\n")
+        put_lane(out, a, b, x, row, to, end)?;
+    }
+    print(out, b"\"/>\n")
 }
 
-fn put_joined(xs: &[u16], rows: &[u16], a: usize, b: usize) -> bool
+fn put_joined(out: Stdout, xs: &[u16], rows: &[u16], a: usize, b: usize) -> io::Result<()>
     requires { (a < 128) × (b < 128) }
 {
     let x = at(xs, a);
@@ -297,90 +327,90 @@ fn put_joined(xs: &[u16], rows: &[u16], a: usize, b: usize) -> bool
     let row = at(rows, a);
     let end = at(rows, b);
     if x < to || x == to && row < end {
-        return put_edge(a, b, x, row, to, end);
+        return put_edge(out, a, b, x, row, to, end);
     }
-    put_edge(a, b, to, end, x, row)
+    put_edge(out, a, b, to, end, x, row)
 }
 
 // The edges of node a to nodes of higher numbers.
-fn put_edges_of(graph: &[u64], xs: &[u16], rows: &[u16], a: usize) -> bool
+fn put_edges_of(out: Stdout, graph: &[u64], xs: &[u16], rows: &[u16], a: usize) -> io::Result<()>
     requires { a < 128 }
 {
     let nodes = set_at(graph, a);
     let mut b = a + 1;
     while b < MOST_NODES {
-        if nodes.has(b) && !put_joined(xs, rows, a, b) {
-            return false;
+        if nodes.has(b) {
+            put_joined(out, xs, rows, a, b)?;
         }
         b += 1;
     }
-    true
+    Ok(())
 }
 
-fn put_edges(graph: &[u64], xs: &[u16], rows: &[u16]) -> bool {
+fn put_edges(out: Stdout, graph: &[u64], xs: &[u16], rows: &[u16]) -> io::Result<()> {
     let mut a = 0;
     while a < MOST_NODES {
-        if !put_edges_of(graph, xs, rows, a) {
-            return false;
-        }
+        put_edges_of(out, graph, xs, rows, a)?;
         a += 1;
     }
-    print(b"</g>\n")
+    print(out, b"</g>\n")
 }
 
 // ---- What pointing at a node shows.
 
 // A disc on each node of the set: a line of no length with a round end.
-fn put_discs(nodes: NodeSet, xs: &[u16], rows: &[u16]) -> bool {
+fn put_discs(out: Stdout, nodes: NodeSet, xs: &[u16], rows: &[u16]) -> io::Result<()> {
     let mut v = 0;
     while v < MOST_NODES {
-        if nodes.has(v) && !put_at(b"M#,#h0", at(xs, v), at(rows, v)) {
-            return false;
+        if nodes.has(v) {
+            put_at(out, b"M#,#h0", at(xs, v), at(rows, v))?;
         }
         v += 1;
     }
-    true
+    Ok(())
 }
 
 // What a node is, and its layer: the title of its group begins with it.
-fn put_title(known: Known, m: u8, layer: usize, v: usize) -> bool {
+fn put_title(out: Stdout, known: Known, m: u8, layer: usize, v: usize) -> io::Result<()> {
     let inputs = known.inputs;
     let outputs = known.outputs;
-    put_one(b"<g class=\"h\"><title>node #", v)
-        && put_flag(inputs.has(v), b", input")
-        && put_flag(outputs.has(v), b", output")
-        && put_flag(!outputs.has(v), b", ")
-        && put_measurement(m)
-        && put_one(b", layer #", layer)
+    put_one(out, b"<g class=\"h\"><title>node #", v)?;
+    put_flag(out, inputs.has(v), b", input")?;
+    put_flag(out, outputs.has(v), b", output")?;
+    put_flag(out, !outputs.has(v), b", ")?;
+    put_measurement(out, m)?;
+    put_one(out, b", layer #", layer)
 }
 
 // Set and Odd in words, and as discs; no more than the end of the title where the node has no set.
 fn put_shown(
+    out: Stdout,
     known: Known,
     graph: &[u64],
     sets: &[u64],
     xs: &[u16],
     rows: &[u16],
     v: usize,
-) -> bool {
+) -> io::Result<()> {
     let entries = known.entries;
     if !entries.has(v) {
-        return print(b"</title>");
+        return print(out, b"</title>");
     }
     let set = set_at(sets, v);
     let odd = odd_neighbors(graph, set);
-    print(b"; corrected by")
-        && put_members(set)
-        && print(b"; Odd")
-        && put_members(odd)
-        && print(b"</title><path class=\"odd\" d=\"")
-        && put_discs(odd, xs, rows)
-        && print(b"\"/><path class=\"set\" d=\"")
-        && put_discs(set, xs, rows)
-        && print(b"\"/>")
+    print(out, b"; corrected by")?;
+    put_members(out, set)?;
+    print(out, b"; Odd")?;
+    put_members(out, odd)?;
+    print(out, b"</title><path class=\"odd\" d=\"")?;
+    put_discs(out, odd, xs, rows)?;
+    print(out, b"\"/><path class=\"set\" d=\"")?;
+    put_discs(out, set, xs, rows)?;
+    print(out, b"\"/>")
 }
 
 fn put_hovers(
+    out: Stdout,
     known: Known,
     graph: &[u64],
     measured: &[u8],
@@ -388,100 +418,113 @@ fn put_hovers(
     sets: &[u64],
     xs: &[u16],
     rows: &[u16],
-) -> bool {
+) -> io::Result<()> {
     let mut v = 0;
     while v < known.n {
-        if !put_title(known, byte_at(measured, v), at(layers, v), v) {
-            return false;
-        }
-        if !put_shown(known, graph, sets, xs, rows, v) {
-            return false;
-        }
-        if !put_at(
+        put_title(out, known, byte_at(measured, v), at(layers, v), v)?;
+        put_shown(out, known, graph, sets, xs, rows, v)?;
+        put_at(
+            out,
             b"<circle cx=\"#\" cy=\"#\" r=\"24\"/></g>\n",
             at(xs, v),
             at(rows, v),
-        ) {
-            return false;
-        }
+        )?;
         v += 1;
     }
-    print(b"<g class=\"n\">\n")
+    print(out, b"<g class=\"n\">\n")
 }
 
 // ---- Nodes.
 
-fn put_shape(input: bool, output: bool) -> bool {
+fn put_shape(out: Stdout, input: bool, output: bool) -> io::Result<()> {
     put_flag(
+        out,
         input,
         b"<rect x=\"-14\" y=\"-14\" width=\"28\" height=\"28\"",
-    ) && put_flag(!input, b"<circle r=\"15\"")
-        && put_flag(output, b" class=\"open\"")
-        && print(b"/>")
+    )?;
+    put_flag(out, !input, b"<circle r=\"15\"")?;
+    put_flag(out, output, b" class=\"open\"")?;
+    print(out, b"/>")
 }
 
 // The number, and below it the measurement.
-fn put_names(v: usize, m: u8) -> bool {
+fn put_names(out: Stdout, v: usize, m: u8) -> io::Result<()> {
     if m == 0 {
-        return put_one(b"<text y=\"4\">#</text></g>\n", v);
+        return put_one(out, b"<text y=\"4\">#</text></g>\n", v);
     }
-    put_one(b"<text y=\"-1\">#</text><text class=\"m\" y=\"10\">", v)
-        && put_measurement(m)
-        && print(b"</text></g>\n")
+    put_one(
+        out,
+        b"<text y=\"-1\">#</text><text class=\"m\" y=\"10\">",
+        v,
+    )?;
+    put_measurement(out, m)?;
+    print(out, b"</text></g>\n")
 }
 
-fn put_node(known: Known, x: usize, row: usize, v: usize, m: u8) -> bool
+fn put_node(out: Stdout, known: Known, x: usize, row: usize, v: usize, m: u8) -> io::Result<()>
     requires { row < 65536 }
 {
     let inputs = known.inputs;
     let outputs = known.outputs;
-    put_at(b"<g transform=\"translate(#,#)\">", x, row)
-        && put_shape(inputs.has(v), outputs.has(v))
-        && put_names(v, m)
+    put_at(out, b"<g transform=\"translate(#,#)\">", x, row)?;
+    put_shape(out, inputs.has(v), outputs.has(v))?;
+    put_names(out, v, m)
 }
 
-fn put_nodes(known: Known, measured: &[u8], xs: &[u16], rows: &[u16]) -> bool {
+fn put_nodes(
+    out: Stdout,
+    known: Known,
+    measured: &[u8],
+    xs: &[u16],
+    rows: &[u16],
+) -> io::Result<()> {
     let mut v = 0;
     while v < known.n {
-        if !put_node(known, at(xs, v), at(rows, v), v, byte_at(measured, v)) {
-            return false;
-        }
+        put_node(out, known, at(xs, v), at(rows, v), v, byte_at(measured, v))?;
         v += 1;
     }
-    print(b"</g>\n</svg>\n")
+    print(out, b"</g>\n</svg>\n")
 }
 
 // ---- All of it.
 
 // What stands before the bands.
-fn put_front(known: Known, columns: Columns, reply: Reply, right: usize) -> bool
+fn put_front(
+    out: Stdout,
+    known: Known,
+    columns: Columns,
+    reply: Reply,
+    right: usize,
+) -> io::Result<()>
     requires { (columns.rows ≤ 256) × (right < 65536) }
 {
     let width = most(LEAST_WIDTH, minus(right, GAP) + MARGIN);
     let height = height_of(columns.rows) - ROW / 2 + MARGIN;
-    put_head(width, height)
-        && put_caption(known, reply)
-        && put_legend()
-        && print(b"<g class=\"b\">\n")
+    put_head(out, width, height)?;
+    put_caption(out, known, reply)?;
+    put_legend(out)?;
+    print(out, b"<g class=\"b\">\n")
 }
 
 // Caption, legend and bands.
 pub(crate) fn draw_columns(
+    out: Stdout,
     known: Known,
     columns: Columns,
     reply: Reply,
     layers: &[u16],
     heads: &[u16],
     lefts: &[u16],
-) -> bool
+) -> io::Result<()>
     requires { columns.rows ≤ 256 }
 {
-    put_front(known, columns, reply, at(lefts, columns.count))
-        && put_bands(known, columns, layers, heads, lefts)
+    put_front(out, known, columns, reply, at(lefts, columns.count))?;
+    put_bands(out, known, columns, layers, heads, lefts)
 }
 
 // Edges, sets and nodes, each in its place.
 pub(crate) fn draw_nodes(
+    out: Stdout,
     known: Known,
     graph: &[u64],
     measured: &[u8],
@@ -489,8 +532,8 @@ pub(crate) fn draw_nodes(
     sets: &[u64],
     xs: &[u16],
     rows: &[u16],
-) -> bool {
-    put_edges(graph, xs, rows)
-        && put_hovers(known, graph, measured, layers, sets, xs, rows)
-        && put_nodes(known, measured, xs, rows)
+) -> io::Result<()> {
+    put_edges(out, graph, xs, rows)?;
+    put_hovers(out, known, graph, measured, layers, sets, xs, rows)?;
+    put_nodes(out, known, measured, xs, rows)
 }

@@ -16,6 +16,8 @@ use load::{Known, MOST_BYTES, load_graph, load_job, load_layers, load_measured, 
 use nodes::utils::TABLE_WORDS;
 use records::common::{FlowPlaces, FlowRead, HEAD_BYTES, JobPlaces, JobRead, MOST_NODES, payload};
 use records::reader::{read_flow, read_job};
+use std::io;
+use std::io::{Stderr, Stdout};
 use streams::{Input, only_usage, output_failed, read_input, tell};
 
 // The verifier's last question.
@@ -31,28 +33,33 @@ fn is_verdict(number: u8) -> bool {
 
 // The columns are drawn, each node gets its place, and the rest is drawn.
 fn draw_loaded(
+    out: Stdout,
     known: Known,
     reply: Reply,
     graph: &[u64],
     measured: &[u8],
     layers: &[u16],
     sets: &[u64],
-) -> bool {
+) -> io::Result<()> {
     let mut heads = [0u16; MOST_NODES];
     let mut lefts = [0u16; MOST_NODES + 1];
     let columns = find_columns(known, layers, &mut heads, &mut lefts);
-    if !draw_columns(known, columns, reply, layers, &heads, &lefts) {
-        return false;
-    }
+    draw_columns(out, known, columns, reply, layers, &heads, &lefts)?;
     let mut xs = [0u16; MOST_NODES];
     let mut rows = [0u16; MOST_NODES];
     place_columns(
         known, columns, graph, layers, &heads, &lefts, &mut xs, &mut rows,
     );
-    draw_nodes(known, graph, measured, layers, sets, &xs, &rows)
+    draw_nodes(out, known, graph, measured, layers, sets, &xs, &rows)
 }
 
-fn draw_places(file: &[u8], job: JobPlaces, flow: FlowPlaces, reply: Reply) -> bool {
+fn draw_places(
+    out: Stdout,
+    file: &[u8],
+    job: JobPlaces,
+    flow: FlowPlaces,
+    reply: Reply,
+) -> io::Result<()> {
     let edges = job.edges;
     let mut graph = [0u64; TABLE_WORDS];
     load_graph(payload(file, edges), &mut graph);
@@ -64,48 +71,53 @@ fn draw_places(file: &[u8], job: JobPlaces, flow: FlowPlaces, reply: Reply) -> b
     let mut sets = [0u64; TABLE_WORDS];
     let entries = load_sets(payload(file, place), &mut sets);
     let known = load_job(file, job, entries);
-    draw_loaded(known, reply, &graph, &measured, &layers, &sets)
+    draw_loaded(out, known, reply, &graph, &measured, &layers, &sets)
 }
 
 // What the verifier could read is read again for its places.
-fn draw_read(file: &[u8], reply: Reply) -> bool {
+fn draw_read(out: Stdout, file: &[u8], reply: Reply) -> io::Result<()> {
     let JobRead::Job(job) = read_job(file) else {
-        return true;
+        return Ok(());
     };
     let FlowRead::Flow(flow) = read_flow(file, job.end, job.n) else {
-        return true;
+        return Ok(());
     };
-    draw_places(file, job, flow, reply)
+    draw_places(out, file, job, flow, reply)
 }
 
-// Tells whether all that is to be drawn was written.
-fn draw_file(file: &[u8]) -> bool {
-    let mut out = [0u8; HEAD_BYTES];
-    let reply = verify(OPERATOR, file, &mut out);
+// A write that fails ends it.
+fn draw_file(out: Stdout, err: Stderr, file: &[u8]) -> io::Result<()> {
+    let mut verdict = [0u8; HEAD_BYTES];
+    let reply = verify(OPERATOR, file, &mut verdict);
     match reply {
-        Reply::Wrote(_) => draw_read(file, reply),
+        Reply::Wrote(_) => draw_read(out, file, reply),
         Reply::Refused(q) => {
             if is_verdict(q.0) {
-                return draw_read(file, reply);
+                return draw_read(out, file, reply);
             }
-            tell(q);
-            true
+            tell(err, q);
+            Ok(())
         }
     }
 }
 
-fn main() {
+fn main(rt: HostRuntime) {
+    let out = rt.stdout();
+    let err = rt.stderr();
     if only_usage(
+        &rt,
+        out,
+        err,
         b"flow_draw reads a job and a flow file behind it on standard input.\nIt writes a picture of both, an SVG file, on standard output.\n",
     ) {
         return;
     }
     let mut input = [0u8; MOST_BYTES];
-    let read = read_input(&mut input);
+    let read = read_input(rt.stdin(), err, &mut input);
     let Input::Bytes(n) = read else {
         return;
     };
-    if !draw_file(&input[..n]) {
-        output_failed();
+    if let Err(e) = draw_file(out, err, &input[..n]) {
+        output_failed(err, e);
     }
 }

@@ -7,22 +7,27 @@ use programs::find_program;
 use programs::output::{JUDGED_BYTES, MOST_OUTPUT};
 use streams::{Input, only_usage, read_input, write_error, write_output};
 
-fn main() {
+fn main(rt: HostRuntime) {
+    let out = rt.stdout();
+    let err = rt.stderr();
     if only_usage(
+        &rt,
+        out,
+        err,
         b"flow_find reads a job (records 1 to 5) on standard input.\nIt writes a flow file, 0013 (no flow) or 001F (refused) on standard output.\n",
     ) {
         return;
     }
     let mut input = [0u8; JUDGED_BYTES];
-    let read = read_input(&mut input);
+    let read = read_input(rt.stdin(), err, &mut input);
     let Input::Bytes(n) = read else {
         return;
     };
-    let mut out = [0u8; MOST_OUTPUT];
+    let mut output = [0u8; MOST_OUTPUT];
     let mut line = [0u8; LINE_ROOM];
-    let counts = find_program(&input[..n], &mut out, &mut line);
+    let counts = find_program(&input[..n], &mut output, &mut line);
     let k = counts.output;
-    write_output(&out[..k]);
+    write_output(out, err, &output[..k]);
     let j = counts.error;
-    write_error(&line[..j]);
+    write_error(err, &line[..j]);
 }

@@ -13,6 +13,8 @@ use records::common::{
 };
 use records::reader::{layer_count, layer_of, read_flow};
 use records::signals::{BYTE_BITS, row_width};
+use std::io;
+use std::io::{Stderr, Stdout};
 use streams::{
     Input, only_usage, output_failed, print, print_line, print_number, read_input, write_error,
 };
@@ -186,28 +188,27 @@ fn judge(file: &[u8]) -> Judged {
     }
 }
 
-// ---- Showing. Each tells whether it was written.
+// ---- Showing. A write that fails ends it.
 
-fn show_member(k: usize) -> bool {
-    print(b" ") && print_number(k)
+fn show_member(out: Stdout, k: usize) -> io::Result<()> {
+    print(out, b" ")?;
+    print_number(out, k)
 }
 
-fn show_members(file: &[u8], start: usize, end: usize) -> bool {
+fn show_members(out: Stdout, file: &[u8], start: usize, end: usize) -> io::Result<()> {
     let mut p = start;
     while p < end {
-        if !show_member(number(byte_at(file, p))) {
-            return false;
-        }
+        show_member(out, number(byte_at(file, p)))?;
         p += 1;
     }
-    true
+    Ok(())
 }
 
-fn show_layer(file: &[u8], flow: FlowPlaces, v: usize) -> bool {
-    print(b"node ")
-        && print_number(v)
-        && print(b"  layer ")
-        && print_number(layer_of(file, flow, v) as usize)
+fn show_layer(out: Stdout, file: &[u8], flow: FlowPlaces, v: usize) -> io::Result<()> {
+    print(out, b"node ")?;
+    print_number(out, v)?;
+    print(out, b"  layer ")?;
+    print_number(out, layer_of(file, flow, v) as usize)
 }
 
 // Where the entry of node v ends, if it is the one at this place; else this place.
@@ -221,22 +222,32 @@ fn entry_end(file: &[u8], v: usize, at: usize) -> usize
 }
 
 // The entry of a node, where it has one.
-fn show_entry(file: &[u8], at: usize, end: usize) -> bool
+fn show_entry(out: Stdout, file: &[u8], at: usize, end: usize) -> io::Result<()>
     requires { length file.now ≤ 65536 }
 {
     if at >= file.len() || end <= at {
-        return true;
+        return Ok(());
     }
-    print(b"  corrected by") && show_members(file, at + ENTRY_HEAD_BYTES, end)
+    print(out, b"  corrected by")?;
+    show_members(out, file, at + ENTRY_HEAD_BYTES, end)
 }
 
-fn show_node(file: &[u8], flow: FlowPlaces, v: usize, at: usize, end: usize) -> bool
+fn show_node(
+    out: Stdout,
+    file: &[u8],
+    flow: FlowPlaces,
+    v: usize,
+    at: usize,
+    end: usize,
+) -> io::Result<()>
     requires { length file.now ≤ 65536 }
 {
-    show_layer(file, flow, v) && show_entry(file, at, end) && print(b"\n")
+    show_layer(out, file, flow, v)?;
+    show_entry(out, file, at, end)?;
+    print(out, b"\n")
 }
 
-fn show_nodes(file: &[u8], flow: FlowPlaces, n: usize) -> bool
+fn show_nodes(out: Stdout, file: &[u8], flow: FlowPlaces, n: usize) -> io::Result<()>
     requires { length file.now ≤ 65536 }
 {
     let sets = flow.sets;
@@ -244,13 +255,11 @@ fn show_nodes(file: &[u8], flow: FlowPlaces, n: usize) -> bool
     let mut v = 0;
     while v < n {
         let end = entry_end(file, v, at);
-        if !show_node(file, flow, v, at, end) {
-            return false;
-        }
+        show_node(out, file, flow, v, at, end)?;
         at = end;
         v += 1;
     }
-    true
+    Ok(())
 }
 
 fn has_bit(row: &[u8], i: usize) -> bool {
@@ -258,19 +267,23 @@ fn has_bit(row: &[u8], i: usize) -> bool {
 }
 
 // The nodes whose bits are set in the row that is at the front.
-fn show_bits(row: &[u8], n: usize) -> bool {
+fn show_bits(out: Stdout, row: &[u8], n: usize) -> io::Result<()> {
     let mut i = 0;
     while i < n {
-        if has_bit(row, i) && !show_member(i) {
-            return false;
+        if has_bit(row, i) {
+            show_member(out, i)?;
         }
         i += 1;
     }
-    true
+    Ok(())
 }
 
-fn show_row(row: &[u8], n: usize, j: usize, words: &[u8]) -> bool {
-    print(b"node ") && print_number(j) && print(words) && show_bits(row, n) && print(b"\n")
+fn show_row(out: Stdout, row: &[u8], n: usize, j: usize, words: &[u8]) -> io::Result<()> {
+    print(out, b"node ")?;
+    print_number(out, j)?;
+    print(out, words)?;
+    show_bits(out, row, n)?;
+    print(out, b"\n")
 }
 
 // Where the next row begins, if this place lies in the file; else this place.
@@ -283,38 +296,38 @@ fn row_end(file: &[u8], n: usize, at: usize) -> usize
     at + row_width(n)
 }
 
-fn show_list(file: &[u8], list: Place, n: usize, words: &[u8]) -> bool
+fn show_list(out: Stdout, file: &[u8], list: Place, n: usize, words: &[u8]) -> io::Result<()>
     requires { length file.now ≤ 65536 }
 {
     let mut at = list.start;
     let mut j = 0;
     while j < n {
-        if !show_row(rest(file, at), n, j, words) {
-            return false;
-        }
+        show_row(out, rest(file, at), n, j, words)?;
         at = row_end(file, n, at);
         j += 1;
     }
-    true
+    Ok(())
 }
 
 // An outcome flips the nodes of its set by X, those of Odd of it by Z.
-fn show_lists(file: &[u8], flow: FlowPlaces, n: usize) -> bool
+fn show_lists(out: Stdout, file: &[u8], flow: FlowPlaces, n: usize) -> io::Result<()>
     requires { length file.now ≤ 65536 }
 {
     if !flow.signals {
-        return true;
+        return Ok(());
     }
     let first = flow.rows;
     let second = flow.odds;
-    show_list(file, first, n, b"  X flip by") && show_list(file, second, n, b"  Z flip by")
+    show_list(out, file, first, n, b"  X flip by")?;
+    show_list(out, file, second, n, b"  Z flip by")
 }
 
-fn show_flow(file: &[u8], flow: FlowPlaces) -> bool
+fn show_flow(out: Stdout, file: &[u8], flow: FlowPlaces) -> io::Result<()>
     requires { length file.now ≤ 65536 }
 {
     let n = layer_count(file, flow);
-    show_nodes(file, flow, n) && show_lists(file, flow, n)
+    show_nodes(out, file, flow, n)?;
+    show_lists(out, file, flow, n)
 }
 
 // What 001F tells.
@@ -327,36 +340,41 @@ fn refusal_in(file: &[u8]) -> Refusal
     Refusal(q, a, b)
 }
 
-fn complain(text: &[u8]) -> bool {
-    write_error(text);
-    true
+fn complain(err: Stderr, text: &[u8]) -> io::Result<()> {
+    write_error(err, text);
+    Ok(())
 }
 
-fn show(file: &[u8]) -> bool
+fn show(out: Stdout, err: Stderr, file: &[u8]) -> io::Result<()>
     requires { length file.now ≤ 65536 }
 {
     match judge(file) {
-        Judged::Flow(flow) => show_flow(file, flow),
-        Judged::NoFlow => print(b"no flow\n"),
-        Judged::Accepted => print(b"accepted\n"),
-        Judged::Refusal => print_line(refusal_in(file)),
-        Judged::Cut => complain(b"the file is cut off\n"),
-        Judged::Other => complain(b"no file of flow_find or flow_verify\n"),
+        Judged::Flow(flow) => show_flow(out, file, flow),
+        Judged::NoFlow => print(out, b"no flow\n"),
+        Judged::Accepted => print(out, b"accepted\n"),
+        Judged::Refusal => print_line(out, refusal_in(file)),
+        Judged::Cut => complain(err, b"the file is cut off\n"),
+        Judged::Other => complain(err, b"no file of flow_find or flow_verify\n"),
     }
 }
 
-fn main() {
+fn main(rt: HostRuntime) {
+    let out = rt.stdout();
+    let err = rt.stderr();
     if only_usage(
+        &rt,
+        out,
+        err,
         b"flow_show reads on standard input what flow_find or flow_verify wrote, or a flow file with signal lists.\nIt writes it as text on standard output.\n",
     ) {
         return;
     }
     let mut input = [0u8; MOST_BYTES];
-    let read = read_input(&mut input);
+    let read = read_input(rt.stdin(), err, &mut input);
     let Input::Bytes(n) = read else {
         return;
     };
-    if !show(&input[..n]) {
-        output_failed();
+    if let Err(e) = show(out, err, &input[..n]) {
+        output_failed(err, e);
     }
 }

@@ -3,30 +3,36 @@
 #![tactic(auto)]
 
 use calls::Reply;
+use std::io::{Stderr, Stdout};
 use streams::{Input, only_usage, read_input, tell, write_output};
 use texts::show::{TEXT_ROOM, show_text};
 
 // As much as the finder reads.
 const MOST_BYTES: usize = 65536;
 
-fn show(file: &[u8]) {
+fn show(out: Stdout, err: Stderr, file: &[u8]) {
     let mut text = [0u8; TEXT_ROOM];
     match show_text(file, &mut text) {
-        Reply::Wrote(k) => write_output(&text[..k]),
-        Reply::Refused(q) => tell(q),
+        Reply::Wrote(k) => write_output(out, err, &text[..k]),
+        Reply::Refused(q) => tell(err, q),
     }
 }
 
-fn main() {
+fn main(rt: HostRuntime) {
+    let out = rt.stdout();
+    let err = rt.stderr();
     if only_usage(
+        &rt,
+        out,
+        err,
         b"job_show reads a job file without angles on standard input.\nIt writes it as text on standard output, as job_write reads it.\n",
     ) {
         return;
     }
     let mut input = [0u8; MOST_BYTES];
-    let read = read_input(&mut input);
+    let read = read_input(rt.stdin(), err, &mut input);
     let Input::Bytes(n) = read else {
         return;
     };
-    show(&input[..n]);
+    show(out, err, &input[..n]);
 }

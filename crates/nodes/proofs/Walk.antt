@@ -12,7 +12,6 @@ use Rattle.nodes.proofs.Logic.{and_l, and_r, not_out, from_false, lt_or_ge, eqb_
 use Rattle.nodes.proofs.Count.{count_none, rank_lt}
 use Rattle.nodes.proofs.Members.{lowest_none, lowest_some, lowest_member}
 use Rattle.nodes.proofs.Remove.{removed, count_remove, count-lowest}
-use mathlib.Core.Option.{none, some}
 use Rattle.nodes.specs.NodeSet.{member, capacity}
 use Rattle.nodes.specs.declared.utils.NodeSet.{NodeSet}
 use Rattle.nodes.proofs.Row.{any_in}

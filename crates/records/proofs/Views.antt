@@ -1,11 +1,11 @@
 -- The views of what was read: one record, from what the code found and asked; and a format, record after record.
-use Prim.Native.Nat.{ℕ, ◌-◌, ◌≤◌}
+use Prim.Native.Nat.{ℕ, ◌≤◌}
 use mathlib.Core.Path.{◌≡◌, refl, sym, ap, subst, ◌∙◌}
 use mathlib.Core.Bool.{Bool, true, false, cond, ◌&&◌, false≢true}
 use mathlib.Core.Option.{Option, none, some}
 use mathlib.Core.List.{List, []}
 use lib.ListN.{length, drop}
-use Rattle.answers.specs.Answer.{Refusal, Answer, gives, refuses, ◌>>=◌}
+use Rattle.answers.specs.Answer.{Answer, gives, refuses, ◌>>=◌}
 use Rattle.answers.specs.Refusals.{refusal_of}
 use Rattle.answers.specs.declared.Refusal as Code
 use Rattle.answers.proofs.Answer.{give_inj, never, bind_out}

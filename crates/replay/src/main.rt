@@ -14,10 +14,7 @@ ghost use Rattle.std.specs.Prelude.{◌≤◌, length};
 
 use entry::{APART, HEAD_BYTES, TWINS, kind, number, two_bytes};
 use run::as_stored;
-
-const STANDARD_INPUT: i32 = 0;
-
-const STANDARD_OUTPUT: i32 = 1;
+use std::io::{Read, Stdin, Stdout};
 
 // No entry is longer: its head, and a name, a query and a result of 65,535 bytes each.
 const MOST_ENTRY: usize = 196621;
@@ -35,22 +32,23 @@ const APART_AT: usize = 26;
 
 const COUNTS: usize = 27;
 
-fn print(words: &[u8]) {
-    io::write_all(STANDARD_OUTPUT, words);
+// A write that fails is not told: what is missing on standard output is not as stored.
+fn print(out: Stdout, words: &[u8]) {
+    let _ = out.write_all(words);
 }
 
-fn print_count(words: &[u8], count: u64) {
-    print(words);
-    io::print_decimal(STANDARD_OUTPUT, count);
+fn print_count(out: Stdout, words: &[u8], count: u64) {
+    print(out, words);
+    let _ = out.print(count);
 }
 
 // How many entries of each number were as stored; 0 is the number of an answer.
-fn tell_equal(equal: &[u64]) {
+fn tell_equal(out: Stdout, equal: &[u64]) {
     let mut i = 0;
     while i < equal.len() {
-        print_count(b"number ", i as u64);
-        print_count(b": ", equal[i]);
-        print(b" as stored\n");
+        print_count(out, b"number ", i as u64);
+        print_count(out, b": ", equal[i]);
+        print(out, b" as stored\n");
         i += 1;
     }
 }
@@ -75,21 +73,21 @@ fn count(equal: &mut [u64], i: usize) {
 }
 
 // An entry with a name is told in any case, another where it is different.
-fn tell(name: &[u8], entry: u64, same: bool) {
+fn tell(out: Stdout, name: &[u8], entry: u64, same: bool) {
     if name.len() > 0 {
-        print(name);
+        print(out, name);
     } else if !same {
-        print_count(b"entry ", entry);
+        print_count(out, b"entry ", entry);
     }
     if !same {
-        print(b": DIFFERENT\n");
+        print(out, b": DIFFERENT\n");
     } else if name.len() > 0 {
-        print(b": as the documents say\n");
+        print(out, b": as the documents say\n");
     }
 }
 
 // One entry, its number among all; is it whole?
-fn replay_one(bytes: &[u8], entry: u64, equal: &mut [u64]) -> bool {
+fn replay_one(out: Stdout, bytes: &[u8], entry: u64, equal: &mut [u64]) -> bool {
     let len = bytes.len();
     if len < HEAD_BYTES {
         return false;
@@ -102,22 +100,40 @@ fn replay_one(bytes: &[u8], entry: u64, equal: &mut [u64]) -> bool {
     }
     let head = &bytes[0..HEAD_BYTES];
     let same = as_stored(head, &bytes[name..query], &bytes[query..end]);
-    tell(&bytes[HEAD_BYTES..name], entry, same);
+    tell(out, &bytes[HEAD_BYTES..name], entry, same);
     if same {
         count(equal, place(head));
     }
     true
 }
 
+// Standard input until the buffer is full, or to its end, or to a read that fails; how many bytes are there.
+fn read_full(mut stdin: Stdin, bytes: &mut [u8]) -> usize
+    ensures { result ≤ length bytes.new }
+{
+    let mut done = 0;
+    while done < bytes.len() {
+        match stdin.read(&mut bytes[done..]) {
+            Ok(0) | Err(_) => {
+                return done;
+            }
+            Ok(more) => {
+                done += more;
+            }
+        }
+    }
+    done
+}
+
 // The next entry goes to the front of the buffer; the answer is how many of its bytes are there, 0 where the input has ended.
-fn next_entry(bytes: &mut [u8]) -> usize
+fn next_entry(stdin: Stdin, bytes: &mut [u8]) -> usize
     ensures { result ≤ length bytes.new }
 {
     let len = bytes.len();
     if len < HEAD_BYTES {
         return 0;
     }
-    let got = io::read_full(STANDARD_INPUT, &mut bytes[0..HEAD_BYTES]);
+    let got = read_full(stdin, &mut bytes[0..HEAD_BYTES]);
     if got < HEAD_BYTES {
         return got;
     }
@@ -128,27 +144,27 @@ fn next_entry(bytes: &mut [u8]) -> usize
     if end > len {
         return 0;
     }
-    HEAD_BYTES + io::read_full(STANDARD_INPUT, &mut bytes[HEAD_BYTES..end])
+    HEAD_BYTES + read_full(stdin, &mut bytes[HEAD_BYTES..end])
 }
 
 // The next entry; was there a whole one?
-fn replay_next(bytes: &mut [u8], entry: u64, equal: &mut [u64]) -> bool {
-    let len = next_entry(bytes);
+fn replay_next(stdin: Stdin, out: Stdout, bytes: &mut [u8], entry: u64, equal: &mut [u64]) -> bool {
+    let len = next_entry(stdin, bytes);
     if len == 0 {
         return false;
     }
-    let whole = replay_one(&bytes[0..len], entry, equal);
+    let whole = replay_one(out, &bytes[0..len], entry, equal);
     if !whole {
-        print(b"an entry is cut off\n");
+        print(out, b"an entry is cut off\n");
     }
     whole
 }
 
 // All entries in turn; the answer is how many there are.
-fn replay_all(bytes: &mut [u8], equal: &mut [u64]) -> u64 {
+fn replay_all(stdin: Stdin, out: Stdout, bytes: &mut [u8], equal: &mut [u64]) -> u64 {
     let mut entries = 0;
     while entries < MOST_ENTRIES {
-        if !replay_next(bytes, entries, equal) {
+        if !replay_next(stdin, out, bytes, entries, equal) {
             return entries;
         }
         entries += 1;
@@ -156,13 +172,14 @@ fn replay_all(bytes: &mut [u8], equal: &mut [u64]) -> u64 {
     entries
 }
 
-fn main() {
+fn main(rt: HostRuntime) {
+    let out = rt.stdout();
     let mut bytes = [0u8; MOST_ENTRY];
     let mut equal = [0u64; COUNTS];
-    let entries = replay_all(&mut bytes, &mut equal);
-    tell_equal(&equal[0..NUMBERS]);
-    print_count(b"twins: ", equal[TWINS_AT]);
-    print_count(b" as stored\npairs told apart: ", equal[APART_AT]);
-    print_count(b" as stored\nentries: ", entries);
-    print(b"\n");
+    let entries = replay_all(rt.stdin(), out, &mut bytes, &mut equal);
+    tell_equal(out, &equal[0..NUMBERS]);
+    print_count(out, b"twins: ", equal[TWINS_AT]);
+    print_count(out, b" as stored\npairs told apart: ", equal[APART_AT]);
+    print_count(out, b" as stored\nentries: ", entries);
+    print(out, b"\n");
 }

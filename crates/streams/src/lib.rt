@@ -1,12 +1,14 @@
 // The standard streams of the programs. Where reading or writing fails, a line on standard error says so.
 #![tactic(auto)]
 
-ghost use Rattle.std.specs.Prelude.{length};
+ghost use Rattle.std.specs.Prelude.{◌≤◌, length};
 ghost use Rattle.streams.specs.Streams.{IsInBuffer};
 
 use answers::Refusal;
-use libc::{STDERR_FILENO, STDIN_FILENO, STDOUT_FILENO};
 use messages::{LINE_ROOM, message};
+use std::env::{Env, FillError};
+use std::io;
+use std::io::{Cursor, Read, Stderr, Stdin, Stdout, Write};
 
 // How many bytes were read to the front of the buffer; or a read failed.
 #[derive(Clone, Copy)]
@@ -15,25 +17,60 @@ pub enum Input {
     Failed,
 }
 
+// ---- What failed.
+
+// What the system says of an error is shorter.
+const MOST_WORDS: usize = 128;
+
+// Behind the system's reason stands its number.
+const BEFORE_NUMBER: &[u8; 11] = b" (os error ";
+
+// Where the reason ends.
+fn reason_end(words: &[u8]) -> usize
+    ensures { result ≤ length words.now }
+{
+    for i in 0..words.len() {
+        if words[i..].starts_with(BEFORE_NUMBER) {
+            return i;
+        }
+    }
+    words.len()
+}
+
+// A line on standard error: what failed, and the system's reason.
+fn fail(err: Stderr, what: &[u8], e: io::Error) {
+    let mut words = [0u8; MOST_WORDS];
+    let mut cursor = Cursor::new(&mut words[..]);
+    let _ = write!(cursor, "{e}");
+    let k = (cursor.position() as usize).min(MOST_WORDS);
+    write_error(err, what);
+    write_error(err, b": ");
+    write_error(err, &words[..reason_end(&words[..k])]);
+    write_error(err, b"\n");
+}
+
+// ---- Reading.
+
 // One read of standard input. It gives no byte where the input has ended.
-fn read_some(buf: &mut [u8]) -> Input
+fn read_some(mut stdin: Stdin, err: Stderr, buf: &mut [u8]) -> Input
     ensures { IsInBuffer result (length buf.new) }
 {
-    let got = libc::read(STDIN_FILENO, buf);
-    if got < 0 {
-        os::fail(b"cannot read standard input");
-        return Input::Failed;
+    match stdin.read(buf) {
+        Ok(got) => Input::Bytes(got),
+        Err(e) => {
+            fail(err, b"cannot read standard input", e);
+            Input::Failed
+        }
     }
-    Input::Bytes(io::count(got, buf))
 }
 
 // Standard input to its end, or as far as the buffer goes.
-pub fn read_input(buf: &mut [u8]) -> Input
+pub fn read_input(stdin: Stdin, err: Stderr, buf: &mut [u8]) -> Input
     ensures { IsInBuffer result (length buf.new) }
 {
     let mut done = 0;
     while done < buf.len() {
-        match read_some(&mut buf[done..]) {
+        match read_some(stdin, err, &mut buf[done..]) {
             Input::Failed => {
                 return Input::Failed;
             }
@@ -48,55 +85,59 @@ pub fn read_input(buf: &mut [u8]) -> Input
     Input::Bytes(done)
 }
 
-// For use right after a write that failed: the line names the system's reason.
-pub fn output_failed() {
-    os::fail(b"cannot write standard output");
+// ---- Writing.
+
+// A write that failed: the line names the system's reason.
+pub fn output_failed(err: Stderr, e: io::Error) {
+    fail(err, b"cannot write standard output", e);
 }
 
-pub fn write_output(bytes: &[u8]) {
-    if !io::write_all(STDOUT_FILENO, bytes) {
-        output_failed();
+pub fn write_output(out: Stdout, err: Stderr, bytes: &[u8]) {
+    if let Err(e) = out.write_all(bytes) {
+        output_failed(err, e);
     }
 }
 
-// Text on standard output, piece by piece; was it written?
-pub fn print(text: &[u8]) -> bool {
-    io::write_all(STDOUT_FILENO, text)
+// Text on standard output, piece by piece.
+pub fn print(out: Stdout, text: &[u8]) -> io::Result<()> {
+    out.write_all(text)
 }
 
-pub fn print_number(x: usize) -> bool {
-    io::print_decimal(STDOUT_FILENO, x as u64)
+pub fn print_number(out: Stdout, x: usize) -> io::Result<()> {
+    out.print(x)
 }
 
 // A failure here has no stream left to be told on.
-pub fn write_error(bytes: &[u8]) {
-    io::write_all(STDERR_FILENO, bytes);
+pub fn write_error(err: Stderr, bytes: &[u8]) {
+    let _ = err.write_all(bytes);
 }
 
-pub fn error_number(x: usize) {
-    io::print_decimal(STDERR_FILENO, x as u64);
+pub fn error_number(err: Stderr, x: usize) {
+    let _ = err.print(x);
 }
 
-// The line of a refusal; was it written?
-fn write_line(to: i32, q: Refusal) -> bool {
+// The line of a refusal.
+fn write_line(to: &impl Print, q: Refusal) -> io::Result<()> {
     let mut line = [0u8; LINE_ROOM];
     let k = message(q, &mut line);
-    io::write_all(to, &line[..k])
+    to.write_all(&line[..k])
 }
 
-pub fn print_line(q: Refusal) -> bool {
-    write_line(STDOUT_FILENO, q)
+pub fn print_line(out: Stdout, q: Refusal) -> io::Result<()> {
+    write_line(&out, q)
 }
 
-pub fn tell(q: Refusal) {
-    write_line(STDERR_FILENO, q);
+pub fn tell(err: Stderr, q: Refusal) {
+    let _ = write_line(&err, q);
 }
 
 // A program takes no arguments: with any it says what it reads and writes, and ends.
-pub fn only_usage(text: &[u8]) -> bool {
-    if os::arg_count() < 2 {
-        return false;
+pub fn only_usage(rt: &impl Env, out: Stdout, err: Stderr, text: &[u8]) -> bool {
+    match rt.arg(1, &mut []) {
+        Err(FillError::NotPresent) => false,
+        Ok(_) | Err(FillError::TooLong) => {
+            write_output(out, err, text);
+            true
+        }
     }
-    write_output(text);
-    true
 }

@@ -3,8 +3,7 @@ use mathlib.Core.Path.{◌≡◌, refl}
 use mathlib.Core.List.{List, [], ◌∷◌}
 use Prim.Native.Nat.{ℕ}
 use Prim.Native.String.{String}
-use lib.ListN.{set}
-use Rattle.answers.specs.Answer.{Answer, gives, refuses, refusal}
+use Rattle.answers.specs.Answer.{gives, refuses, refusal}
 use Rattle.nodes.specs.Lists.{equal, zeros}
 use Rattle.messages.specs.Message.{codes}
 use Rattle.texts.specs.Pieces.{until, past, pieces}

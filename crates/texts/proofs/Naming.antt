@@ -1,13 +1,11 @@
 -- Of specs/Words: the place of a word in a list.
 use Prim.Native.Nat.{ℕ, suc, ◌+◌, ◌≤◌, ◌<◌}
-use mathlib.Core.Path.{◌≡◌, refl, sym, ap, ap₂, ◌∙◌}
+use mathlib.Core.Path.{◌≡◌, sym, ap, ◌∙◌}
 use mathlib.Core.Bool.{Bool, true, false, cond}
 use mathlib.Core.List.{List, [], ◌∷◌}
 use native.Mathlib.Omega.{arith}
-use lib.ListN.{length}
 use Rattle.nodes.specs.Lists.{equal}
 use Rattle.texts.specs.Words.{names, name_count, place_in, numbers_of, word_of}
-use Rattle.texts.specs.declared.words.Word.{Word}
 use Rattle.texts.specs.declared.words.Word.TheVariants.{Name}
 use borrow.Author.Tests.{lt-ltb, le-ltb}
 

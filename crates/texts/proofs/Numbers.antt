@@ -1,7 +1,6 @@
 -- Of specs/JobText: the numbers of a text as the buffer holds them, and the lists in them.
 use Prim.Native.Nat.{ℕ, zero, suc, ◌+◌, ◌-◌, ◌*◌, ◌≤◌, ◌<◌}
-use mathlib.Core.Path.{◌≡◌, refl, sym, ap, ap₂, ◌∙◌}
-use mathlib.Core.Bool.{Bool, true, false, cond}
+use mathlib.Core.Path.{◌≡◌, refl, sym, ap, ◌∙◌}
 use mathlib.Core.List.{List, [], ◌∷◌, ◌++◌, append_assoc, append-nil}
 use native.Mathlib.Nat.{not-suc-le-zero, le_of_suc-le-suc}
 use native.Mathlib.Omega.{arith}
@@ -9,7 +8,7 @@ use borrow.Author.Tests.{lt-ltb, le-ltb, eq-eqb, ne_eqb}
 use lib.ListN.{length, get_or, set, take, drop, length-drop, drop_of_length-le}
 use lib.Seq.{sets, take-suc-set}
 use Rattle.nodes.specs.Lists.{zeros}
-use Rattle.answers.specs.Answer.{Answer, gives, refuses, refusal, ◌>>=◌}
+use Rattle.answers.specs.Answer.{gives, refuses, refusal, ◌>>=◌}
 use Rattle.texts.specs.Words.{first_measurement, outputs_name}
 use Rattle.texts.specs.JobText.{behind, measured_one, measured}
 use Rattle.texts.proofs.Parting.{rest}

@@ -1,6 +1,6 @@
 -- Of specs/JobText: what one word, one line and one text more do.
 use Prim.Native.Nat.{ℕ, suc, ◌+◌, ◌≤◌, ◌<◌}
-use mathlib.Core.Path.{◌≡◌, refl, sym, ap, ap₂, ◌∙◌}
+use mathlib.Core.Path.{◌≡◌, refl, sym, ap, ◌∙◌}
 use mathlib.Core.Bool.{Bool, true, false}
 use mathlib.Core.List.{List, [], ◌∷◌, ◌++◌}
 use native.Mathlib.Nat.{not-suc-le-zero}
@@ -9,7 +9,7 @@ use borrow.Author.Tests.{le-leb, lt-leb, lt-ltb, le-ltb}
 use lib.ListN.{length, take, drop, length-append}
 use lib.Seq.{sets, sets-eq, take_at, length-take-le}
 use Rattle.texts.specs.Words.{word_of}
-use Rattle.texts.specs.JobText.{Reading, read, fault, TextRead, numbers, faulty, out_of_order, wrong_shape, too_many, in_order, in_shape, added, said, after_word, after_words, after_line, finished, unless_fault, after_lines}
+use Rattle.texts.specs.JobText.{Reading, read, fault, numbers, faulty, out_of_order, wrong_shape, too_many, in_order, in_shape, added, said, after_word, after_words, after_line, unless_fault, after_lines}
 
 -- ---- numbers added to the first k bytes of a buffer
 module _ (name k : ℕ) (buffer : List ℕ) (few : k ≤ length buffer) (edge : Bool) (more : List ℕ) where

@@ -1,0 +1,162 @@
+use mathlib.Core.Path.{◌≡◌, sym, ap, ◌∙◌, fun_ext}
+use mathlib.Core.Bool.{Bool, false, ◌&&◌}
+use mathlib.Core.Option.{Option, none}
+use Prim.Native.Nat.{ℕ}
+use lib.Dec.{eqb}
+use Rattle.nodes.specs.Row.{parity}
+use Rattle.nodes.specs.NodeSet.{member}
+use Rattle.nodes.specs.SetTable.{set_at}
+use Rattle.nodes.proofs.SetTable.{set_past}
+use Rattle.flows.specs.Job.{Job, odd, own}
+use Rattle.flows.specs.Conditions.{member_excused, odd_excused, y_asked}
+use Rattle.finder.specs.Searches.{job_in}
+use Rattle.answers.specs.Answer.{Refusal}
+use Rattle.records.specs.JobFile.{mode_pauli}
+use Rattle.records.specs.FlowFile.{Flow}
+use Rattle.verdicts.specs.Verdict.{ask, ◌next◌, each, member_ask, odd_ask, y_ask, own_ask, definition_ask}
+use Rattle.calls.specs.Loaded.{flow_in, no_nodes, asked_of, first_in}
+use Rattle.calls.proofs.AskingNodes.{odd_past, order_excused, y_first}
+use Rattle.calls.proofs.AskingDefinition.{node_output, node_members, node_odd, node_rest}
+use Rattle.calls.proofs.pflow.check_node.Goals as goal
+use Rattle.calls.proofs.pflow.check_node.Goals.{After-in_order-a, After-in_order-b, After-intersection-wrong, After-odd_of-odd, After-set_at-set, In-Passed-b, Start}
+
+abbrev G : Start → Job
+G s = job_in s.args.n s.args.graph.now no_nodes s.args.outputs s.args.measured.now
+
+abbrev F : Start → Flow
+F s = flow_in s.args.layers.now no_nodes s.args.sets.now
+
+abbrev G-at-After-set_at-set : After-set_at-set → Job
+G-at-After-set_at-set s = job_in s.args.n s.args.graph.now no_nodes s.args.outputs s.args.measured.now
+
+plain : (c : After-set_at-set) → (G-at-After-set_at-set c).output c.args.i ≡ false
+plain c = sym c.has.ensures ∙ c.if-has.false
+
+abbrev G-at-After-in_order-a : After-in_order-a → Job
+G-at-After-in_order-a s = job_in s.args.n s.args.graph.now no_nodes s.args.outputs s.args.measured.now
+
+abbrev F-at-After-in_order-a : After-in_order-a → Flow
+F-at-After-in_order-a s = flow_in s.args.layers.now no_nodes s.args.sets.now
+
+first : (c : After-in_order-a) → each c.args.n (member_ask (G-at-After-in_order-a c) (F-at-After-in_order-a c) c.args.mode c.args.i) ≡ asked_of c.in_order-a.result
+first c =
+    order_excused c.args.n c.args.i (F-at-After-in_order-a c).layer ((F-at-After-in_order-a c).set c.args.i) (member_excused (G-at-After-in_order-a c) (eqb c.args.mode mode_pauli)) (member c.intersection.result) (λ k l. set_past c.args.sets.now c.args.i k l)
+    (λ k. ap (λ (f : ℕ → Bool). f k) c.intersection.ensures ∙ rw (c.set_at-set.ensures, c.difference.ensures, c.not_later-early.ensures, c.requires.excused_by.members))
+    ∙ sym c.in_order-a.ensures
+
+abbrev G-at-After-odd_of-odd : After-odd_of-odd → Job
+G-at-After-odd_of-odd s = job_in s.args.n s.args.graph.now no_nodes s.args.outputs s.args.measured.now
+
+abbrev F-at-After-odd_of-odd : After-odd_of-odd → Flow
+F-at-After-odd_of-odd s = flow_in s.args.layers.now no_nodes s.args.sets.now
+
+set-odd : (c : After-odd_of-odd) → member c.odd_of-odd.result ≡ odd (G-at-After-odd_of-odd c) ((F-at-After-odd_of-odd c).set c.args.i)
+set-odd c =
+    c.odd_of-odd.ensures ∙ fun_ext (λ v. ap (λ (x : ℕ → Bool). parity c.args.n (λ k. set_at c.args.graph.now k v && x k)) c.set_at-set.ensures)
+
+abbrev G-at-After-in_order-b : After-in_order-b → Job
+G-at-After-in_order-b s = job_in s.args.n s.args.graph.now no_nodes s.args.outputs s.args.measured.now
+
+abbrev F-at-After-in_order-b : After-in_order-b → Flow
+F-at-After-in_order-b s = flow_in s.args.layers.now no_nodes s.args.sets.now
+
+set-odd-at-After-in_order-b : (c : After-in_order-b) → member c.odd_of-odd.result ≡ odd (G-at-After-in_order-b c) ((F-at-After-in_order-b c).set c.args.i)
+set-odd-at-After-in_order-b c =
+    c.odd_of-odd.ensures ∙ fun_ext (λ v. ap (λ (x : ℕ → Bool). parity c.args.n (λ k. set_at c.args.graph.now k v && x k)) c.set_at-set.ensures)
+
+second : (c : After-in_order-b) → each c.args.n (odd_ask (G-at-After-in_order-b c) (F-at-After-in_order-b c) c.args.mode c.args.i) ≡ asked_of c.in_order-b.result
+second c =
+    let s = c in
+    order_excused s.args.n s.args.i (F-at-After-in_order-b s).layer (odd (G-at-After-in_order-b s) ((F-at-After-in_order-b s).set s.args.i)) (odd_excused (G-at-After-in_order-b s) (eqb s.args.mode mode_pauli)) (member c.intersection-2.result)
+    (odd_past s.args.n (set_at s.args.graph.now) ((F-at-After-in_order-b s).set s.args.i) (set_past s.args.graph.now))
+    (λ k. ap (λ (f : ℕ → Bool). f k) c.intersection-2.ensures ∙ rw (set-odd-at-After-in_order-b c, c.difference-2.ensures, c.not_later-early.ensures, s.requires.excused_by.odds))
+    ∙ sym c.in_order-b.ensures
+
+-- where the second question is asked, the first holds
+
+first-at-After-in_order-b : (c : After-in_order-b) → each c.args.n (member_ask (G-at-After-in_order-b c) (F-at-After-in_order-b c) c.args.mode c.args.i) ≡ asked_of c.in_order-a.result
+first-at-After-in_order-b c =
+    order_excused c.args.n c.args.i (F-at-After-in_order-b c).layer ((F-at-After-in_order-b c).set c.args.i) (member_excused (G-at-After-in_order-b c) (eqb c.args.mode mode_pauli)) (member c.intersection.result) (λ k l. set_past c.args.sets.now c.args.i k l)
+    (λ k. ap (λ (f : ℕ → Bool). f k) c.intersection.ensures ∙ rw (c.set_at-set.ensures, c.difference.ensures, c.not_later-early.ensures, c.requires.excused_by.members))
+    ∙ sym c.in_order-a.ensures
+
+first_holds : (c : After-in_order-b) → each c.args.n (member_ask (G-at-After-in_order-b c) (F-at-After-in_order-b c) c.args.mode c.args.i) ≡ none
+first_holds c = first-at-After-in_order-b c ∙ ap asked_of c.in-Passed.is
+
+abbrev G-at-In-Passed-b : In-Passed-b → Job
+G-at-In-Passed-b s = job_in s.args.n s.args.graph.now no_nodes s.args.outputs s.args.measured.now
+
+abbrev F-at-In-Passed-b : In-Passed-b → Flow
+F-at-In-Passed-b s = flow_in s.args.layers.now no_nodes s.args.sets.now
+
+plain-at-In-Passed-b : (c : In-Passed-b) → (G-at-In-Passed-b c).output c.args.i ≡ false
+plain-at-In-Passed-b c = sym c.has.ensures ∙ c.if-has.false
+
+set-odd-at-In-Passed-b : (c : In-Passed-b) → member c.odd_of-odd.result ≡ odd (G-at-In-Passed-b c) ((F-at-In-Passed-b c).set c.args.i)
+set-odd-at-In-Passed-b c =
+    c.odd_of-odd.ensures ∙ fun_ext (λ v. ap (λ (x : ℕ → Bool). parity c.args.n (λ k. set_at c.args.graph.now k v && x k)) c.set_at-set.ensures)
+
+second-at-In-Passed-b : (c : In-Passed-b) → each c.args.n (odd_ask (G-at-In-Passed-b c) (F-at-In-Passed-b c) c.args.mode c.args.i) ≡ asked_of c.in_order-b.result
+second-at-In-Passed-b c =
+    let s = c in
+    order_excused s.args.n s.args.i (F-at-In-Passed-b s).layer (odd (G-at-In-Passed-b s) ((F-at-In-Passed-b s).set s.args.i)) (odd_excused (G-at-In-Passed-b s) (eqb s.args.mode mode_pauli)) (member c.intersection-2.result)
+    (odd_past s.args.n (set_at s.args.graph.now) ((F-at-In-Passed-b s).set s.args.i) (set_past s.args.graph.now))
+    (λ k. ap (λ (f : ℕ → Bool). f k) c.intersection-2.ensures ∙ rw (set-odd-at-In-Passed-b c, c.difference-2.ensures, c.not_later-early.ensures, s.requires.excused_by.odds))
+    ∙ sym c.in_order-b.ensures
+
+first-at-In-Passed-b : (c : In-Passed-b) → each c.args.n (member_ask (G-at-In-Passed-b c) (F-at-In-Passed-b c) c.args.mode c.args.i) ≡ asked_of c.in_order-a.result
+first-at-In-Passed-b c =
+    order_excused c.args.n c.args.i (F-at-In-Passed-b c).layer ((F-at-In-Passed-b c).set c.args.i) (member_excused (G-at-In-Passed-b c) (eqb c.args.mode mode_pauli)) (member c.intersection.result) (λ k l. set_past c.args.sets.now c.args.i k l)
+    (λ k. ap (λ (f : ℕ → Bool). f k) c.intersection.ensures ∙ rw (c.set_at-set.ensures, c.difference.ensures, c.not_later-early.ensures, c.requires.excused_by.members))
+    ∙ sym c.in_order-a.ensures
+
+first_holds-at-In-Passed-b : (c : In-Passed-b) → each c.args.n (member_ask (G-at-In-Passed-b c) (F-at-In-Passed-b c) c.args.mode c.args.i) ≡ none
+first_holds-at-In-Passed-b c = first-at-In-Passed-b c ∙ ap asked_of c.in-Passed.is
+
+rest : (c : In-Passed-b) → definition_ask (G-at-In-Passed-b c) (F-at-In-Passed-b c) c.args.mode c.args.i ≡ (each c.args.n (y_ask (G-at-In-Passed-b c) (F-at-In-Passed-b c) c.args.mode c.args.i) next own_ask (G-at-In-Passed-b c) (F-at-In-Passed-b c) c.args.i)
+rest c =
+    node_rest (G-at-In-Passed-b c) (F-at-In-Passed-b c) c.args.mode c.args.i (plain-at-In-Passed-b c) c.requires.n_le_capacity.2 (first_holds-at-In-Passed-b c) (second-at-In-Passed-b c ∙ ap asked_of c.in-Passed-b.is)
+
+-- the Y nodes
+
+abbrev G-at-After-intersection-wrong : After-intersection-wrong → Job
+G-at-After-intersection-wrong s = job_in s.args.n s.args.graph.now no_nodes s.args.outputs s.args.measured.now
+
+abbrev F-at-After-intersection-wrong : After-intersection-wrong → Flow
+F-at-After-intersection-wrong s = flow_in s.args.layers.now no_nodes s.args.sets.now
+
+set-odd-at-After-intersection-wrong : (c : After-intersection-wrong) → member c.odd_of-odd.result ≡ odd (G-at-After-intersection-wrong c) ((F-at-After-intersection-wrong c).set c.args.i)
+set-odd-at-After-intersection-wrong c =
+    c.odd_of-odd.ensures ∙ fun_ext (λ v. ap (λ (x : ℕ → Bool). parity c.args.n (λ k. set_at c.args.graph.now k v && x k)) c.set_at-set.ensures)
+
+third : (c : After-intersection-wrong) → each c.args.n (y_ask (G-at-After-intersection-wrong c) (F-at-After-intersection-wrong c) c.args.mode c.args.i) ≡ first_in (member c.intersection-wrong.result) (λ k. record { number = 19; a = c.args.i; b = 0 })
+third c =
+    let s = c in
+    y_first s.args.n s.args.i (F-at-After-intersection-wrong s).layer ((F-at-After-intersection-wrong s).set s.args.i) (odd (G-at-After-intersection-wrong s) ((F-at-After-intersection-wrong s).set s.args.i)) (y_asked (G-at-After-intersection-wrong s) (eqb s.args.mode mode_pauli)) (member c.intersection-wrong.result)
+    (λ k l. set_past s.args.sets.now s.args.i k l)
+    (odd_past s.args.n (set_at s.args.graph.now) ((F-at-After-intersection-wrong s).set s.args.i) (set_past s.args.graph.now))
+    (λ k. ap (λ (f : ℕ → Bool). f k) c.intersection-wrong.ensures ∙ rw (c.intersection-3.ensures, c.xor.ensures, set-odd-at-After-intersection-wrong c, c.set_at-set.ensures, c.not_later-early.ensures, s.requires.excused_by.ys))
+
+pub returns-then-has : goal.returns-then-has
+returns-then-has c = node_output (G (goal.at.returns-then-has c).Start) (F (goal.at.returns-then-has c).Start) c.args.mode c.args.i (sym c.has.ensures ∙ c.if-has.true)
+
+pub returns-in_default : goal.returns-in_default
+returns-in_default c = let t = ap asked_of c.in_default.is in
+    t ∙ sym (node_members (G (goal.at.returns-in_default c).Start) (F (goal.at.returns-in_default c).Start) c.args.mode c.args.i (plain (goal.at.returns-in_default c).After-set_at-set) c.requires.n_le_capacity.2 _ (first (goal.at.returns-in_default c).After-in_order-a ∙ t))
+
+pub in_order-b-requires : goal.in_order-b-requires
+in_order-b-requires c = c.requires.n_le_capacity.1
+
+pub returns-in_default-b : goal.returns-in_default-b
+returns-in_default-b c = let x = ap asked_of c.in_default-b.is in
+    x ∙ sym (node_odd (G (goal.at.returns-in_default-b c).Start) (F (goal.at.returns-in_default-b c).Start) c.args.mode c.args.i (plain (goal.at.returns-in_default-b c).After-set_at-set) c.requires.n_le_capacity.2 (first_holds (goal.at.returns-in_default-b c).After-in_order-b) _ (second (goal.at.returns-in_default-b c).After-in_order-b ∙ x))
+
+pub check_measurement-requires : goal.check_measurement-requires
+check_measurement-requires c = c.requires.n_le_capacity.1
+
+pub returns : goal.returns
+returns c = let e = c in
+    let s = e in
+    c.check_measurement.ensures
+    ∙ ap (λ (p : Option Refusal). p next ask (own c.byte_at.result (member e.set_at-set.result s.args.i) (member c.odd_of-odd.result s.args.i)) 19 s.args.i 0) (sym (third (goal.at.returns c).After-intersection-wrong))
+    ∙ rw (c.byte_at.ensures, e.set_at-set.ensures, set-odd (goal.at.returns c).After-odd_of-odd) (sym (rest (goal.at.returns c).In-Passed-b))

@@ -1,0 +1,15 @@
+use mathlib.Core.Path.{refl}
+use native.Mathlib.Omega.{arith}
+use lib.ListN.{length}
+use Rattle.nodes.proofs.Lists.{zeros_more, zeros_whole}
+use borrow.Author.Rules.{rules}
+use Rattle.finder.proofs.search.clear_layers.Goals as goal
+
+pub loop-i-init : goal.loop-i-init
+loop-i-init c = (search rules, refl, refl)
+
+pub loop-i-preserved : goal.loop-i-preserved
+loop-i-preserved c = let l = c.loop-i in (search rules, search rules, zeros_more l.layers l.i (omega arith) l.invariant.2)
+
+pub returns : goal.returns
+returns c = let l = c.loop-i in zeros_whole l.layers l.i (length c.args.layers.now) (omega arith) l.invariant.1 l.invariant.2

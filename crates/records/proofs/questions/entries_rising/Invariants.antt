@@ -1,0 +1,13 @@
+use mathlib.Core.Path.{◌≡◌}
+use mathlib.Core.Bool.{true}
+use Prim.Native.Nat.{◌-◌, ◌≤◌}
+use lib.ListN.{length, drop}
+use Rattle.nodes.specs.Options.{is_some}
+use Rattle.records.specs.FlowFile.{entries_of, listed, entries_rise}
+use Rattle.records.proofs.questions.entries_rising.Given as goal
+
+abbrev pub invariant-loop-i : goal.invariant-loop-i
+invariant-loop-i l = (l.i ≤ length l.sets) × (is_some (entries_of (drop l.i l.sets)) ≡ true) × (entries_rise 0 (listed (entries_of l.sets)) ≡ entries_rise l.low (listed (entries_of (drop l.i l.sets))))
+
+abbrev pub decreases-loop-i : goal.decreases-loop-i
+decreases-loop-i l = length l.sets - l.i

@@ -1,0 +1,15 @@
+use Prim.Native.Nat.{◌+◌}
+use mathlib.Core.Path.{◌≡◌}
+use lib.ListN.{length}
+use Rattle.nodes.specs.Row.{count, members}
+use Rattle.nodes.specs.NodeSet.{capacity, member}
+use Rattle.nodes.specs.SetTable.{set_at}
+use Rattle.records.specs.JobLists.{pairs_among}
+use Rattle.records.specs.Splice.{splice}
+use Rattle.records.proofs.writer.put_edges.Given as goal
+
+abbrev pub invariant-loop-left : goal.invariant-loop-left
+invariant-loop-left l = (length l.out ≡ length l.initial.out) × (l.p + length (pairs_among (set_at l.graph) (members capacity (member l.left))) ≡ l.at + length (pairs_among (set_at l.graph) (members capacity (member l.initial.left)))) × (splice l.p (pairs_among (set_at l.graph) (members capacity (member l.left))) l.out ≡ splice l.at (pairs_among (set_at l.graph) (members capacity (member l.initial.left))) l.initial.out)
+
+abbrev pub decreases-loop-left : goal.decreases-loop-left
+decreases-loop-left l = count capacity (member l.left)

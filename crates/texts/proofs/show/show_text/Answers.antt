@@ -1,0 +1,19 @@
+use mathlib.Core.Path.{sym, ap, ◌∙◌}
+use Rattle.answers.specs.Refusals.{refusal_of}
+use Rattle.records.specs.Views.{job_of_read}
+use Rattle.calls.proofs.LoadingFiles.{job_inside}
+use Rattle.texts.proofs.Showing.{not_read}
+use Rattle.texts.proofs.show.show_text.Goals as goal
+
+pub show_read-requires : goal.show_read-requires
+show_read-requires c =
+    let s = c.args.file.now in
+    let r = c.read_job in
+    let e = c.in-Job.is in
+    (sym r.ensures.result_value ∙ ap (job_of_read s) e, job_inside s r.result r.ensures.job_placed _ e)
+
+pub returns-in-Refused : goal.returns-in-Refused
+returns-in-Refused c =
+    let a = c.args in
+    let r = c.read_job in
+    not_read a.file.now a.out.now (refusal_of c.in-Refused.q) (sym r.ensures.result_value ∙ ap (job_of_read a.file.now) c.in-Refused.is)
