@@ -1,4 +1,4 @@
-/* The table compiler for programs in C99 or C++. Link with libcapi.a, made by `rt staticlib capi` for x86_64-unknown-linux-gnu.
+/* The table compiler for programs in C99 or C++. Link with libcapi.a, made by `bash tools/build capi_c` for x86_64-unknown-linux-gnu.
 
    For the caller to see to, since no proof reaches beyond the calls:
    - A pointer and its length name that many bytes that may be read, or for a buffer that is not const, read and written. With length 0 the

@@ -157,7 +157,7 @@ asked_find file work f e =
     modes m (inl t) = inl (eqb→eq m mode_planes t)
     modes m (inr t) = inr (eqb→eq m mode_pauli t)
 
--- no result is longer than `mostOutput`
+-- no result is longer than `most_output`
 pub found_fits : (f : JobFile) → f.n ≤ most_nodes → length (found_bytes f) ≤ most_output
 found_fits f h = go (progress_by_mode (mode_of f) (job_of f))
   where

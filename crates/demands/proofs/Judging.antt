@@ -1,4 +1,4 @@
--- A job followed by a flow, `verifyAsks` of specs/Calls: what the verifier asks of the two together, and what reading tells of them.
+-- A job followed by a flow, `verify_asks` of specs/Calls: what the verifier asks of the two together, and what reading tells of them.
 use Prim.Native.Nat.{ℕ, zero, suc, ◌+◌, ◌≤◌, ◌<◌}
 use mathlib.Core.Path.{◌≡◌, refl, sym, ap, ◌∙◌, subst}
 use mathlib.Core.Bool.{Bool, true, false, not, ◌&&◌, ◌||◌}

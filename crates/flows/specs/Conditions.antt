@@ -1,5 +1,5 @@
 -- The conditions on a node's set, one rule for modes 2 and 3: mode 2 is mode 3 with nobody excused. What is asked of the set alone
--- (`ownHolds`) stands apart from which nodes have to be later (`need`); both go by the set, not by layers.
+-- (`own_holds`) stands apart from which nodes have to be later (`need`); both go by the set, not by layers.
 use Rattle.std.specs.Prelude.{ℕ, Bool, not, ◌&&◌, ◌||◌, eqb}
 use Rattle.nodes.specs.Bit.{◌⊕◌}
 use Rattle.nodes.specs.Row.{any_below, all_below}

@@ -37,8 +37,8 @@ round try r s = record {
 abbrev pub solves_some : ((ℕ → Bool) → ℕ → Option (ℕ → Bool)) → ℕ → Progress → Bool
 solves_some try n s = any_below n (solved_now (try s.solved) s)
 
--- Rounds from r on. A round that solves nothing ends the search; where nothing is unsolved, none solves anything (solved-idle). That
--- the bound on their number never ends it is a law (rounds-end). `try later u` tries u when the nodes `later` were solved before.
+-- Rounds from r on. A round that solves nothing ends the search; where nothing is unsolved, none solves anything (`solved_idle`). That
+-- the bound on their number never ends it is a law (`rounds_end`). `try later u` tries u when the nodes `later` were solved before.
 unfoldable pub rounds : ((ℕ → Bool) → ℕ → Option (ℕ → Bool)) → ℕ → ℕ → ℕ → Progress → Progress
 rounds try n zero r s = s
 rounds try n (suc bound) r s =
