@@ -1,5 +1,5 @@
-// The calls as a program in C sees them: a slice is a pointer and a length, and the answer is one number. All but the solver's, which no job reaches,
-// carry the role of the caller.
+// The calls as a program in C sees them; crate capi_c exports each under its name. A slice is a pointer and a length, and the answer is one number. All but
+// the solver's, which no job reaches, carry the role of the caller.
 #![tactic(auto)]
 
 ghost use Rattle.std.specs.Prelude.{◌≡◌, []};

@@ -186,7 +186,7 @@ edge_sym [] u v = refl
 edge_sym (a ∷ []) u v = refl
 edge_sym (a ∷ b ∷ l) u v = ap₂ ◌||◌ (or_comm (eqb a u && eqb b v) (eqb a v && eqb b u)) (edge_sym l u v)
 
--- a has_edge pair is one of the list's, one way or the other
+-- a pair joined by an edge is one of the list's, one way or the other
 pub edge_out : (a b : ℕ) (l : List ℕ) (u v : ℕ) → T (has_edge (a ∷ b ∷ l) u v) → ((a ≡ u) × (b ≡ v)) ⊎ (((a ≡ v) × (b ≡ u)) ⊎ T (has_edge l u v))
 unfolding has_edge
 edge_out a b l u v t = by (or_out (eqb a u && eqb b v || eqb a v && eqb b u) (has_edge l u v) t)
@@ -232,7 +232,7 @@ loop_free low (a ∷ b ∷ l) u h t =
     by x (inr (inl (c, d))) ih = apart x c d
     by x (inr (inr t)) ih = ih t
 
--- no node is has_edge to itself
+-- no node is joined to itself
 pub no_loop : (low : ℕ) (l : List ℕ) (u : ℕ) → pairs_rise low l ≡ true → has_edge l u u ≡ false
 no_loop low l u h = is_false (has_edge l u u) (loop_free low l u h)
 
