@@ -16,6 +16,7 @@ use load::{Known, MOST_BYTES, load_graph, load_job, load_layers, load_measured, 
 use nodes::utils::TABLE_WORDS;
 use records::common::{FlowPlaces, FlowRead, HEAD_BYTES, JobPlaces, JobRead, MOST_NODES, payload};
 use records::reader::{read_flow, read_job};
+use std::env::Env;
 use std::io;
 use std::io::{Stderr, Stdout};
 use streams::{Input, only_usage, output_failed, read_input, tell};
@@ -105,7 +106,7 @@ fn main(rt: HostRuntime) {
     let out = rt.stdout();
     let err = rt.stderr();
     if only_usage(
-        &rt,
+        rt.arg(1, &mut []),
         out,
         err,
         b"flow_draw reads a job and a flow file behind it on standard input.\nIt writes a picture of both, an SVG file, on standard output.\n",

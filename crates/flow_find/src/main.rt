@@ -5,13 +5,14 @@
 use messages::LINE_ROOM;
 use programs::find_program;
 use programs::output::{JUDGED_BYTES, MOST_OUTPUT};
+use std::env::Env;
 use streams::{Input, only_usage, read_input, write_error, write_output};
 
 fn main(rt: HostRuntime) {
     let out = rt.stdout();
     let err = rt.stderr();
     if only_usage(
-        &rt,
+        rt.arg(1, &mut []),
         out,
         err,
         b"flow_find reads a job (records 1 to 5) on standard input.\nIt writes a flow file, 0013 (no flow) or 001F (refused) on standard output.\n",

@@ -13,6 +13,7 @@ use records::common::{
 };
 use records::reader::{layer_count, layer_of, read_flow};
 use records::signals::{BYTE_BITS, row_width};
+use std::env::Env;
 use std::io;
 use std::io::{Stderr, Stdout};
 use streams::{
@@ -362,7 +363,7 @@ fn main(rt: HostRuntime) {
     let out = rt.stdout();
     let err = rt.stderr();
     if only_usage(
-        &rt,
+        rt.arg(1, &mut []),
         out,
         err,
         b"flow_show reads on standard input what flow_find or flow_verify wrote, or a flow file with signal lists.\nIt writes it as text on standard output.\n",

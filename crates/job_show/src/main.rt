@@ -3,6 +3,7 @@
 #![tactic(auto)]
 
 use calls::Reply;
+use std::env::Env;
 use std::io::{Stderr, Stdout};
 use streams::{Input, only_usage, read_input, tell, write_output};
 use texts::show::{TEXT_ROOM, show_text};
@@ -22,7 +23,7 @@ fn main(rt: HostRuntime) {
     let out = rt.stdout();
     let err = rt.stderr();
     if only_usage(
-        &rt,
+        rt.arg(1, &mut []),
         out,
         err,
         b"job_show reads a job file without angles on standard input.\nIt writes it as text on standard output, as job_write reads it.\n",

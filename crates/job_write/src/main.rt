@@ -2,6 +2,7 @@
 // A fault of the text, or a refusal, is told in one line on standard error, and nothing is written.
 #![tactic(auto)]
 
+use std::env::Env;
 use std::io::{Stderr, Stdout};
 use streams::{Input, error_number, only_usage, read_input, tell, write_error, write_output};
 use texts::reader::{NO_WORD, OUT_OF_ORDER, TOO_MANY, WRONG_SHAPE};
@@ -49,7 +50,7 @@ fn main(rt: HostRuntime) {
     let out = rt.stdout();
     let err = rt.stderr();
     if only_usage(
-        &rt,
+        rt.arg(1, &mut []),
         out,
         err,
         b"job_write reads a job as text on standard input: nodes and mode, edges, inputs, outputs, and nodes behind the name of their measurement.\nIt writes the job's file on standard output.\n",

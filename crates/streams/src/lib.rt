@@ -6,7 +6,7 @@ ghost use Rattle.streams.specs.Streams.{IsInBuffer};
 
 use answers::Refusal;
 use messages::{LINE_ROOM, message};
-use std::env::{Env, FillError};
+use std::env::FillError;
 use std::io;
 use std::io::{Cursor, Read, Stderr, Stdin, Stdout, Write};
 
@@ -131,9 +131,9 @@ pub fn tell(err: Stderr, q: Refusal) {
     let _ = write_line(&err, q);
 }
 
-// A program takes no arguments: with any it says what it reads and writes, and ends.
-pub fn only_usage(rt: &impl Env, out: Stdout, err: Stderr, text: &[u8]) -> bool {
-    match rt.arg(1, &mut []) {
+// A program takes no arguments: with any it says what it reads and writes, and ends. `first` is what std's `arg` answers of argument 1.
+pub fn only_usage(first: Result<usize, FillError>, out: Stdout, err: Stderr, text: &[u8]) -> bool {
+    match first {
         Err(FillError::NotPresent) => false,
         Ok(_) | Err(FillError::TooLong) => {
             write_output(out, err, text);
