@@ -1,1 +1,6 @@
 pub mod Answer
+pub mod Sets
+pub mod Text
+pub mod Decimal
+pub mod Filling
+pub mod Lines

@@ -1,2 +1,4 @@
 pub mod Answer
 pub mod Refusals
+pub mod Message
+pub mod Text

@@ -1,63 +1,111 @@
-// What a call answers: a value, or a refusal. Of code there are the refusals by document 01's numbers, named as in the original
-// where it has a name; a new number is a line here and a line of the words that tell it (crate messages).
+// What a call answers where it refuses: the question that got a 'no', with what document 01 has it carry. A new question is a case here,
+// its numbers in specs/Refusals and the words that tell it in specs/Message and words.rt.
 #![tactic(auto)]
 
-// The number of the question that got a 'no', then a and b, 0 where unused: a is a node, b a node or a layer.
-#[derive(Clone, Copy)]
-pub struct Refusal(pub u8, pub u8, pub u16);
+ghost use Rattle.std.specs.Prelude.{◌≡◌};
+ghost use Rattle.answers.specs.Refusals.{refusal_of, question_of};
 
-// The questions that have no a and b.
-impl Refusal {
-    pub const NO_RECORD: Refusal = Refusal(1, 0, 0);
+mod words;
 
-    pub const CUT_PAYLOAD: Refusal = Refusal(2, 0, 0);
+use std::fmt;
+pub use words::{LINE_ROOM, message};
 
-    pub const WRONG_LENGTH: Refusal = Refusal(3, 0, 0);
-
-    pub const WRONG_OPENING: Refusal = Refusal(4, 0, 0);
-
-    pub const NODE_TOO_LARGE: Refusal = Refusal(5, 0, 0);
-
-    pub const NOT_ASCENDING: Refusal = Refusal(6, 0, 0);
-
-    pub const WRONG_MEASUREMENT: Refusal = Refusal(7, 0, 0);
-
-    pub const BYTES_LEFT: Refusal = Refusal(8, 0, 0);
-
-    pub const NOT_ONE_MEMBER: Refusal = Refusal(9, 0, 0);
-
-    pub const MODE_NOT_SEARCHED: Refusal = Refusal(10, 0, 0);
-
-    pub const WRONG_SHAPE: Refusal = Refusal(11, 0, 0);
-
-    pub const NO_SUCH_EQUATION: Refusal = Refusal(12, 0, 0);
-
-    pub const RESULT_TOO_LONG: Refusal = Refusal(20, 0, 0);
-
+// The questions by document 01's names, where it has one.
+#[derive(Clone, Copy, Debug, PartialEq, Eq, Hash)]
+pub enum Refusal {
+    NoRecord,
+    CutPayload,
+    WrongLength,
+    WrongOpening,
+    NodeTooLarge,
+    NotAscending,
+    WrongMeasurement,
+    BytesLeft,
+    NotOneMember,
+    ModeNotSearched,
+    WrongShape,
+    NoSuchEquation,
+    InvalidFlowCodomain { node: u8 },
+    InvalidFlowDomain { node: u8 },
+    ExcessiveNonZeroLayer { node: u8, layer: u16 },
+    ExcessiveZeroLayer { node: u8 },
+    InvalidMeasurementSpec { node: u8 },
+    InconsistentFlowOrder { node: u8, other: u8 },
+    InconsistentFlowPlane { node: u8 },
+    ResultTooLong,
     // A loop, or an edge or a node given twice.
-    pub const GIVEN_TWICE: Refusal = Refusal(21, 0, 0);
-
+    GivenTwice,
     // Signal lists that are not those of the flow.
-    pub const WRONG_SIGNALS: Refusal = Refusal(22, 0, 0);
-
+    WrongSignals,
     // An angle that is below 0, not below 2 or not a number, or that of an output, other than positive zero.
-    pub const WRONG_ANGLE: Refusal = Refusal(23, 0, 0);
-
+    WrongAngle,
     // Angles, which are for the owner, read out or written by another.
-    pub const NOT_THE_OWNER: Refusal = Refusal(24, 0, 0);
+    NotTheOwner,
 }
 
-// The questions of the verifier, by number: each names its node, a, and 15 and 18 a layer or a node, b.
-pub const INVALID_FLOW_CODOMAIN: u8 = 13;
+// What record 001F carries: the number of a question, then a and b, 0 where unused. Any three numbers, also those that no question has.
+#[derive(Clone, Copy, Debug, PartialEq, Eq, Hash)]
+pub struct RefusalRecord {
+    pub number: u8,
+    pub a: u8,
+    pub b: u16,
+}
 
-pub const INVALID_FLOW_DOMAIN: u8 = 14;
+fn numbered(number: u8, a: u8, b: u16) -> RefusalRecord
+    ensures { refusal_of result ≡ record { number = number; a = a; b = b } }
+{
+    RefusalRecord { number, a, b }
+}
 
-pub const EXCESSIVE_NON_ZERO_LAYER: u8 = 15;
+impl From<Refusal> for RefusalRecord {
+    ghost from_gives = { λ q r. refusal_of r ≡ question_of q };
 
-pub const EXCESSIVE_ZERO_LAYER: u8 = 16;
+    fn from(q: Refusal) -> RefusalRecord {
+        match q {
+            Refusal::NoRecord => numbered(1, 0, 0),
+            Refusal::CutPayload => numbered(2, 0, 0),
+            Refusal::WrongLength => numbered(3, 0, 0),
+            Refusal::WrongOpening => numbered(4, 0, 0),
+            Refusal::NodeTooLarge => numbered(5, 0, 0),
+            Refusal::NotAscending => numbered(6, 0, 0),
+            Refusal::WrongMeasurement => numbered(7, 0, 0),
+            Refusal::BytesLeft => numbered(8, 0, 0),
+            Refusal::NotOneMember => numbered(9, 0, 0),
+            Refusal::ModeNotSearched => numbered(10, 0, 0),
+            Refusal::WrongShape => numbered(11, 0, 0),
+            Refusal::NoSuchEquation => numbered(12, 0, 0),
+            Refusal::InvalidFlowCodomain { node } => numbered(13, node, 0),
+            Refusal::InvalidFlowDomain { node } => numbered(14, node, 0),
+            Refusal::ExcessiveNonZeroLayer { node, layer } => numbered(15, node, layer),
+            Refusal::ExcessiveZeroLayer { node } => numbered(16, node, 0),
+            Refusal::InvalidMeasurementSpec { node } => numbered(17, node, 0),
+            Refusal::InconsistentFlowOrder { node, other } => numbered(18, node, u16::from(other)),
+            Refusal::InconsistentFlowPlane { node } => numbered(19, node, 0),
+            Refusal::ResultTooLong => numbered(20, 0, 0),
+            Refusal::GivenTwice => numbered(21, 0, 0),
+            Refusal::WrongSignals => numbered(22, 0, 0),
+            Refusal::WrongAngle => numbered(23, 0, 0),
+            Refusal::NotTheOwner => numbered(24, 0, 0),
+        }
+    }
+}
 
-pub const INVALID_MEASUREMENT_SPEC: u8 = 17;
+// The line of the three numbers.
+impl fmt::Display for RefusalRecord {
+    fn fmt<W: fmt::Write>(&self, f: &mut fmt::Formatter<W>) -> fmt::Result {
+        let mut line = [0u8; LINE_ROOM];
+        let end = message(*self, &mut line);
+        match str::from_utf8(&line[..end]) {
+            Ok(words) => f.write_str(words),
+            Err(_) => Err(fmt::Error),
+        }
+    }
+}
 
-pub const INCONSISTENT_FLOW_ORDER: u8 = 18;
+impl fmt::Display for Refusal {
+    fn fmt<W: fmt::Write>(&self, f: &mut fmt::Formatter<W>) -> fmt::Result {
+        RefusalRecord::from(*self).fmt(f)
+    }
+}
 
-pub const INCONSISTENT_FLOW_PLANE: u8 = 19;
+impl std::error::Error for Refusal {}

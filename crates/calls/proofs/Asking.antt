@@ -27,15 +27,15 @@ module _ (n k : ℕ) (f : ℕ → Option Refusal) where
   unfolding each_from
   each_end h = let e : n - k ≡ 0 = omega arith in rw e
 
-  step : k < n → each_from k (n - k) f ≡ (f k next each_from (k + 1) (n - (k + 1)) f)
+  pub each_step : k < n → each_from k (n - k) f ≡ (f k next each_from (k + 1) (n - (k + 1)) f)
   unfolding each_from
-  step h = let e : n - k ≡ suc (n - (k + 1)) = omega arith in ap (λ (m : ℕ). each_from k m f) e
+  each_step h = let e : n - k ≡ suc (n - (k + 1)) = omega arith in ap (λ (m : ℕ). each_from k m f) e
 
   pub each_no : k < n → (r : Refusal) → f k ≡ some r → each_from k (n - k) f ≡ some r
-  each_no h r e = step h ∙ rw e
+  each_no h r e = each_step h ∙ rw e
 
   pub each_yes : k < n → f k ≡ none → each_from k (n - k) f ≡ each_from (k + 1) (n - (k + 1)) f
-  each_yes h e = step h ∙ rw e
+  each_yes h e = each_step h ∙ rw e
 
 -- ---- the same questions
 from_ext : (i m : ℕ) (f g : ℕ → Option Refusal) → ((k : ℕ) → k < i + m → f k ≡ g k) → each_from i m f ≡ each_from i m g

@@ -18,9 +18,11 @@ use Rattle.flows.specs.Job.{Job}
 use Rattle.flows.specs.Search.{Progress}
 use Rattle.flows.specs.Planes as Planes
 use Rattle.flows.specs.Paulis as Paulis
-use Rattle.finder.specs.Searches.{job_in, sizes_fit, layers_of, set_table, progress_at, is_plane, planes_given, search_of, searched, search_call}
+use Rattle.finder.specs.Searches.{job_in, sizes_fit, layers_of, set_table, progress_at, is_plane, planes_given, is_flow, searched, search_call}
 use Rattle.finder.specs.declared.search.Search.{Search}
-use Rattle.finder.specs.declared.search.Search.TheVariants.{Flow, NoFlow, Refused}
+use Rattle.finder.specs.declared.search.Search.TheVariants.{Flow, NoFlow}
+use Rattle.std.specs.Prelude.{Result, Ok, Err}
+use Rattle.answers.specs.Refusals.{given}
 use Rattle.finder.proofs.Below.{progress_below}
 use Rattle.answers.specs.declared.Refusal as Code
 use Rattle.answers.specs.Answer.{Refusal, Answer, gives, refuses, refusal}
@@ -44,14 +46,14 @@ unfolding put
 put_is b out answer o w work p q e = rw (p, q, e)
 
 -- what a search's answer says
-module _ (b : Bool) (r : Search) (e : search_of r ≡ gives b) where
-  pub told_flow : r ≡ Flow → b ≡ true
+module _ (b : Bool) (r : Result Search Code.Refusal) (e : given is_flow r ≡ gives b) where
+  pub told_flow : r ≡ Ok Flow → b ≡ true
   told_flow h = sym (give_inj (rw h at e))
 
-  pub told_none : r ≡ NoFlow → b ≡ false
+  pub told_none : r ≡ Ok NoFlow → b ≡ false
   told_none h = sym (give_inj (rw h at e))
 
-  pub told_right : (q : Code.Refusal) → r ≡ Refused q → ⊥
+  pub told_right : (q : Code.Refusal) → r ≡ Err q → ⊥
   told_right q h = never (rw h at e)
 
 -- ---- a job that was read

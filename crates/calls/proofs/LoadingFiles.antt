@@ -18,47 +18,41 @@ use Rattle.records.specs.FlowFile.{SetEntry, FlowFile, listed, all_entries, entr
 use Rattle.verdicts.specs.Verdict.{verify}
 use Rattle.records.specs.Encoding.{IsValidJob, IsValidFlow}
 use Rattle.demands.specs.Calls.{Both, read_both, verdict, lists_match, judge, verify_asks, put, verify_call}
-use Rattle.answers.specs.Refusals.{refusal_of}
-use Rattle.records.specs.Views.{job_at, job_of_read, IsJobPlaced, flow_at, flow_of_read, flow_places, IsFlowPlaced}
-use Rattle.calls.specs.Loaded.{asked_of, whole_asks, both_of, IsReadAs, IsBothPlaced}
+use Rattle.answers.specs.Refusals.{question_of, given}
+use Rattle.records.specs.Views.{job_at, IsJobPlaced, flow_at, flow_places, IsFlowPlaced}
+use Rattle.answers.specs.Refusals.{asked_of}
+use Rattle.calls.specs.Loaded.{whole_asks, both_at, IsReadAs, IsBothPlaced}
 use Rattle.answers.specs.declared.Refusal.{Refusal as Refused}
 use Rattle.records.specs.declared.common.JobPlaces.{JobPlaces}
-use Rattle.records.specs.declared.common.JobRead.{JobRead}
-use Rattle.records.specs.declared.common.JobRead.TheVariants.{Job as AJob, Refused as NoJob}
 use Rattle.records.specs.declared.common.FlowPlaces.{FlowPlaces}
-use Rattle.records.specs.declared.common.FlowRead.{FlowRead}
-use Rattle.records.specs.declared.common.FlowRead.TheVariants.{Flow as AFlow, Refused as NoFlow}
-use Rattle.calls.specs.declared.both.BothRead.{BothRead}
-use Rattle.calls.specs.declared.both.BothRead.TheVariants.{Both as AtPlaces, Refused as NotBoth}
-use Rattle.calls.specs.declared.validate.Asked.{Asked}
-use Rattle.calls.specs.declared.validate.Asked.TheVariants.{Passed, Refused as Stopped}
+use Rattle.std.specs.Prelude.{Result, Ok, Err}
 use Rattle.records.proofs.Records.{all_more}
 use Rattle.records.proofs.FlowFile.{below_out, below_in}
 use Rattle.records.proofs.Encoding.{job_asked, flow_asked}
 use Rattle.demands.proofs.Judging.{ReadsBoth, both_out}
 
 -- ---- what was read, by the code's answer
-module _ (s : List ℕ) (r : JobRead) (e : job_of_read s r ≡ read_job s) where
-  pub job_read : (p : JobPlaces) → r ≡ AJob p → read_job s ≡ gives (job_at s p)
-  job_read p t = sym e ∙ ap (job_of_read s) t
+module _ (s : List ℕ) (r : Result JobPlaces Refused) (e : given (job_at s) r ≡ read_job s) where
+  pub job_read : (p : JobPlaces) → r ≡ Ok p → read_job s ≡ gives (job_at s p)
+  job_read p t = sym e ∙ ap (given (job_at s)) t
 
-  pub job_not : (q : Refused) → r ≡ NoJob q → read_job s ≡ refuses (refusal_of q)
-  job_not q t = sym e ∙ ap (job_of_read s) t
+  pub job_not : (q : Refused) → r ≡ Err q → read_job s ≡ refuses (question_of q)
+  job_not q t = sym e ∙ ap (given (job_at s)) t
 
-pub job_inside : (s : List ℕ) (r : JobRead) → IsJobPlaced s r → (p : JobPlaces) → r ≡ AJob p → p.end ≤ length s
+pub job_inside : (s : List ℕ) (r : Result JobPlaces Refused) → IsJobPlaced s r → (p : JobPlaces) → r ≡ Ok p → p.end ≤ length s
 job_inside s r h p t = (rw t at h).1
 
-module _ (s t : List ℕ) (n : ℕ) (r : FlowRead) (e : flow_of_read s r ≡ read_flow n t) where
-  pub flow_read : (p : FlowPlaces) → r ≡ AFlow p → read_flow n t ≡ gives (flow_at s p)
-  flow_read p h = sym e ∙ ap (flow_of_read s) h
+module _ (s t : List ℕ) (n : ℕ) (r : Result FlowPlaces Refused) (e : given (flow_at s) r ≡ read_flow n t) where
+  pub flow_read : (p : FlowPlaces) → r ≡ Ok p → read_flow n t ≡ gives (flow_at s p)
+  flow_read p h = sym e ∙ ap (given (flow_at s)) h
 
-  pub flow_not : (q : Refused) → r ≡ NoFlow q → read_flow n t ≡ refuses (refusal_of q)
-  flow_not q h = sym e ∙ ap (flow_of_read s) h
+  pub flow_not : (q : Refused) → r ≡ Err q → read_flow n t ≡ refuses (question_of q)
+  flow_not q h = sym e ∙ ap (given (flow_at s)) h
 
-pub flow_inside : (s : List ℕ) (at : ℕ) (r : FlowRead) → IsFlowPlaced s at r → (p : FlowPlaces) → r ≡ AFlow p → p.end ≤ length s
+pub flow_inside : (s : List ℕ) (at : ℕ) (r : Result FlowPlaces Refused) → IsFlowPlaced s at r → (p : FlowPlaces) → r ≡ Ok p → p.end ≤ length s
 flow_inside s at r h p t = (rw t at h).1
 
-pub flow_at_lem : (s : List ℕ) (at : ℕ) (r : FlowRead) → IsFlowPlaced s at r → (p : FlowPlaces) → r ≡ AFlow p → p ≡ flow_places s at
+pub flow_at_lem : (s : List ℕ) (at : ℕ) (r : Result FlowPlaces Refused) → IsFlowPlaced s at r → (p : FlowPlaces) → r ≡ Ok p → p ≡ flow_places s at
 flow_at_lem s at r h p t = (rw t at h).0
 
 -- ---- every node that was read fits a set
@@ -129,12 +123,12 @@ module _ (mode : ℕ) (g : FlowFile) where
     all_one t = rw (eq-eqb (length g.after) 0 h, t)
 
 -- ---- what was read of both
-module _ (s : List ℕ) (r : BothRead) (e : both_of s r ≡ read_both s) where
-  pub both_not : (q : Refused) → r ≡ NotBoth q → read_both s ≡ refuses (refusal_of q)
-  both_not q t = sym e ∙ ap (both_of s) t
+module _ (s : List ℕ) (r : Result (JobPlaces × FlowPlaces) Refused) (e : given (both_at s) r ≡ read_both s) where
+  pub both_not : (q : Refused) → r ≡ Err q → read_both s ≡ refuses (question_of q)
+  both_not q t = sym e ∙ ap (given (both_at s)) t
 
-pub both_placed : (s : List ℕ) (r : BothRead) → IsBothPlaced s r → (p : JobPlaces) (q : FlowPlaces) → r ≡ AtPlaces p q → IsReadAs s p q
-both_placed s r h p q t = rw t at h
+pub both_placed : (s : List ℕ) (r : Result (JobPlaces × FlowPlaces) Refused) → IsBothPlaced s r → (p : JobPlaces × FlowPlaces) → r ≡ Ok p → IsReadAs s p.0 p.1
+both_placed s r h p t = rw t at h
 
 -- what reading has asked, of both
 module _ (s : List ℕ) (job : JobPlaces) (flow : FlowPlaces) (h : IsReadAs s job flow) where
@@ -173,11 +167,11 @@ module _ (s : List ℕ) where
   asks_judged f g e = rw e
 
 -- ---- the answer
-module _ (s out : List ℕ) (r : Asked) (e : verdict (asked_of r) ≡ verify_asks s) where
-  pub call_passed : r ≡ Passed → put [] (written kind_accepted []) out ≡ verify_call s out
+module _ (s out : List ℕ) (r : Result Unit Refused) (e : verdict (asked_of r) ≡ verify_asks s) where
+  pub call_passed : r ≡ Ok tt → put [] (written kind_accepted []) out ≡ verify_call s out
   unfolding verify_call
   call_passed t = rw (← e, t)
 
-  pub call_stopped : (q : Refused) → r ≡ Stopped q → record { answer = refuses (refusal_of q); work = []; out = out } ≡ verify_call s out
+  pub call_stopped : (q : Refused) → r ≡ Err q → record { answer = refuses (question_of q); work = []; out = out } ≡ verify_call s out
   unfolding verify_call
   call_stopped q t = rw (← e, t)

@@ -1,5 +1,5 @@
 -- What the calls' code works with and answers: job and flow as they were loaded, and the first refusal.
-use Rattle.std.specs.Prelude.{ℕ, ◌+◌, ◌*◌, ◌/◌, ◌%◌, ◌≤◌, ◌<◌, ◌≡◌, Bool, true, false, cond, ◌&&◌, List, [], ◌∷◌, ◌++◌, eqb, leb, ltb, length, get_or, set, take, drop}
+use Rattle.std.specs.Prelude.{ℕ, ◌+◌, ◌*◌, ◌/◌, ◌%◌, ◌≤◌, ◌<◌, ◌≡◌, Bool, true, false, cond, ◌&&◌, List, [], ◌∷◌, ◌++◌, eqb, leb, ltb, length, get_or, set, take, drop, Result, Ok, Err}
 use Rattle.std.proofs.Math.Option.{Option, none, some}
 use Rattle.nodes.specs.Options.{is_some}
 use Rattle.nodes.specs.Bit.{bit, ◌⊕◌}
@@ -20,13 +20,9 @@ use Rattle.records.specs.declared.common.Place.{Place}
 use Rattle.records.specs.declared.common.JobPlaces.{JobPlaces}
 use Rattle.records.specs.declared.common.FlowPlaces.{FlowPlaces}
 use Rattle.demands.specs.Calls.{Both, read_both, matching}
-use Rattle.answers.specs.Refusals.{refusal_of}
-use Rattle.calls.specs.declared.both.BothRead.{BothRead}
-use Rattle.calls.specs.declared.both.BothRead.TheVariants.{Both as AtPlaces, Refused as NotBoth}
+use Rattle.answers.specs.declared.Refusal as Code
 use Rattle.calls.specs.declared.load.Loaded.{Loaded}
 use Rattle.calls.specs.declared.pflow.Excused.{Excused}
-use Rattle.calls.specs.declared.validate.Asked.{Asked}
-use Rattle.calls.specs.declared.validate.Asked.TheVariants.{Passed, Refused as Stopped}
 
 -- the job that was loaded: its graph and its measurements to work with lie in buffers
 abbrev pub job_loaded : Loaded → (graph measured : List ℕ) → Job
@@ -52,10 +48,6 @@ measured_job n measured = job_in n [] no_nodes no_nodes measured
 abbrev pub within : ℕ → ℕ → Bool
 within n v = ltb v n && leb v highest
 
-abbrev pub asked_of : Asked → Option Refusal
-asked_of Passed = none
-asked_of (Stopped q) = some (refusal_of q)
-
 -- the refusal of the least member of the set, where it has one
 unfoldable pub first_in : (ℕ → Bool) → (ℕ → Refusal) → Option Refusal
 first_in s r = cond (any_below capacity s) (some (r (lowest capacity s))) none
@@ -67,9 +59,8 @@ pub record IsExcusedBy (n mode : ℕ) (measured : List ℕ) (e : Excused) : Type
   pub ys : member e.ys ≡ (λ v. within n v && y_asked (measured_job n measured) (eqb mode mode_pauli) v)
 
 -- ---- a job and the flow file behind it
-abbrev pub both_of : List ℕ → BothRead → Answer Both
-both_of s (AtPlaces job flow) = gives (record { job = job_at s job; flow = flow_at s flow })
-both_of s (NotBoth q) = refuses (refusal_of q)
+abbrev pub both_at : List ℕ → JobPlaces × FlowPlaces → Both
+both_at s p = record { job = job_at s p.0; flow = flow_at s p.1 }
 
 -- is nothing left (8), has each causal entry one member (9)?
 unfoldable pub whole_asks : (mode : ℕ) → FlowFile → Answer Bool
@@ -80,9 +71,9 @@ pub record IsReadAs (s : List ℕ) (job : JobPlaces) (flow : FlowPlaces) : Type 
   pub reads : read_both s ≡ gives (record { job = job_at s job; flow = flow_at s flow })
   pub placed : flow ≡ flow_places s job.end
 
-abbrev pub IsBothPlaced : List ℕ → BothRead → Type 0
-IsBothPlaced s (AtPlaces job flow) = IsReadAs s job flow
-IsBothPlaced s (NotBoth q) = Unit
+abbrev pub IsBothPlaced : List ℕ → Result (JobPlaces × FlowPlaces) Code.Refusal → Type 0
+IsBothPlaced s (Ok p) = IsReadAs s p.0 p.1
+IsBothPlaced s (Err q) = Unit
 
 -- ---- signal lists
 -- the set, or Odd of it

@@ -4,20 +4,13 @@ ghost use Rattle.records.specs.JobFile.{mode_causal};
 ghost use Rattle.records.specs.FlowFile.{entries_of, listed, all_entries};
 ghost use Rattle.records.specs.Views.{flow_at};
 ghost use Rattle.demands.specs.Calls.{read_both, verdict};
-ghost use Rattle.calls.specs.Loaded.{asked_of, whole_asks, both_of, IsBothPlaced};
+ghost use Rattle.answers.specs.Refusals.{given, asked_of};
+ghost use Rattle.calls.specs.Loaded.{whole_asks, both_at, IsBothPlaced};
 
-use crate::validate::Asked;
 use answers::Refusal;
-use records::common::{FlowPlaces, FlowRead, JobPlaces, JobRead, MODE_CAUSAL, payload};
+use records::common::{FlowPlaces, JobPlaces, MODE_CAUSAL, payload};
 use records::questions::one_member;
 use records::reader::{read_flow, read_job};
-
-// Where both lie, or the first question that got a 'no'.
-#[derive(Clone, Copy)]
-pub(crate) enum BothRead {
-    Both(JobPlaces, FlowPlaces),
-    Refused(Refusal),
-}
 
 // Has each causal entry one member (9)? Rightly asked of the file's own mode: it is a question of reading.
 pub(crate) fn one_each(mode: u8, sets: &[u8]) -> bool
@@ -30,33 +23,28 @@ pub(crate) fn one_each(mode: u8, sets: &[u8]) -> bool
 }
 
 // Is nothing left (8)? Then 9.
-fn ask_whole(file: &[u8], job: JobPlaces, flow: FlowPlaces) -> Asked
+fn ask_whole(file: &[u8], job: JobPlaces, flow: FlowPlaces) -> Result<(), Refusal>
     requires { flow.end ≤ length file.now }
     ensures { verdict (asked_of result) ≡ whole_asks job.mode (flow_at file.now flow) }
 {
     if flow.end != file.len() {
-        return Asked::Refused(Refusal::BYTES_LEFT);
+        return Err(Refusal::BytesLeft);
     }
     let sets = flow.sets;
     if !one_each(job.mode, payload(file, sets)) {
-        return Asked::Refused(Refusal::NOT_ONE_MEMBER);
+        return Err(Refusal::NotOneMember);
     }
-    Asked::Passed
+    Ok(())
 }
 
-// First the records, 1 to 7.
-pub(crate) fn read_both(file: &[u8]) -> BothRead
-    ensures result_value { both_of file.now result ≡ read_both file.now }
+// Where both lie. First the records, 1 to 7.
+#[tactic(auto, unfolding(demands::specs::Calls::read_both, crate::specs::Loaded::whole_asks))]
+pub(crate) fn read_both(file: &[u8]) -> Result<(JobPlaces, FlowPlaces), Refusal>
+    ensures result_value { given (both_at file.now) result ≡ read_both file.now }
     ensures both_placed { IsBothPlaced file.now result }
 {
-    match read_job(file) {
-        JobRead::Refused(q) => BothRead::Refused(q),
-        JobRead::Job(job) => match read_flow(file, job.end, job.n) {
-            FlowRead::Refused(q) => BothRead::Refused(q),
-            FlowRead::Flow(flow) => match ask_whole(file, job, flow) {
-                Asked::Refused(q) => BothRead::Refused(q),
-                Asked::Passed => BothRead::Both(job, flow),
-            },
-        },
-    }
+    let job = read_job(file)?;
+    let flow = read_flow(file, job.end, job.n)?;
+    ask_whole(file, job, flow)?;
+    Ok((job, flow))
 }

@@ -17,16 +17,16 @@ ghost use Rattle.demands.specs.Roles.{editing, called};
 ghost use Rattle.calls.specs.Loaded.{flipped_by, IsReadAs, IsFromNode, IsEntryPlace, edited_with};
 ghost use Rattle.calls.specs.Replies.{reply_of};
 
-use crate::both::{BothRead, one_each, read_both};
+use crate::answered;
+use crate::both::{one_each, read_both};
 use crate::load::{load_bytes, load_graph};
 use crate::signals::{MOST_LIST, add_entry, clear_column};
-use crate::{Reply, answered};
 use answers::Refusal;
 use nodes::utils::TABLE_WORDS;
 use records::common::{
     ENTRY_HEAD_BYTES, FlowPlaces, HEAD_BYTES, JobPlaces, Place, byte_at, number, payload,
 };
-use records::questions::{Checked, ask_entry};
+use records::questions::ask_entry;
 use records::signals::{row_width, write_edited};
 
 // ---- Where the entry goes.
@@ -85,7 +85,7 @@ fn write_entry(
     entry: &[u8],
     rows: &[u8],
     odds: &[u8],
-) -> Reply
+) -> Result<usize, Refusal>
     requires { IsReadAs file.now job flow × (entry_asks job.n entry.now ≡ gives true) }
     ensures { record { answer = reply_of result; work = []; out = out.new } ≡ put [] (flow_file_bytes (edited_with (flow_at file.now flow) (entry_of entry.now) (pair_if flow.signals rows.now odds.now))) out.old }
 {
@@ -145,7 +145,13 @@ fn edit_lists(
 }
 
 // With stored lists.
-fn edit_listed(file: &[u8], job: JobPlaces, flow: FlowPlaces, entry: &[u8], out: &mut [u8]) -> Reply
+fn edit_listed(
+    file: &[u8],
+    job: JobPlaces,
+    flow: FlowPlaces,
+    entry: &[u8],
+    out: &mut [u8],
+) -> Result<usize, Refusal>
     requires { IsReadAs file.now job flow × (entry_asks job.n entry.now ≡ gives true) × (flow.signals ≡ true) }
     ensures { record { answer = reply_of result; work = []; out = out.new } ≡ put [] (flow_file_bytes (edited (job_of (job_at file.now job)) (entry_of entry.now) (flow_at file.now flow))) out.old }
 {
@@ -168,7 +174,13 @@ fn edit_listed(file: &[u8], job: JobPlaces, flow: FlowPlaces, entry: &[u8], out:
     write_entry(out, file, job, flow, entry, &rows[..size], &odds[..size])
 }
 
-fn edit_read(file: &[u8], job: JobPlaces, flow: FlowPlaces, entry: &[u8], out: &mut [u8]) -> Reply
+fn edit_read(
+    file: &[u8],
+    job: JobPlaces,
+    flow: FlowPlaces,
+    entry: &[u8],
+    out: &mut [u8],
+) -> Result<usize, Refusal>
     requires { IsReadAs file.now job flow × (entry_asks job.n entry.now ≡ gives true) }
     ensures { record { answer = reply_of result; work = []; out = out.new } ≡ put [] (flow_file_bytes (edited (job_of (job_at file.now job)) (entry_of entry.now) (flow_at file.now flow))) out.old }
 {
@@ -181,28 +193,29 @@ fn edit_read(file: &[u8], job: JobPlaces, flow: FlowPlaces, entry: &[u8], out: &
 // ---- The call.
 
 // Of the lent entry: is it one (3), are its nodes below n (5), do its members ascend (6), has it one member in mode 1 (9)?
-fn edit_both(file: &[u8], job: JobPlaces, flow: FlowPlaces, entry: &[u8], out: &mut [u8]) -> Reply
+fn edit_both(
+    file: &[u8],
+    job: JobPlaces,
+    flow: FlowPlaces,
+    entry: &[u8],
+    out: &mut [u8],
+) -> Result<usize, Refusal>
     requires { IsReadAs file.now job flow }
     ensures { record { answer = reply_of result; work = []; out = out.new } ≡ edit_set_call file.now entry.now out.old }
 {
-    match ask_entry(entry, job.n) {
-        Checked::Refused(q) => Reply::Refused(q),
-        Checked::Passed => {
-            if !one_each(job.mode, entry) {
-                return Reply::Refused(Refusal::NOT_ONE_MEMBER);
-            }
-            edit_read(file, job, flow, entry, out)
-        }
+    ask_entry(entry, job.n)?;
+    if !one_each(job.mode, entry) {
+        return Err(Refusal::NotOneMember);
     }
+    edit_read(file, job, flow, entry, out)
 }
 
 // A job and the flow file behind it, and one entry: the flow file with that entry goes to the lent buffer; a refusal leaves it untouched. Open
 // to every role.
-pub fn edit_set(role: u64, file: &[u8], entry: &[u8], out: &mut [u8]) -> Reply
+#[tactic(auto, unfolding(demands::specs::Calls::edit_set_call, demands::specs::Calls::edit_asks))]
+pub fn edit_set(role: u64, file: &[u8], entry: &[u8], out: &mut [u8]) -> Result<usize, Refusal>
     ensures { record { answer = reply_of result; work = []; out = out.new } ≡ called role (editing entry.now out.old) file.now }
 {
-    match read_both(file) {
-        BothRead::Both(job, flow) => edit_both(file, job, flow, entry, out),
-        BothRead::Refused(q) => Reply::Refused(q),
-    }
+    let (job, flow) = read_both(file)?;
+    edit_both(file, job, flow, entry, out)
 }

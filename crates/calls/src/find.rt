@@ -16,18 +16,24 @@ ghost use Rattle.calls.specs.Loaded.{job_loaded};
 ghost use Rattle.calls.specs.Replies.{reply_of, records_for};
 
 use crate::load::{Loaded, load_job};
-use crate::{Reply, answered, write_bare};
+use crate::{answered, write_bare};
 use answers::Refusal;
 use finder::search;
 use finder::search::Search;
 use nodes::utils::{CAPACITY, NodeSet, TABLE_WORDS};
-use records::common::{JobPlaces, JobRead, KIND_NO_FLOW, MODE_PAULI, MODE_PLANES};
+use records::common::{JobPlaces, KIND_NO_FLOW, MODE_PAULI, MODE_PLANES};
 use records::reader::read_job;
 use records::writer::write_flow;
 use solver::gf2_linalg::WORK_BYTES;
 
 // The flow file of a finished search: an entry for each node that is no output.
-fn write_found(n: usize, outputs: NodeSet, layers: &[u16], sets: &[u64], out: &mut [u8]) -> Reply
+fn write_found(
+    n: usize,
+    outputs: NodeSet,
+    layers: &[u16],
+    sets: &[u64],
+    out: &mut [u8],
+) -> Result<usize, Refusal>
     requires { n ≤ length layers.now }
     ensures result_value { reply_of result ≡ put_answer (records_for n (member outputs) layers.now sets.now) out.old }
     ensures out_after { out.new ≡ put_front (records_for n (member outputs) layers.now sets.now) out.old }
@@ -43,7 +49,7 @@ fn find_loaded(
     measured: &[u8],
     work: &mut [u8],
     out: &mut [u8],
-) -> Reply
+) -> Result<usize, Refusal>
     requires n_le_capacity { (job.n ≤ capacity) × (length graph.now ≡ table_words) × (job.n ≤ length measured.now) × (length work.old ≡ work_bytes) }
     requires measured_value { (not (eqb job.mode mode_planes) || planes_given (job_loaded job graph.now measured.now)) ≡ true }
     ensures { record { answer = reply_of result; work = work.new; out = out.new } ≡ put (zeros work_bytes) (flow_bytes (job_loaded job graph.now measured.now) (progress_by_mode job.mode (job_loaded job graph.now measured.now))) out.old }
@@ -52,6 +58,7 @@ fn find_loaded(
     let outputs = job.outputs;
     let mut layers = [0u16; CAPACITY];
     let mut sets = [0u64; TABLE_WORDS];
+    // No job is refused here: the questions before the search see to the arguments.
     match search::find(
         job.mode != MODE_PLANES,
         graph,
@@ -62,16 +69,14 @@ fn find_loaded(
         work,
         &mut layers,
         &mut sets,
-    ) {
+    )? {
         Search::Flow => write_found(n, outputs, &layers, &sets, out),
         Search::NoFlow => write_bare(out, KIND_NO_FLOW),
-        // No job comes here: the questions before the search see to the arguments.
-        Search::Refused(q) => Reply::Refused(q),
     }
 }
 
 // The search on a job that passed all questions before it.
-fn find_job(file: &[u8], job: JobPlaces, work: &mut [u8], out: &mut [u8]) -> Reply
+fn find_job(file: &[u8], job: JobPlaces, work: &mut [u8], out: &mut [u8]) -> Result<usize, Refusal>
     requires { (read_job file.now ≡ gives (job_at file.now job)) × (length work.old ≡ work_bytes) }
     ensures { record { answer = reply_of result; work = work.new; out = out.new } ≡ put (zeros work_bytes) (found_bytes (job_at file.now job)) out.old }
 {
@@ -92,28 +97,27 @@ fn has_search(mode: u8) -> bool
 }
 
 // Is nothing left (8)? Is the mode 2 or 3 (10)? Is the work buffer right (11)?
-fn find_read(file: &[u8], job: JobPlaces, work: &mut [u8], out: &mut [u8]) -> Reply
+fn find_read(file: &[u8], job: JobPlaces, work: &mut [u8], out: &mut [u8]) -> Result<usize, Refusal>
     requires { (read_job file.now ≡ gives (job_at file.now job)) × (job.end ≤ length file.now) }
     ensures { record { answer = reply_of result; work = work.new; out = out.new } ≡ find_call file.now work.old out.old }
 {
     if job.end != file.len() {
-        return Reply::Refused(Refusal::BYTES_LEFT);
+        return Err(Refusal::BytesLeft);
     }
     if !has_search(job.mode) {
-        return Reply::Refused(Refusal::MODE_NOT_SEARCHED);
+        return Err(Refusal::ModeNotSearched);
     }
     if work.len() != WORK_BYTES {
-        return Reply::Refused(Refusal::WRONG_SHAPE);
+        return Err(Refusal::WrongShape);
     }
     find_job(file, job, work, out)
 }
 
 // Open to every role.
-pub fn find(role: u64, file: &[u8], work: &mut [u8], out: &mut [u8]) -> Reply
+#[tactic(auto, unfolding(demands::specs::Calls::find_call, demands::specs::Calls::find_asks))]
+pub fn find(role: u64, file: &[u8], work: &mut [u8], out: &mut [u8]) -> Result<usize, Refusal>
     ensures { record { answer = reply_of result; work = work.new; out = out.new } ≡ called role (finding work.old out.old) file.now }
 {
-    match read_job(file) {
-        JobRead::Job(job) => find_read(file, job, work, out),
-        JobRead::Refused(q) => Reply::Refused(q),
-    }
+    let job = read_job(file)?;
+    find_read(file, job, work, out)
 }

@@ -4,29 +4,33 @@ ghost use Rattle.nodes.specs.NodeSet.{capacity};
 ghost use Rattle.finder.specs.Searches.{job_in};
 ghost use Rattle.records.specs.JobFile.{mode_causal};
 ghost use Rattle.verdicts.specs.Verdict.{each, causal_ask, definition_ask, check_definition};
-ghost use Rattle.calls.specs.Loaded.{flow_in, no_nodes, asked_of};
+ghost use Rattle.answers.specs.Refusals.{asked_of};
+ghost use Rattle.calls.specs.Loaded.{flow_in, no_nodes};
 
-use crate::validate::{Asked, check_measured, in_order, layer_at, not_later};
-use answers::{INCONSISTENT_FLOW_ORDER, Refusal};
+use crate::validate::{check_measured, in_order, layer_at, not_later};
+use answers::Refusal;
 use nodes::utils::{NodeSet, set_at};
 
 // Node i with f(i) = k: is f(i) later, are its neighbours other than i later, are the two adjacent (18)?
-fn check_pair(n: usize, graph: &[u64], layers: &[u16], i: usize, k: usize) -> Asked
+fn check_pair(n: usize, graph: &[u64], layers: &[u16], i: usize, k: usize) -> Result<(), Refusal>
     requires { (n ≤ capacity) × (i < capacity) × (k < capacity) }
     ensures { asked_of result ≡ causal_ask (job_in n graph.now no_nodes no_nodes []) (flow_in layers.now no_nodes []) i k }
 {
     if layer_at(layers, k) >= layer_at(layers, i) {
-        return Asked::Refused(Refusal(INCONSISTENT_FLOW_ORDER, i as u8, k as u16));
+        return Err(Refusal::InconsistentFlowOrder {
+            node: i as u8,
+            other: k as u8,
+        });
     }
     let around = set_at(graph, k);
-    let a = in_order(i, around.intersection(not_later(n, layers, i)));
-    let Asked::Passed = a else {
-        return a;
-    };
+    in_order(i, around.intersection(not_later(n, layers, i)))?;
     if !around.has(i) {
-        return Asked::Refused(Refusal(INCONSISTENT_FLOW_ORDER, i as u8, k as u16));
+        return Err(Refusal::InconsistentFlowOrder {
+            node: i as u8,
+            other: k as u8,
+        });
     }
-    Asked::Passed
+    Ok(())
 }
 
 // Node i, where it is no output, with each member of its set: there is one, by question 9.
@@ -37,40 +41,40 @@ fn check_node(
     layers: &[u16],
     sets: &[u64],
     i: usize,
-) -> Asked
+) -> Result<(), Refusal>
     requires { (n ≤ capacity) × (i < capacity) }
     ensures { asked_of result ≡ definition_ask (job_in n graph.now no_nodes outputs []) (flow_in layers.now no_nodes sets.now) mode_causal i }
 {
     if outputs.has(i) {
-        return Asked::Passed;
+        return Ok(());
     }
     let mut s = set_at(sets, i).intersection(NodeSet::below(n));
     while !s.is_empty() {
-        let a = check_pair(n, graph, layers, i, s.lowest());
-        let Asked::Passed = a else {
-            return a;
-        };
+        check_pair(n, graph, layers, i, s.lowest())?;
         s = s.without_lowest();
     }
-    Asked::Passed
+    Ok(())
 }
 
-fn check_nodes(n: usize, graph: &[u64], outputs: NodeSet, layers: &[u16], sets: &[u64]) -> Asked
+#[tactic(auto, using(crate::proofs::Asking::each_step, crate::proofs::Asking::each_end))]
+fn check_nodes(
+    n: usize,
+    graph: &[u64],
+    outputs: NodeSet,
+    layers: &[u16],
+    sets: &[u64],
+) -> Result<(), Refusal>
     requires { n ≤ capacity }
     ensures { asked_of result ≡ each n (definition_ask (job_in n graph.now no_nodes outputs []) (flow_in layers.now no_nodes sets.now) mode_causal) }
 {
-    let mut i = 0;
-    while i < n {
-        let a = check_node(n, graph, outputs, layers, sets, i);
-        let Asked::Passed = a else {
-            return a;
-        };
-        i += 1;
+    for i in 0..n {
+        check_node(n, graph, outputs, layers, sets, i)?;
     }
-    Asked::Passed
+    Ok(())
 }
 
 // Has each entry a measurement (17)? Then node by node.
+#[tactic(auto, unfolding(verdicts::specs::Verdict::node_ask, verdicts::specs::Verdict::causal_ask))]
 pub(crate) fn check_definition(
     n: usize,
     graph: &[u64],
@@ -79,13 +83,10 @@ pub(crate) fn check_definition(
     layers: &[u16],
     entries: NodeSet,
     sets: &[u64],
-) -> Asked
+) -> Result<(), Refusal>
     requires { n ≤ capacity }
     ensures { asked_of result ≡ check_definition (job_in n graph.now no_nodes outputs measured.now) (flow_in layers.now entries sets.now) mode_causal }
 {
-    let a = check_measured(n, measured, entries);
-    let Asked::Passed = a else {
-        return a;
-    };
+    check_measured(n, measured, entries)?;
     check_nodes(n, graph, outputs, layers, sets)
 }

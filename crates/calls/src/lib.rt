@@ -26,25 +26,18 @@ pub const OWNER: u64 = 0;
 
 pub const OPERATOR: u64 = 1;
 
-// What an entry answers: how many bytes it wrote, or why it was refused.
-#[derive(Clone, Copy)]
-pub enum Reply {
-    Wrote(usize),
-    Refused(Refusal),
-}
-
-// Does the result fit the lent buffer (20)?
-fn answered(put: Put) -> Reply
+// How many bytes were written; does the result fit the lent buffer (20)?
+fn answered(put: Put) -> Result<usize, Refusal>
     ensures { reply_of result ≡ put_of put }
 {
     match put {
-        Put::Bytes(k) => Reply::Wrote(k),
-        Put::TooLong => Reply::Refused(Refusal::RESULT_TOO_LONG),
+        Put::Bytes(k) => Ok(k),
+        Put::TooLong => Err(Refusal::ResultTooLong),
     }
 }
 
 // A record that is its kind alone.
-fn write_bare(out: &mut [u8], kind: u16) -> Reply
+fn write_bare(out: &mut [u8], kind: u16) -> Result<usize, Refusal>
     ensures result_value { reply_of result ≡ put_answer (written kind []) out.old }
     ensures out_after { out.new ≡ put_front (written kind []) out.old }
 {

@@ -14,9 +14,10 @@ ghost use Rattle.demands.specs.Roles.{adding_lists, called};
 ghost use Rattle.calls.specs.Loaded.{flipped_by, list_for, stored_match, set_bit, set_bits, digits_from, odd_among, IsEntriesFor, IsReadAs};
 ghost use Rattle.calls.specs.Replies.{reply_of};
 
-use crate::both::{BothRead, read_both};
+use crate::answered;
+use crate::both::read_both;
 use crate::load::load_job;
-use crate::{Reply, answered};
+use answers::Refusal;
 use nodes::utils::{CAPACITY, NodeSet, TABLE_WORDS, WORD_BITS, set_at};
 use records::common::{ENTRY_HEAD_BYTES, FlowPlaces, JobPlaces, Place, number, payload};
 use records::signals::{BYTE_BITS, row_width, same_bytes, write_signals};
@@ -183,7 +184,7 @@ pub(crate) fn lists_match(file: &[u8], flow: FlowPlaces, n: usize, graph: &[u64]
 
 // ---- Adding: the flow file with both lists, anew where they stand.
 
-fn add_read(file: &[u8], job: JobPlaces, flow: FlowPlaces, out: &mut [u8]) -> Reply
+fn add_read(file: &[u8], job: JobPlaces, flow: FlowPlaces, out: &mut [u8]) -> Result<usize, Refusal>
     requires { IsReadAs file.now job flow }
     ensures { record { answer = reply_of result; work = []; out = out.new } ≡ put [] (flow_file_bytes (with_signals (job_of (job_at file.now job)) (flow_at file.now flow))) out.old }
 {
@@ -206,11 +207,10 @@ fn add_read(file: &[u8], job: JobPlaces, flow: FlowPlaces, out: &mut [u8]) -> Re
 
 // A job and the flow file behind it: the flow file with its signal lists goes to the lent buffer; a refusal leaves it untouched. Open to
 // every role.
-pub fn add_signals(role: u64, file: &[u8], out: &mut [u8]) -> Reply
+#[tactic(auto, unfolding(demands::specs::Calls::add_signals_call))]
+pub fn add_signals(role: u64, file: &[u8], out: &mut [u8]) -> Result<usize, Refusal>
     ensures { record { answer = reply_of result; work = []; out = out.new } ≡ called role (adding_lists out.old) file.now }
 {
-    match read_both(file) {
-        BothRead::Both(job, flow) => add_read(file, job, flow, out),
-        BothRead::Refused(q) => Reply::Refused(q),
-    }
+    let (job, flow) = read_both(file)?;
+    add_read(file, job, flow, out)
 }

@@ -7,21 +7,13 @@ ghost use Rattle.flows.specs.Job.{own};
 ghost use Rattle.finder.specs.Searches.{job_in};
 ghost use Rattle.verdicts.specs.Verdict.{ask, each, measured_ask, input_ask, domain_ask, check_domain, check_initial};
 ghost use Rattle.records.specs.JobFile.{mode_pauli};
-ghost use Rattle.calls.specs.Loaded.{flow_in, no_nodes, within, asked_of, first_in};
+ghost use Rattle.answers.specs.Refusals.{asked_of};
+ghost use Rattle.calls.specs.Loaded.{flow_in, no_nodes, within, first_in};
 
-use answers::{
-    EXCESSIVE_NON_ZERO_LAYER, EXCESSIVE_ZERO_LAYER, INCONSISTENT_FLOW_ORDER, INVALID_FLOW_CODOMAIN,
-    INVALID_FLOW_DOMAIN, INVALID_MEASUREMENT_SPEC, Refusal,
-};
+use answers::Refusal;
 use flows::{PAULI_X, PAULI_Y, PAULI_Z, PLANE_XY, PLANE_XZ, PLANE_YZ};
 use nodes::utils::{NodeSet, odd_neighbors, set_at};
 use records::common::{MODE_PAULI, byte_at};
-
-#[derive(Clone, Copy)]
-pub(crate) enum Asked {
-    Passed,
-    Refused(Refusal),
-}
 
 // ---- Sets of nodes by what the flow and the measurements say of them.
 
@@ -29,10 +21,7 @@ pub(crate) enum Asked {
 pub(crate) fn layer_at(layers: &[u16], u: usize) -> u16
     ensures { result ≡ get_or layers.now u 0 }
 {
-    if u < layers.len() {
-        return layers[u];
-    }
-    0
+    layers.get(u).copied().unwrap_or(0)
 }
 
 // The set, with v where it is to be put in.
@@ -51,11 +40,9 @@ pub(crate) fn nodes_from(n: usize, bytes: &[u8], low: u8) -> NodeSet
     ensures { member result ≡ (λ v. within n v && leb low (get_or bytes.now v 0)) }
 {
     let mut s = NodeSet::empty();
-    let mut v = 0;
-    while v < n {
+    for v in 0..n {
         let byte = byte_at(bytes, v);
         s = with_if(s, v, low <= byte);
-        v += 1;
     }
     s
 }
@@ -66,11 +53,9 @@ fn layers_from(n: usize, layers: &[u16], low: u16) -> NodeSet
     ensures { member result ≡ (λ v. within n v && leb low (get_or layers.now v 0)) }
 {
     let mut s = NodeSet::empty();
-    let mut v = 0;
-    while v < n {
+    for v in 0..n {
         let layer = layer_at(layers, v);
         s = with_if(s, v, low <= layer);
-        v += 1;
     }
     s
 }
@@ -95,14 +80,18 @@ pub(crate) fn odd_of(n: usize, graph: &[u64], set: NodeSet) -> NodeSet
 // ---- Questions that more than one definition asks.
 
 // Question 18 of node i: the least of the nodes that should be later and are not.
-pub(crate) fn in_order(i: usize, early: NodeSet) -> Asked
+#[tactic(auto, unfolding(crate::specs::Loaded::first_in))]
+pub(crate) fn in_order(i: usize, early: NodeSet) -> Result<(), Refusal>
     requires { i < capacity }
     ensures { asked_of result ≡ first_in (member early) (λ k. record { number = 18; a = i; b = k }) }
 {
     if early.is_empty() {
-        return Asked::Passed;
+        return Ok(());
     }
-    Asked::Refused(Refusal(INCONSISTENT_FLOW_ORDER, i as u8, early.lowest() as u16))
+    Err(Refusal::InconsistentFlowOrder {
+        node: i as u8,
+        other: early.lowest() as u8,
+    })
 }
 
 // Does a node's own measurement hold, by whether it is in its set and in Odd of it?
@@ -121,7 +110,7 @@ pub(crate) fn own_holds(measurement: u8, inside: bool, odd: bool) -> bool
 }
 
 // Has each entry a measurement (17)?
-pub(crate) fn check_measured(n: usize, measured: &[u8], entries: NodeSet) -> Asked
+pub(crate) fn check_measured(n: usize, measured: &[u8], entries: NodeSet) -> Result<(), Refusal>
     requires { n ≤ capacity }
     ensures { asked_of result ≡ each n (measured_ask (job_in n [] no_nodes no_nodes measured.now) (flow_in [] entries [])) }
 {
@@ -129,94 +118,92 @@ pub(crate) fn check_measured(n: usize, measured: &[u8], entries: NodeSet) -> Ask
     let some = nodes_from(n, measured, PLANE_XY);
     let bare = entries.intersection(all).difference(some);
     if bare.is_empty() {
-        return Asked::Passed;
+        return Ok(());
     }
-    Asked::Refused(Refusal(INVALID_MEASUREMENT_SPEC, bare.lowest() as u8, 0))
+    Err(Refusal::InvalidMeasurementSpec {
+        node: bare.lowest() as u8,
+    })
 }
 
 // ---- Domain and layers.
 
 // Is each member no input, the node itself excepted (13)?
-fn check_codomain(n: usize, inputs: NodeSet, sets: &[u64]) -> Asked
+fn check_codomain(n: usize, inputs: NodeSet, sets: &[u64]) -> Result<(), Refusal>
     requires { n ≤ capacity }
     ensures { asked_of result ≡ each n (λ u. each n (input_ask (job_in n [] inputs no_nodes []) (flow_in [] no_nodes sets.now) u)) }
 {
-    let mut u = 0;
-    while u < n {
+    for u in 0..n {
         let all = NodeSet::below(n);
         let wrong = set_at(sets, u)
             .intersection(inputs)
             .intersection(all)
             .without(u);
         if !wrong.is_empty() {
-            return Asked::Refused(Refusal(INVALID_FLOW_CODOMAIN, u as u8, 0));
+            return Err(Refusal::InvalidFlowCodomain { node: u as u8 });
         }
-        u += 1;
     }
-    Asked::Passed
+    Ok(())
 }
 
 // Are the nodes with a non-empty set exactly the non-outputs (14)?
-fn check_members(n: usize, outputs: NodeSet, sets: &[u64]) -> Asked
+fn check_members(n: usize, outputs: NodeSet, sets: &[u64]) -> Result<(), Refusal>
     requires { n ≤ capacity }
     ensures { asked_of result ≡ each n (domain_ask (job_in n [] no_nodes outputs []) (flow_in [] no_nodes sets.now)) }
 {
-    let mut u = 0;
-    while u < n {
+    for u in 0..n {
         let all = NodeSet::below(n);
         let empty = set_at(sets, u).intersection(all).is_empty();
         if empty != outputs.has(u) {
-            return Asked::Refused(Refusal(INVALID_FLOW_DOMAIN, u as u8, 0));
+            return Err(Refusal::InvalidFlowDomain { node: u as u8 });
         }
-        u += 1;
     }
-    Asked::Passed
+    Ok(())
 }
 
 // What the questions do not look at, the graph and the layers, is left empty in the contract.
-pub(crate) fn check_domain(n: usize, inputs: NodeSet, outputs: NodeSet, sets: &[u64]) -> Asked
+pub(crate) fn check_domain(
+    n: usize,
+    inputs: NodeSet,
+    outputs: NodeSet,
+    sets: &[u64],
+) -> Result<(), Refusal>
     requires { n ≤ capacity }
     ensures { asked_of result ≡ check_domain (job_in n [] inputs outputs []) (flow_in [] no_nodes sets.now) }
 {
-    let a = check_codomain(n, inputs, sets);
-    let Asked::Passed = a else {
-        return a;
-    };
+    check_codomain(n, inputs, sets)?;
     check_members(n, outputs, sets)
 }
 
 // An output lies in layer 0 (15); another node lies above it, where the mode asks that (16).
-fn check_layer(mode: u8, output: bool, u: usize, layer: u16) -> Asked
+#[tactic(auto, unfolding(verdicts::specs::Verdict::ask))]
+fn check_layer(mode: u8, output: bool, u: usize, layer: u16) -> Result<(), Refusal>
     requires { u < capacity }
     ensures { asked_of result ≡ cond output (ask (eqb layer 0) 15 u layer) (ask (eqb mode mode_pauli || ltb 0 layer) 16 u 0) }
 {
-    if output {
-        if layer != 0 {
-            return Asked::Refused(Refusal(EXCESSIVE_NON_ZERO_LAYER, u as u8, layer));
-        }
-        return Asked::Passed;
+    if output && layer != 0 {
+        return Err(Refusal::ExcessiveNonZeroLayer {
+            node: u as u8,
+            layer,
+        });
     }
-    if mode == MODE_PAULI {
-        return Asked::Passed;
+    if !output && mode != MODE_PAULI && layer == 0 {
+        return Err(Refusal::ExcessiveZeroLayer { node: u as u8 });
     }
-    if layer == 0 {
-        return Asked::Refused(Refusal(EXCESSIVE_ZERO_LAYER, u as u8, 0));
-    }
-    Asked::Passed
+    Ok(())
 }
 
-pub(crate) fn check_initial(n: usize, mode: u8, outputs: NodeSet, layers: &[u16]) -> Asked
+#[tactic(auto, using(crate::proofs::Asking::each_step, crate::proofs::Asking::each_end))]
+pub(crate) fn check_initial(
+    n: usize,
+    mode: u8,
+    outputs: NodeSet,
+    layers: &[u16],
+) -> Result<(), Refusal>
     requires { n ≤ capacity }
     ensures { asked_of result ≡ check_initial (job_in n [] no_nodes outputs []) (flow_in layers.now no_nodes []) mode }
 {
-    let mut u = 0;
-    while u < n {
-        let layer = layer_at(layers, u);
-        let a = check_layer(mode, outputs.has(u), u, layer);
-        let Asked::Passed = a else {
-            return a;
-        };
-        u += 1;
+    for u in 0..n {
+        check_layer(mode, outputs.has(u), u, layer_at(layers, u))?;
     }
-    Asked::Passed
+    Ok(())
 }

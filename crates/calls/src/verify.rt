@@ -5,14 +5,15 @@ ghost use Rattle.verdicts.specs.Verdict.{check_definition, verify as verify_of};
 ghost use Rattle.demands.specs.Calls.{verdict, judge, verify_asks};
 ghost use Rattle.demands.specs.Roles.{verifying, called};
 ghost use Rattle.records.specs.Views.{job_at, flow_at};
-ghost use Rattle.calls.specs.Loaded.{job_loaded, flow_in, asked_of, IsReadAs};
+ghost use Rattle.answers.specs.Refusals.{asked_of};
+ghost use Rattle.calls.specs.Loaded.{job_loaded, flow_in, IsReadAs};
 ghost use Rattle.calls.specs.Replies.{reply_of};
 
-use crate::both::{BothRead, read_both};
+use crate::both::read_both;
 use crate::load::{Loaded, load_flow, load_job};
 use crate::signals::lists_match;
-use crate::validate::{Asked, check_domain, check_initial};
-use crate::{Reply, flow, pflow, write_bare};
+use crate::validate::{check_domain, check_initial};
+use crate::{flow, pflow, write_bare};
 use answers::Refusal;
 use nodes::utils::{CAPACITY, NodeSet, TABLE_WORDS};
 use records::common::{FlowPlaces, JobPlaces, KIND_ACCEPTED, MODE_CAUSAL};
@@ -25,7 +26,7 @@ fn check_definition(
     layers: &[u16],
     entries: NodeSet,
     sets: &[u64],
-) -> Asked
+) -> Result<(), Refusal>
     requires { job.n ≤ capacity }
     ensures { asked_of result ≡ check_definition (job_loaded job graph.now measured.now) (flow_in layers.now entries sets.now) job.mode }
 {
@@ -39,6 +40,7 @@ fn check_definition(
 }
 
 // Questions 13 to 19 in their order.
+#[tactic(auto, unfolding(verdicts::specs::Verdict::verify))]
 fn verify_loaded(
     job: Loaded,
     graph: &[u64],
@@ -46,25 +48,19 @@ fn verify_loaded(
     layers: &[u16],
     entries: NodeSet,
     sets: &[u64],
-) -> Asked
+) -> Result<(), Refusal>
     requires { job.n ≤ capacity }
     ensures { asked_of result ≡ verify_of (job_loaded job graph.now measured.now) (flow_in layers.now entries sets.now) job.mode }
 {
     let n = job.n;
     let outputs = job.outputs;
-    let a = check_domain(n, job.inputs, outputs, sets);
-    let Asked::Passed = a else {
-        return a;
-    };
-    let b = check_initial(n, job.mode, outputs, layers);
-    let Asked::Passed = b else {
-        return b;
-    };
+    check_domain(n, job.inputs, outputs, sets)?;
+    check_initial(n, job.mode, outputs, layers)?;
     check_definition(job, graph, measured, layers, entries, sets)
 }
 
 // Job and flow are loaded from the places of their payloads. After all other questions: are stored lists those of the flow (22)?
-fn verify_places(file: &[u8], job: JobPlaces, flow: FlowPlaces) -> Asked
+fn verify_places(file: &[u8], job: JobPlaces, flow: FlowPlaces) -> Result<(), Refusal>
     requires { IsReadAs file.now job flow }
     ensures { verdict (asked_of result) ≡ judge (job_at file.now job) (flow_at file.now flow) }
 {
@@ -74,33 +70,28 @@ fn verify_places(file: &[u8], job: JobPlaces, flow: FlowPlaces) -> Asked
     let mut layers = [0u16; CAPACITY];
     let mut sets = [0u64; TABLE_WORDS];
     let entries = load_flow(file, flow, &mut layers, &mut sets);
-    let a = verify_loaded(loaded, &graph, &measured, &layers, entries, &sets);
-    let Asked::Passed = a else {
-        return a;
-    };
+    verify_loaded(loaded, &graph, &measured, &layers, entries, &sets)?;
     if !lists_match(file, flow, loaded.n, &graph) {
-        return Asked::Refused(Refusal::WRONG_SIGNALS);
+        return Err(Refusal::WrongSignals);
     }
-    Asked::Passed
+    Ok(())
 }
 
 // All questions but the writer's: first reading, 1 to 9.
-fn verify_file(file: &[u8]) -> Asked
+#[tactic(auto, unfolding(demands::specs::Calls::verify_asks))]
+fn verify_file(file: &[u8]) -> Result<(), Refusal>
     ensures { verdict (asked_of result) ≡ verify_asks file.now }
 {
-    match read_both(file) {
-        BothRead::Refused(q) => Asked::Refused(q),
-        BothRead::Both(job, flow) => verify_places(file, job, flow),
-    }
+    let (job, flow) = read_both(file)?;
+    verify_places(file, job, flow)
 }
 
 // Does the flow file behind the job satisfy the job's mode? The answer 0014 goes to the lent buffer; a refusal
 // leaves it untouched. Open to every role.
-pub fn verify(role: u64, file: &[u8], out: &mut [u8]) -> Reply
+#[tactic(auto, unfolding(demands::specs::Calls::verify_call, records::specs::Splice::put_answer, records::specs::Splice::put_front))]
+pub fn verify(role: u64, file: &[u8], out: &mut [u8]) -> Result<usize, Refusal>
     ensures { record { answer = reply_of result; work = []; out = out.new } ≡ called role (verifying out.old) file.now }
 {
-    match verify_file(file) {
-        Asked::Passed => write_bare(out, KIND_ACCEPTED),
-        Asked::Refused(q) => Reply::Refused(q),
-    }
+    verify_file(file)?;
+    write_bare(out, KIND_ACCEPTED)
 }

@@ -9,11 +9,10 @@ ghost use Rattle.demands.specs.Roles.{writing, called};
 ghost use Rattle.calls.specs.Replies.{reply_of};
 
 use crate::load::load_graph;
-use crate::{OWNER, Reply, answered};
+use crate::{OWNER, answered};
 use answers::Refusal;
 use nodes::utils::{NodeSet, TABLE_WORDS};
 use records::lists::ask_lists;
-use records::questions::Checked;
 use records::reader::set_of;
 use records::writer;
 use records::writer::edges_len;
@@ -30,7 +29,7 @@ fn write_asked(
     angled: bool,
     angles: &[u8],
     out: &mut [u8],
-) -> Reply
+) -> Result<usize, Refusal>
     requires { lists_ask (given n mode edges.now inputs.now outputs.now measurements.now (some_if angled angles.now)) ≡ gives true }
     ensures { record { answer = reply_of result; work = []; out = out.new } ≡ write_job_call owner (given n mode edges.now inputs.now outputs.now measurements.now (some_if angled angles.now)) out.old }
 {
@@ -38,15 +37,15 @@ fn write_asked(
     let mut graph = [0u64; TABLE_WORDS];
     load_graph(edges, &mut graph);
     if edges_len(&graph, nodes) != edges.len() {
-        return Reply::Refused(Refusal::GIVEN_TWICE);
+        return Err(Refusal::GivenTwice);
     }
     let ins = set_of(inputs);
     if ins.count() != inputs.len() {
-        return Reply::Refused(Refusal::GIVEN_TWICE);
+        return Err(Refusal::GivenTwice);
     }
     let outs = set_of(outputs);
     if outs.count() != outputs.len() {
-        return Reply::Refused(Refusal::GIVEN_TWICE);
+        return Err(Refusal::GivenTwice);
     }
     answered(writer::write_job(
         out,
@@ -63,6 +62,7 @@ fn write_asked(
 }
 
 // The angles count where they are given.
+#[tactic(auto, unfolding(demands::specs::Calls::write_job_call, demands::specs::Calls::write_job_asks))]
 fn write_lists(
     n: usize,
     mode: usize,
@@ -73,10 +73,10 @@ fn write_lists(
     angled: bool,
     angles: &[u8],
     out: &mut [u8],
-) -> Reply
+) -> Result<usize, Refusal>
     ensures { record { answer = reply_of result; work = []; out = out.new } ≡ write_job_call owner (given n mode edges.now inputs.now outputs.now measurements.now (some_if angled angles.now)) out.old }
 {
-    match ask_lists(
+    ask_lists(
         n,
         mode,
         edges,
@@ -85,20 +85,18 @@ fn write_lists(
         measurements,
         angled,
         angles,
-    ) {
-        Checked::Passed => write_asked(
-            n,
-            mode,
-            edges,
-            inputs,
-            outputs,
-            measurements,
-            angled,
-            angles,
-            out,
-        ),
-        Checked::Refused(q) => Reply::Refused(q),
-    }
+    )?;
+    write_asked(
+        n,
+        mode,
+        edges,
+        inputs,
+        outputs,
+        measurements,
+        angled,
+        angles,
+        out,
+    )
 }
 
 // Without angles it is open to every role.
@@ -111,7 +109,7 @@ pub fn write_job(
     outputs: &[u8],
     measurements: &[u8],
     out: &mut [u8],
-) -> Reply
+) -> Result<usize, Refusal>
     ensures { record { answer = reply_of result; work = []; out = out.new } ≡ called role (writing out.old) (given n mode edges.now inputs.now outputs.now measurements.now none) }
 {
     write_lists(
@@ -138,11 +136,11 @@ pub fn write_job_angles(
     measurements: &[u8],
     angles: &[u8],
     out: &mut [u8],
-) -> Reply
+) -> Result<usize, Refusal>
     ensures { record { answer = reply_of result; work = []; out = out.new } ≡ called role (writing out.old) (given n mode edges.now inputs.now outputs.now measurements.now (some angles.now)) }
 {
     if role != OWNER {
-        return Reply::Refused(Refusal::NOT_THE_OWNER);
+        return Err(Refusal::NotTheOwner);
     }
     write_lists(
         n,

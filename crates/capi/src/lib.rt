@@ -4,15 +4,15 @@
 
 ghost use Rattle.std.specs.Prelude.{◌≡◌, []};
 ghost use Rattle.std.proofs.Math.Option.{none, some};
-ghost use Rattle.solver.specs.Solver.{MatrixAfter, solved_of, solve_asks, solve_call};
-ghost use Rattle.answers.specs.Refusals.{refusal_of};
+ghost use Rattle.solver.specs.Solver.{MatrixAfter, is_solvable, solve_asks, solve_call};
+ghost use Rattle.answers.specs.Refusals.{question_of};
+ghost use Rattle.answers.specs.Refusals as Views;
 ghost use Rattle.records.specs.JobLists.{given};
 ghost use Rattle.demands.specs.Roles.{finding, verifying, adding_lists, editing, reading_out, writing, called};
 ghost use Rattle.calls.specs.Replies.{reply_of};
 ghost use Rattle.capi.specs.Codes.{refusal_code, answer_code, coded, counted, coded_bits};
 
-use answers::Refusal;
-use calls::Reply;
+use answers::{Refusal, RefusalRecord};
 use calls::edit::edit_set;
 use calls::find::find;
 use calls::readout::read_angles;
@@ -28,27 +28,28 @@ const A_UNIT: u64 = 65536;
 
 // A refusal as one number.
 fn refusal_code(q: Refusal) -> u64
-    ensures { result ≡ refusal_code (refusal_of q) }
+    ensures { result ≡ refusal_code (question_of q) }
 {
-    q.0 as u64 * NUMBER_UNIT + q.1 as u64 * A_UNIT + q.2 as u64
+    let record = RefusalRecord::from(q);
+    record.number as u64 * NUMBER_UNIT + record.a as u64 * A_UNIT + record.b as u64
 }
 
-fn reply_code(reply: Reply) -> u64
+fn reply_code(reply: Result<usize, Refusal>) -> u64
     ensures { result ≡ answer_code (reply_of reply) }
 {
     match reply {
-        Reply::Wrote(k) => k as u64,
-        Reply::Refused(q) => refusal_code(q),
+        Ok(k) => k as u64,
+        Err(q) => refusal_code(q),
     }
 }
 
-fn solved_code(solved: Solved) -> u64
-    ensures { result ≡ answer_code (counted (solved_of solved)) }
+fn solved_code(solved: Result<Solved, Refusal>) -> u64
+    ensures { result ≡ answer_code (counted (Views.given is_solvable solved)) }
 {
     match solved {
-        Solved::Solvable => 1,
-        Solved::Unsolvable => 0,
-        Solved::Refused(q) => refusal_code(q),
+        Ok(Solved::Solvable) => 1,
+        Ok(Solved::Unsolvable) => 0,
+        Err(q) => refusal_code(q),
     }
 }
 

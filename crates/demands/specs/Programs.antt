@@ -2,7 +2,7 @@
 use Rattle.std.specs.Prelude.{ℕ, cond, List, [], ◌∷◌, ◌++◌, leb, length, take, drop}
 use Rattle.std.proofs.Math.Option.{Option, none, some}
 use Rattle.answers.specs.Answer.{Refusal, Answer, gives, refuses, refusal}
-use Rattle.messages.specs.Message.{line, Written, put_whole}
+use Rattle.answers.specs.Message.{line, Written, put_whole}
 use Rattle.records.specs.Records.{written, kind_accepted, kind_refusal, in_two_bytes}
 use Rattle.records.specs.JobFile.{JobFile}
 use Rattle.nodes.specs.Lists.{zeros}

@@ -11,6 +11,7 @@ use native.Mathlib.Omega.{arith}
 use lib.Dec.{T, eqb, ltb, eqb→eq}
 use lib.ListN.{length, drop}
 use Rattle.answers.specs.Answer.{asks}
+use Rattle.answers.specs.Refusals.{given}
 use Rattle.answers.proofs.Answer.{never}
 use Rattle.answers.specs.declared.Refusal.{Refusal}
 use Rattle.nodes.specs.Bit.{◌⊕◌}
@@ -26,9 +27,8 @@ use Rattle.solver.specs.Asked.{asking, asked_side}
 use Rattle.solver.specs.WorkMatrix.{entry_of}
 use Rattle.solver.specs.Solver.{row_bytes, most_rows}
 use Rattle.solver.specs.Basis.{Form, answer_from}
-use Rattle.solver.specs.BasisCalls.{form_of, form_fits, formed_of, named_entry, named_system, IsBasisFormed, FormAfter, TablesSolve, solution_of}
-use Rattle.solver.specs.declared.column_basis.Formed.{Formed}
-use Rattle.solver.specs.declared.column_basis.Formed.TheVariants as formed
+use Rattle.solver.specs.BasisCalls.{form_of, form_fits, named_entry, named_system, IsBasisFormed, FormAfter, TablesSolve, solution_of}
+use Rattle.std.specs.Prelude as Rust
 use Rattle.solver.specs.declared.column_basis.Echelon.{Echelon}
 use Rattle.solver.proofs.System.{solve_ext, solve_past}
 use Rattle.solver.proofs.Asked.{IsLike, HasLike, IsIdle, solve_by_rows}
@@ -42,8 +42,6 @@ use Rattle.nodes.proofs.Count.{count_disjoint}
 use Rattle.finder.specs.Tries.{graph_job, round_system, side_bit, round_rows, asked_columns, asked_odd, IsReady}
 use Rattle.finder.specs.WorkMatrix.{context_of, HasRowsApart, row_bit, IsLaidOut, Reaches}
 use Rattle.finder.specs.declared.matrix.Context as Code
-use Rattle.solver.specs.declared.column_basis.Solution.{Solution}
-use Rattle.solver.specs.declared.column_basis.Solution.TheVariants.{Set}
 
 -- ---- the rows of the matrix that are laid out, and those that are left out because no column reaches them
 module _ (transposed work : List ℕ) (s : Code.Context) (upper reached : NodeSet) (up : member upper ≡ (λ v. member s.upper v && member reached v)) (reach : Reaches transposed s reached)
@@ -285,15 +283,15 @@ pub answer_same : (f : Form) {b c r q : ℕ → Bool} {x y : Bool} → b ≡ c �
 answer_same f {b = b} {c = c} {r = r} {q = q} {x = x} {y = y} d e h =
     ap (λ (z : ℕ → Bool). answer_from capacity f z r x) d ∙ ap₂ (λ (z : ℕ → Bool) (w : Bool). answer_from capacity f c z w) e h
 
-pub form_ready : (r : Formed) (e : Echelon) (matrix : List ℕ) (upper lower column : ℕ → Bool) (k₀ r₀ p₀ kernel reduced preimage : List ℕ) → r ≡ formed.Ready e
+pub form_ready : (r : Rust.Result Echelon Refusal) (e : Echelon) (matrix : List ℕ) (upper lower column : ℕ → Bool) (k₀ r₀ p₀ kernel reduced preimage : List ℕ) → r ≡ Rust.Ok e
     → FormAfter r matrix upper lower column k₀ r₀ p₀ kernel reduced preimage → IsBasisFormed matrix upper lower column kernel reduced preimage e
-form_ready r e matrix upper lower column k₀ r₀ p₀ kernel reduced preimage h a = subst (λ (x : Formed). FormAfter x matrix upper lower column k₀ r₀ p₀ kernel reduced preimage) h a
+form_ready r e matrix upper lower column k₀ r₀ p₀ kernel reduced preimage h a = subst (λ (x : Rust.Result Echelon Refusal). FormAfter x matrix upper lower column k₀ r₀ p₀ kernel reduced preimage) h a
 
 -- the solver never refuses a round
-pub form_refused : (r : Formed) (matrix : List ℕ) (upper lower : ℕ → Bool) (kernel reduced preimage : List ℕ) (x : Refusal) → r ≡ formed.Refused x → formed_of r ≡ asks 11 (form_fits matrix upper lower kernel reduced preimage)
+pub form_refused : (r : Rust.Result Echelon Refusal) (matrix : List ℕ) (upper lower : ℕ → Bool) (kernel reduced preimage : List ℕ) (x : Refusal) → r ≡ Rust.Err x → given (λ e. true) r ≡ asks 11 (form_fits matrix upper lower kernel reduced preimage)
     → (count capacity upper + count capacity lower) * row_bytes ≤ length matrix → length kernel ≡ table_words → length reduced ≡ table_words → length preimage ≡ table_words → ⊥
 form_refused r matrix upper lower kernel reduced preimage x e f a b c d =
-    never (ap formed_of (sym e) ∙ f ∙ ap (asks 11) (sym (fits_last matrix upper lower kernel reduced preimage a b c) ∙ ap (λ (x : ℕ). eqb x table_words) d ∙ eqb_yes table_words))
+    never (ap (given (λ e. true)) (sym e) ∙ f ∙ ap (asks 11) (sym (fits_last matrix upper lower kernel reduced preimage a b c) ∙ ap (λ (x : ℕ). eqb x table_words) d ∙ eqb_yes table_words))
 
 -- ---- the sets at hand
 -- what Odd has of u
@@ -319,13 +317,13 @@ meets_one s alone u h e =
     (λ t. any_in capacity (λ v. s v && alone v) u h (and_in (s u) (alone u) t (subst T (sym (ap (λ (f : ℕ → Bool). f u) e ∙ eqb_yes u)) tt)))
 
 -- u joins the set where its branch has it
-pub own_in : (f : Solution) (s r : NodeSet) (u b : ℕ) (alone : ℕ → Bool) → f ≡ Set s → in_set b ≡ true → alone ≡ (λ v. eqb v u) → member r ≡ (λ k. member s k || alone k)
+pub own_in : (f : Rust.Option NodeSet) (s r : NodeSet) (u b : ℕ) (alone : ℕ → Bool) → f ≡ Rust.Some s → in_set b ≡ true → alone ≡ (λ v. eqb v u) → member r ≡ (λ k. member s k || alone k)
     → some (member r) ≡ with_node (in_set b) u (solution_of f)
 own_in f s r u b alone e i h w =
     ap some (w ∙ ap {B = ℕ → Bool} (λ (g : ℕ → Bool) (k : ℕ). member s k || g k) h) ∙ ap (λ (c : Bool). some (λ k. member s k || c && eqb k u)) (sym i)
-    ∙ ap (λ (q : Solution). with_node (in_set b) u (solution_of q)) (sym e)
+    ∙ ap (λ (q : Rust.Option NodeSet). with_node (in_set b) u (solution_of q)) (sym e)
 
-pub own_out : (f : Solution) (s : NodeSet) (u b : ℕ) → f ≡ Set s → in_set b ≡ false → some (member s) ≡ with_node (in_set b) u (solution_of f)
+pub own_out : (f : Rust.Option NodeSet) (s : NodeSet) (u b : ℕ) → f ≡ Rust.Some s → in_set b ≡ false → some (member s) ≡ with_node (in_set b) u (solution_of f)
 own_out f s u b e i =
     ap some (fun_ext (λ k. sym (or_false (member s k)))) ∙ ap (λ (c : Bool). some (λ k. member s k || c && eqb k u)) (sym i)
-    ∙ ap (λ (q : Solution). with_node (in_set b) u (solution_of q)) (sym e)
+    ∙ ap (λ (q : Rust.Option NodeSet). with_node (in_set b) u (solution_of q)) (sym e)

@@ -1,7 +1,6 @@
 -- The call of the search, for planes or for Paulis: what it works with, and what it answers and leaves in the lent buffers.
 use Rattle.std.specs.Prelude.{ℕ, ◌+◌, ◌*◌, ◌/◌, ◌%◌, ◌≡◌, Bool, true, false, cond, ◌&&◌, ◌||◌, List, eqb, leb, ltb, length, get_or}
 use Rattle.answers.specs.Answer.{Answer, gives, refuses, refusal}
-use Rattle.answers.specs.Refusals.{refusal_of}
 use Rattle.nodes.specs.Bit.{digits}
 use Rattle.nodes.specs.Row.{all_below}
 use Rattle.nodes.specs.NodeSet.{member, capacity, word_bits}
@@ -17,7 +16,7 @@ use Rattle.flows.specs.Paulis as Paulis
 use Rattle.finder.specs.Visits.{cut_to}
 use Rattle.finder.specs.declared.kinds.Kinds.{Kinds}
 use Rattle.finder.specs.declared.search.Search.{Search}
-use Rattle.finder.specs.declared.search.Search.TheVariants.{Flow, NoFlow, Refused}
+use Rattle.finder.specs.declared.search.Search.TheVariants.{Flow, NoFlow}
 
 -- the job that the arguments hold: the graph as a table of the nodes' neighbours
 abbrev pub job_in : (n : ℕ) (graph : List ℕ) (inputs outputs : NodeSet) (measured : List ℕ) → Job
@@ -51,11 +50,10 @@ set_table n p = list_of table_words (λ i. digits word_bits (λ t. ltb (i / set_
 abbrev pub progress_at : Bool → Job → Progress
 progress_at pauli j = cond pauli (Paulis.progress j) (Planes.progress j)
 
--- whether there is a flow, with document 01's number of a refusal
-abbrev pub search_of : Search → Answer Bool
-search_of Flow = gives true
-search_of NoFlow = gives false
-search_of (Refused r) = refuses (refusal_of r)
+-- whether there is a flow
+abbrev pub is_flow : Search → Bool
+is_flow Flow = true
+is_flow NoFlow = false
 
 -- what a call answers, and what it leaves in the lent buffers
 pub record SearchOutcome : Type 0 where

@@ -11,7 +11,7 @@ ghost use Rattle.finder.specs.Tries.{graph_job, side_bit, asked_columns, IsReady
 use crate::matrix::Context;
 use flows::{PAULI_Z, PLANE_XY, PLANE_XZ, PLANE_YZ};
 use nodes::utils::{NodeSet, set_at};
-use solver::column_basis::{Echelon, Solution, answer};
+use solver::column_basis::{Echelon, answer};
 
 // No branch has this number.
 const NO_BRANCH: u8 = 0;
@@ -100,19 +100,15 @@ fn asked_odd(side: NodeSet, u: usize, alone: NodeSet, present: bool) -> bool
 }
 
 // The set of u: in branches YZ and XZ with u itself.
-fn with_node(f: Solution, u: usize, alone: NodeSet, b: u8) -> Solution
+fn with_node(f: Option<NodeSet>, u: usize, alone: NodeSet, b: u8) -> Option<NodeSet>
     requires { member alone ≡ (λ v. eqb v u) }
     ensures { solution_of result ≡ with_node (in_set b) u (solution_of f) }
 {
-    match f {
-        Solution::Set(x) => {
-            if in_set(b) {
-                return Solution::Set(x.union(alone));
-            }
-            Solution::Set(x)
-        }
-        Solution::Nothing => Solution::Nothing,
+    let x = f?;
+    if in_set(b) {
+        return Some(x.union(alone));
     }
+    Some(x)
 }
 
 // One try of u, the one member of `alone`, in branch b, in an open round.
@@ -128,7 +124,7 @@ fn try_branch(
     u: usize,
     alone: NodeSet,
     b: u8,
-) -> Solution
+) -> Option<NodeSet>
     requires { IsReady n graph.now s echelon kernel.now reduced.now preimage.now transposed.now × IsTrying n s u alone }
     ensures { solution_of result ≡ try_branch (graph_job n graph.now) (for_node (context_of s) u) u b }
 {
@@ -165,15 +161,15 @@ pub(crate) fn try_for(
     u: usize,
     alone: NodeSet,
     m: u8,
-) -> Solution
+) -> Option<NodeSet>
     requires { IsReady n graph.now s echelon kernel.now reduced.now preimage.now transposed.now × IsTrying n s u alone }
     ensures { solution_of result ≡ try_for n graph.now (context_of s) u m }
 {
     if m < PLANE_XY {
-        return Solution::Nothing;
+        return None;
     }
     if m > PAULI_Z {
-        return Solution::Nothing;
+        return None;
     }
     let row = BRANCHES[(m - PLANE_XY) as usize];
     let mut b = row[0];
@@ -182,12 +178,11 @@ pub(crate) fn try_for(
         let t = try_branch(
             kernel, reduced, preimage, echelon, graph, transposed, n, s, u, alone, b,
         );
-        match t {
-            Solution::Set(x) => return Solution::Set(x),
-            Solution::Nothing => {}
+        if let Some(x) = t {
+            return Some(x);
         }
         if later == NO_BRANCH {
-            return Solution::Nothing;
+            return None;
         }
         b = later;
         later = NO_BRANCH;

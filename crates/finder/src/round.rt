@@ -13,7 +13,7 @@ use crate::branch::try_for;
 use crate::kinds::{Kinds, context};
 use crate::matrix::{Context, Support, fill, transpose};
 use nodes::utils::{NodeSet, put_set};
-use solver::column_basis::{Echelon, Formed, Solution, form};
+use solver::column_basis::{Echelon, form};
 
 // How far a search has come, layers and sets aside: the solved nodes, and what is known of the graph by rows.
 #[derive(Clone, Copy)]
@@ -49,9 +49,9 @@ fn open_round(
     fill(work, transposed, filled);
     let formed = form(work, upper, lower, columns, kernel, reduced, preimage);
     match formed {
-        Formed::Ready(e) => e,
+        Ok(e) => e,
         // the equations fit, so this does not come about
-        Formed::Refused(_) => Echelon {
+        Err(_) => Echelon {
             pivots: NodeSet::empty(),
             free: NodeSet::empty(),
         },
@@ -64,7 +64,7 @@ fn place(
     u: usize,
     alone: NodeSet,
     r: u16,
-    t: Solution,
+    t: Option<NodeSet>,
     layers: &mut [u16],
     sets: &mut [u64],
 ) -> NodeSet
@@ -73,12 +73,12 @@ fn place(
     ensures layers_len { (length layers.new ≡ capacity) × (length sets.new ≡ table_words) }
 {
     match t {
-        Solution::Set(s) => {
+        Some(s) => {
             layers[u] = r;
             put_set(sets, u, s);
             solved.union(alone)
         }
-        Solution::Nothing => solved,
+        None => solved,
     }
 }
 

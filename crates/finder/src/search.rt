@@ -7,7 +7,9 @@ ghost use Rattle.flows.specs.Search.{start};
 ghost use Rattle.finder.specs.WorkMatrix.{IsBlank};
 ghost use Rattle.finder.specs.Tries.{TablesFit};
 ghost use Rattle.finder.specs.Visits.{IsSized, progress_in, cut_to};
-ghost use Rattle.finder.specs.Searches.{job_in, progress_at, search_of, answer_of, search_call};
+ghost use Rattle.answers.specs.Answer.{gives};
+ghost use Rattle.answers.specs.Refusals.{given};
+ghost use Rattle.finder.specs.Searches.{job_in, progress_at, is_flow, answer_of, search_call};
 
 use crate::arguments::arguments_fit;
 use crate::kinds::kinds_of;
@@ -17,12 +19,11 @@ use answers::Refusal;
 use nodes::utils::{NodeSet, TABLE_WORDS, clear_table};
 use solver::gf2_linalg::clear;
 
-// What a search answers, for planes and for Paulis.
-#[derive(Clone, Copy)]
+// What a search finds, for planes and for Paulis.
+#[derive(Clone, Copy, Debug, PartialEq, Eq)]
 pub enum Search {
     Flow,
     NoFlow,
-    Refused(Refusal),
 }
 
 // Every layer becomes 0.
@@ -99,7 +100,7 @@ fn rounds(
 // A node still unsolved at the end means no flow. The work matrix is left zero.
 fn conclude(n: usize, solved: NodeSet, work: &mut [u8]) -> Search
     requires { n ≤ capacity }
-    ensures result_value { search_of result ≡ answer_of n (member solved) }
+    ensures result_value { gives (is_flow result) ≡ answer_of n (member solved) }
     ensures work_after { work.new ≡ zeros (length work.old) }
 {
     clear(work);
@@ -120,11 +121,11 @@ pub fn find(
     work: &mut [u8],
     layers: &mut [u16],
     sets: &mut [u64],
-) -> Search
-    ensures { record { answer = search_of result; work = work.new; layers = layers.new; sets = sets.new } ≡ search_call pauli n graph.now inputs outputs measured.now work.old layers.old sets.old }
+) -> Result<Search, Refusal>
+    ensures { record { answer = given is_flow result; work = work.new; layers = layers.new; sets = sets.new } ≡ search_call pauli n graph.now inputs outputs measured.now work.old layers.old sets.old }
 {
     if !arguments_fit(pauli, n, graph, outputs, measured, work, layers, sets) {
-        return Search::Refused(Refusal::WRONG_SHAPE);
+        return Err(Refusal::WrongShape);
     }
     let mut transposed = [0u64; TABLE_WORDS];
     let mut kernel = [0u64; TABLE_WORDS];
@@ -145,5 +146,5 @@ pub fn find(
         &mut reduced,
         &mut preimage,
     );
-    conclude(n, solved, work)
+    Ok(conclude(n, solved, work))
 }

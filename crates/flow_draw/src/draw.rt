@@ -5,7 +5,7 @@ ghost use Rattle.std.specs.Prelude.{◌<◌, ◌≤◌, length};
 
 use crate::layout::{Columns, GAP, MARGIN, PITCH, ROW, TOP, at, at_end, minus, most};
 use crate::load::Known;
-use calls::Reply;
+use answers::{Refusal, RefusalRecord};
 use flows::{PAULI_X, PAULI_Y, PAULI_Z, PLANE_XY, PLANE_XZ, PLANE_YZ};
 use nodes::utils::{NodeSet, odd_neighbors, set_at};
 use records::common::{MOST_NODES, byte_at};
@@ -156,18 +156,18 @@ fn put_head(out: Stdout, width: usize, height: usize) -> io::Result<()> {
     )
 }
 
-fn put_verdict(out: Stdout, reply: Reply) -> io::Result<()> {
+fn put_verdict(out: Stdout, reply: Result<usize, Refusal>) -> io::Result<()> {
     match reply {
-        Reply::Wrote(_) => print(out, b"<tspan class=\"good\">accepted</tspan>"),
-        Reply::Refused(q) => {
+        Ok(_) => print(out, b"<tspan class=\"good\">accepted</tspan>"),
+        Err(q) => {
             print(out, b"<tspan class=\"bad\">")?;
-            print_line(out, q)?;
+            print_line(out, RefusalRecord::from(q))?;
             print(out, b"</tspan>")
         }
     }
 }
 
-fn put_caption(out: Stdout, known: Known, reply: Reply) -> io::Result<()> {
+fn put_caption(out: Stdout, known: Known, reply: Result<usize, Refusal>) -> io::Result<()> {
     let numbers = [known.n, known.mode as usize];
     fill(
         out,
@@ -493,7 +493,7 @@ fn put_front(
     out: Stdout,
     known: Known,
     columns: Columns,
-    reply: Reply,
+    reply: Result<usize, Refusal>,
     right: usize,
 ) -> io::Result<()>
     requires { (columns.rows ≤ 256) × (right < 65536) }
@@ -511,7 +511,7 @@ pub(crate) fn draw_columns(
     out: Stdout,
     known: Known,
     columns: Columns,
-    reply: Reply,
+    reply: Result<usize, Refusal>,
     layers: &[u16],
     heads: &[u16],
     lefts: &[u16],

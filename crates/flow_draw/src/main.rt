@@ -7,36 +7,40 @@ mod draw; // draw.rt: the pieces of the picture
 mod layout; // layout.rt: where each node stands
 mod load; // load.rt: what the records hold
 
-use answers::{INCONSISTENT_FLOW_PLANE, INVALID_FLOW_CODOMAIN, Refusal};
+use answers::{Refusal, RefusalRecord};
+use calls::OPERATOR;
 use calls::verify::verify;
-use calls::{OPERATOR, Reply};
 use draw::{draw_columns, draw_nodes};
 use layout::{find_columns, place_columns};
 use load::{Known, MOST_BYTES, load_graph, load_job, load_layers, load_measured, load_sets};
 use nodes::utils::TABLE_WORDS;
-use records::common::{FlowPlaces, FlowRead, HEAD_BYTES, JobPlaces, JobRead, MOST_NODES, payload};
+use records::common::{FlowPlaces, HEAD_BYTES, JobPlaces, MOST_NODES, payload};
 use records::reader::{read_flow, read_job};
 use std::env::Env;
 use std::io;
 use std::io::{Stderr, Stdout};
 use streams::{Input, only_usage, output_failed, read_input, tell};
 
-// The verifier's last question.
-const WRONG_SIGNALS: u8 = 22;
-
 // Is it a question of the verifier, asked of a flow that was read?
-fn is_verdict(number: u8) -> bool {
-    if number == WRONG_SIGNALS {
-        return true;
+fn is_verdict(q: Refusal) -> bool {
+    match q {
+        Refusal::InvalidFlowCodomain { .. }
+        | Refusal::InvalidFlowDomain { .. }
+        | Refusal::ExcessiveNonZeroLayer { .. }
+        | Refusal::ExcessiveZeroLayer { .. }
+        | Refusal::InvalidMeasurementSpec { .. }
+        | Refusal::InconsistentFlowOrder { .. }
+        | Refusal::InconsistentFlowPlane { .. }
+        | Refusal::WrongSignals => true,
+        _ => false,
     }
-    INVALID_FLOW_CODOMAIN <= number && number <= INCONSISTENT_FLOW_PLANE
 }
 
 // The columns are drawn, each node gets its place, and the rest is drawn.
 fn draw_loaded(
     out: Stdout,
     known: Known,
-    reply: Reply,
+    reply: Result<usize, Refusal>,
     graph: &[u64],
     measured: &[u8],
     layers: &[u16],
@@ -59,7 +63,7 @@ fn draw_places(
     file: &[u8],
     job: JobPlaces,
     flow: FlowPlaces,
-    reply: Reply,
+    reply: Result<usize, Refusal>,
 ) -> io::Result<()> {
     let edges = job.edges;
     let mut graph = [0u64; TABLE_WORDS];
@@ -76,11 +80,11 @@ fn draw_places(
 }
 
 // What the verifier could read is read again for its places.
-fn draw_read(out: Stdout, file: &[u8], reply: Reply) -> io::Result<()> {
-    let JobRead::Job(job) = read_job(file) else {
+fn draw_read(out: Stdout, file: &[u8], reply: Result<usize, Refusal>) -> io::Result<()> {
+    let Ok(job) = read_job(file) else {
         return Ok(());
     };
-    let FlowRead::Flow(flow) = read_flow(file, job.end, job.n) else {
+    let Ok(flow) = read_flow(file, job.end, job.n) else {
         return Ok(());
     };
     draw_places(out, file, job, flow, reply)
@@ -91,12 +95,12 @@ fn draw_file(out: Stdout, err: Stderr, file: &[u8]) -> io::Result<()> {
     let mut verdict = [0u8; HEAD_BYTES];
     let reply = verify(OPERATOR, file, &mut verdict);
     match reply {
-        Reply::Wrote(_) => draw_read(out, file, reply),
-        Reply::Refused(q) => {
-            if is_verdict(q.0) {
+        Ok(_) => draw_read(out, file, reply),
+        Err(q) => {
+            if is_verdict(q) {
                 return draw_read(out, file, reply);
             }
-            tell(err, q);
+            tell(err, RefusalRecord::from(q));
             Ok(())
         }
     }

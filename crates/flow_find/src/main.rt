@@ -2,7 +2,7 @@
 // With 001F goes its line in words on standard error.
 #![tactic(auto)]
 
-use messages::LINE_ROOM;
+use answers::LINE_ROOM;
 use programs::find_program;
 use programs::output::{JUDGED_BYTES, MOST_OUTPUT};
 use std::env::Env;

@@ -6,9 +6,9 @@
 ghost use Rattle.std.specs.Prelude.{◌+◌, ◌*◌, ◌<◌, ◌≤◌, ◌≡◌, length, get_or};
 ghost use Rattle.answers.specs.Refusals.{refusal_of};
 
-use answers::Refusal;
+use answers::{Refusal, RefusalRecord};
 use records::common::{
-    ENTRY_HEAD_BYTES, FlowPlaces, FlowRead, HEAD_BYTES, KIND_ACCEPTED, KIND_LAYERS, KIND_NO_FLOW,
+    ENTRY_HEAD_BYTES, FlowPlaces, HEAD_BYTES, KIND_ACCEPTED, KIND_LAYERS, KIND_NO_FLOW,
     KIND_REFUSAL, KIND_WIDE_LAYERS, MOST_NODES, Place, WIDE_LAYER_BYTES, byte_at, number, payload,
 };
 use records::reader::{layer_count, layer_of, read_flow};
@@ -25,12 +25,6 @@ const MOST_BYTES: usize = 65536;
 
 // The payload of 001F.
 const REFUSAL_PAYLOAD: usize = 4;
-
-// The question whether the next record is there.
-const NO_RECORD: u8 = 1;
-
-// The question whether its whole payload is there.
-const CUT_PAYLOAD: u8 = 2;
 
 // What a file is, judged by the heads of its records, its length and the entries of its sets.
 #[derive(Clone, Copy)]
@@ -131,20 +125,20 @@ fn second_cut(file: &[u8], n: usize, layers: usize) -> bool
     let sets = HEAD_BYTES + layers;
     let first = sets + HEAD_BYTES + length_field(rest(file, sets));
     let second = first + HEAD_BYTES + length_field(rest(file, first));
-    let FlowRead::Flow(_) = read_flow(front(file, first), 0, n) else {
+    let Ok(_) = read_flow(front(file, first), 0, n) else {
         return false;
     };
     rest(file, second).len() < HEAD_BYTES
 }
 
 // A flow that the verifier would refuse to read: is it cut?
-fn judge_refused(file: &[u8], q: u8, n: usize, layers: usize) -> Judged
+fn judge_refused(file: &[u8], q: Refusal, n: usize, layers: usize) -> Judged
     requires { layers ≤ 256 }
 {
-    if q == CUT_PAYLOAD {
+    if q == Refusal::CutPayload {
         return Judged::Cut;
     }
-    if q == NO_RECORD && second_cut(file, n, layers) {
+    if q == Refusal::NoRecord && second_cut(file, n, layers) {
         return Judged::Cut;
     }
     Judged::Other
@@ -161,8 +155,8 @@ fn judge_flow(file: &[u8], n: usize, layers: usize) -> Judged
         return Judged::Cut;
     }
     match read_flow(file, 0, n) {
-        FlowRead::Flow(flow) => judge_end(file, flow, n),
-        FlowRead::Refused(q) => judge_refused(file, q.0, n, layers),
+        Ok(flow) => judge_end(file, flow, n),
+        Err(q) => judge_refused(file, q, n, layers),
     }
 }
 
@@ -332,13 +326,13 @@ fn show_flow(out: Stdout, file: &[u8], flow: FlowPlaces) -> io::Result<()>
 }
 
 // What 001F tells.
-fn refusal_in(file: &[u8]) -> Refusal
+fn refusal_in(file: &[u8]) -> RefusalRecord
     ensures { refusal_of result ≡ record { number = get_or file.now 6 0; a = get_or file.now 7 0; b = get_or file.now 8 0 + 256 * get_or file.now 9 0 } }
 {
     let q = byte_at(file, HEAD_BYTES);
     let a = byte_at(file, HEAD_BYTES + 1);
     let b = two_bytes(file, HEAD_BYTES + 2);
-    Refusal(q, a, b)
+    RefusalRecord { number: q, a, b }
 }
 
 fn complain(err: Stderr, text: &[u8]) -> io::Result<()> {

@@ -2,8 +2,7 @@
 // A refusal is told in one line on standard error, and nothing is shown. A job with angles is for its owner only (24): the text has none, and would be another job.
 #![tactic(auto)]
 
-use calls::Reply;
-use std::env::Env;
+use answers::RefusalRecord;
 use std::io::{Stderr, Stdout};
 use streams::{Input, only_usage, read_input, tell, write_output};
 use texts::show::{TEXT_ROOM, show_text};
@@ -14,8 +13,8 @@ const MOST_BYTES: usize = 65536;
 fn show(out: Stdout, err: Stderr, file: &[u8]) {
     let mut text = [0u8; TEXT_ROOM];
     match show_text(file, &mut text) {
-        Reply::Wrote(k) => write_output(out, err, &text[..k]),
-        Reply::Refused(q) => tell(err, q),
+        Ok(k) => write_output(out, err, &text[..k]),
+        Err(q) => tell(err, RefusalRecord::from(q)),
     }
 }
 

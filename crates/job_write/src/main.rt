@@ -2,7 +2,7 @@
 // A fault of the text, or a refusal, is told in one line on standard error, and nothing is written.
 #![tactic(auto)]
 
-use std::env::Env;
+use answers::RefusalRecord;
 use std::io::{Stderr, Stdout};
 use streams::{Input, error_number, only_usage, read_input, tell, write_error, write_output};
 use texts::reader::{NO_WORD, OUT_OF_ORDER, TOO_MANY, WRONG_SHAPE};
@@ -41,7 +41,7 @@ fn write(out: Stdout, err: Stderr, text: &[u8]) {
     let mut file = [0u8; MOST_JOB];
     match write_text(text, &mut file) {
         Told::Wrote(k) => write_output(out, err, &file[..k]),
-        Told::Refused(q) => tell(err, q),
+        Told::Refused(q) => tell(err, RefusalRecord::from(q)),
         Told::Broken(before, kind) => tell_fault(err, before, kind),
     }
 }

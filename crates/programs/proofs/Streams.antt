@@ -7,8 +7,8 @@ use native.Mathlib.Omega.{arith}
 use borrow.Author.Tests.{le-leb}
 use lib.ListN.{length}
 use Rattle.answers.specs.Answer.{Refusal}
-use Rattle.messages.specs.Message.{Written, put_whole}
-use Rattle.messages.proofs.Lines.{written_few}
+use Rattle.answers.specs.Message.{Written, put_whole}
+use Rattle.answers.proofs.Lines.{written_few}
 use Rattle.demands.specs.Programs.{Printed, printed, Streams, error_of, streams}
 use Rattle.programs.proofs.Printing.{printed_few}
 

@@ -4,12 +4,12 @@
 pub mod output; // output.rt: what each writes on standard output, in a buffer of any length
 
 ghost use Rattle.std.specs.Prelude.{◌≡◌};
-ghost use Rattle.messages.specs.Message.{put_whole};
+ghost use Rattle.answers.specs.Message.{put_whole};
 ghost use Rattle.demands.specs.Programs.{error_of};
 ghost use Rattle.demands.specs.Roles.{operator, finder_program, verifier_program, called};
 ghost use Rattle.programs.specs.Printing.{refused_of};
 
-use messages::message;
+use answers::message;
 use output::{Told, find_bytes, verify_bytes};
 
 // How many bytes of each buffer a program writes.

@@ -5,10 +5,10 @@ ghost use Rattle.answers.specs.Refusals.{refusal_of};
 ghost use Rattle.demands.specs.Programs.{judged_bytes, refusal_bytes, printed, find_printed, verify_printed};
 ghost use Rattle.programs.specs.Printing.{output_of};
 
-use answers::Refusal;
+use answers::RefusalRecord;
+use calls::OPERATOR;
 use calls::find::find;
 use calls::verify::verify;
-use calls::{OPERATOR, Reply};
 use records::common::{HEAD_BYTES, KIND_REFUSAL, MOST_NODES, WIDE_LAYER_BYTES};
 use records::writer::{Put, write_record};
 use solver::gf2_linalg::WORK_BYTES;
@@ -29,7 +29,7 @@ const TOO_LONG: u8 = 20;
 #[derive(Clone, Copy)]
 pub enum Told {
     Result,
-    Refused(Refusal),
+    Refused(RefusalRecord),
 }
 
 // How many bytes were written at the front of the buffer: of a result, or of 001F. With 20 nothing is written.
@@ -50,7 +50,7 @@ fn wrote(count: usize) -> Output
 }
 
 // A refusal, of which so many bytes were written.
-fn refused(count: usize, q: Refusal) -> Output
+fn refused(count: usize, q: RefusalRecord) -> Output
     ensures { result ≡ record { count = count; told = Told.Refused q } }
 {
     Output {
@@ -60,13 +60,20 @@ fn refused(count: usize, q: Refusal) -> Output
 }
 
 // 001F at the front of the buffer, or 20 where it does not fit.
-fn write_refusal(out: &mut [u8], q: Refusal) -> Output
+fn write_refusal(out: &mut [u8], q: RefusalRecord) -> Output
     ensures { output_of result out.new ≡ printed (some (refusal_of q)) (refusal_bytes (refusal_of q)) out.old }
 {
-    let payload = [q.0, q.1, (q.2 % 256) as u8, (q.2 / 256) as u8];
+    let payload = [q.number, q.a, (q.b % 256) as u8, (q.b / 256) as u8];
     match write_record(out, KIND_REFUSAL, &payload) {
         Put::Bytes(k) => refused(k, q),
-        Put::TooLong => refused(0, Refusal::RESULT_TOO_LONG),
+        Put::TooLong => refused(
+            0,
+            RefusalRecord {
+                number: TOO_LONG,
+                a: 0,
+                b: 0,
+            },
+        ),
     }
 }
 
@@ -87,12 +94,13 @@ pub fn find_bytes(input: &[u8], out: &mut [u8]) -> Output
     let n = judged(input.len());
     let mut work = [0u8; WORK_BYTES];
     match find(OPERATOR, &input[0..n], &mut work, out) {
-        Reply::Wrote(k) => wrote(k),
-        Reply::Refused(q) => {
-            if q.0 == TOO_LONG {
-                return refused(0, q);
+        Ok(k) => wrote(k),
+        Err(q) => {
+            let record = RefusalRecord::from(q);
+            if record.number == TOO_LONG {
+                return refused(0, record);
             }
-            write_refusal(out, q)
+            write_refusal(out, record)
         }
     }
 }
@@ -103,7 +111,7 @@ pub fn verify_bytes(input: &[u8], out: &mut [u8]) -> Output
 {
     let n = judged(input.len());
     match verify(OPERATOR, &input[0..n], out) {
-        Reply::Wrote(k) => wrote(k),
-        Reply::Refused(q) => write_refusal(out, q),
+        Ok(k) => wrote(k),
+        Err(q) => write_refusal(out, RefusalRecord::from(q)),
     }
 }

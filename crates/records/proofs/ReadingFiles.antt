@@ -11,7 +11,8 @@ use Rattle.records.specs.BitRows.{row_width}
 use Rattle.records.specs.Format.{Front, front, plain, record_of}
 use Rattle.records.specs.JobFile.{most_nodes, rises, opening_asks, edges_asks, nodes_asks, measurements_asks, angles_asks, Opening, opening, JobValue, has_angles, job, job_file, read_job}
 use Rattle.records.specs.FlowFile.{layers_as, layers, sets_asks, sets, FlowValue, flow, flow_file, read_flow}
-use Rattle.records.specs.Views.{start_at, rest_of, place_of, payload_from, payload_of, some_if, pair_if, IsNext, IsNextOptional, IsPartner, IsNextChoice, job_of_read, job_read, IsJobPlaced, flow_of_read, flow_read, IsFlowPlaced}
+use Rattle.records.specs.Views.{start_at, rest_of, place_of, payload_from, payload_of, some_if, pair_if, IsNext, IsNextOptional, IsPartner, IsNextChoice, job_at, job_read, IsJobPlaced, flow_at, flow_read, IsFlowPlaced}
+use Rattle.answers.specs.Refusals.{given}
 use Rattle.records.specs.declared.common.Place.{Place}
 use Rattle.records.specs.declared.common.JobPlaces.{JobPlaces}
 use Rattle.records.specs.declared.common.FlowPlaces.{FlowPlaces}
@@ -63,11 +64,11 @@ module _ (s : List ℕ) where
             then_took _ _ (next_took s kind_measurements (plain (measurements_asks v.n v.mode (has (payload_of s u)))) u m hm) (
             optional_took s (has_angles v.mode) kind_angles (angles_asks v.n (has (payload_of s u))) m b hb)))))
 
-        job_steps : job_of_read s (job_read job_last job_places) ≡ read_job s
+        job_steps : given (job_at s) (job_read job_last job_places) ≡ read_job s
         unfolding read_job
         job_steps = by job_last refl ∙ ap (λ (a : Answer (Front JobValue)). a >>= λ p. gives (job_file p)) job_took.took
           where
-            by : (r : RecordRead) → job_last ≡ r → job_of_read s (job_read r job_places) ≡ (rest_of s r >>= (λ t. gives (front job_value t)) >>= λ p. gives (job_file p))
+            by : (r : RecordRead) → job_last ≡ r → given (job_at s) (job_read r job_places) ≡ (rest_of s r >>= (λ t. gives (front job_value t)) >>= λ p. gives (job_file p))
             by (Payload p) h = ap (λ (r : RecordRead). gives (job_file (front job_value (drop (place_of r).end s)))) h
             by (NoRecord q) h = refl
 
@@ -85,7 +86,7 @@ module _ (s : List ℕ) where
                 let (ws, po, _) = next_placed s _ _ (start_at 0) o ho wo in
                 (rw (tb, pb, ← hv, pm, pu, pi, pe, po) refl, l lm)
 
-        pub job_promised : (job_of_read s (job_read job_last job_places) ≡ read_job s) × IsJobPlaced s (job_read job_last job_places)
+        pub job_promised : (given (job_at s) (job_read job_last job_places) ≡ read_job s) × IsJobPlaced s (job_read job_last job_places)
         job_promised = (job_steps, job_placed)
 
   -- ---- a flow
@@ -118,11 +119,11 @@ module _ (s : List ℕ) where
           then_took _ _ (next_took s kind_sets (sets n) l.read e he) (
           pair_took s kind_set_signals kind_odd_signals (each_asks (row_width n) n) (each_asks (row_width n) n) e b r hb hr))
 
-      flow_steps : flow_of_read s (flow_read flow_last flow_places) ≡ read_flow n (drop at s)
+      flow_steps : given (flow_at s) (flow_read flow_last flow_places) ≡ read_flow n (drop at s)
       unfolding read_flow
       flow_steps = by flow_last refl ∙ ap (λ (a : Answer (Front FlowValue)). a >>= λ p. gives (flow_file p)) flow_took.took
         where
-          by : (r : RecordRead) → flow_last ≡ r → flow_of_read s (flow_read r flow_places) ≡ (rest_of s r >>= (λ t. gives (front flow_value t)) >>= λ p. gives (flow_file p))
+          by : (r : RecordRead) → flow_last ≡ r → given (flow_at s) (flow_read r flow_places) ≡ (rest_of s r >>= (λ t. gives (front flow_value t)) >>= λ p. gives (flow_file p))
           by (Payload p) h = ap (λ (r : RecordRead). gives (flow_file (front flow_value (drop (place_of r).end s)))) h
           by (NoRecord q) h = refl
 
@@ -142,5 +143,5 @@ module _ (s : List ℕ) where
               let (ws, kl, pl, _) = choice_placed s _ _ _ _ (start_at at) l hl wl in
               (rw (pr, tb, pb, pe, pl, kl) refl, inside b.taken refl lr pr (lb le))
 
-      pub flow_promised : (flow_of_read s (flow_read flow_last flow_places) ≡ read_flow n (drop at s)) × IsFlowPlaced s at (flow_read flow_last flow_places)
+      pub flow_promised : (given (flow_at s) (flow_read flow_last flow_places) ≡ read_flow n (drop at s)) × IsFlowPlaced s at (flow_read flow_last flow_places)
       flow_promised = (flow_steps, flow_placed)

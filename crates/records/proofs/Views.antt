@@ -6,15 +6,14 @@ use mathlib.Core.Option.{Option, none, some}
 use mathlib.Core.List.{List, []}
 use lib.ListN.{length, drop}
 use Rattle.answers.specs.Answer.{Answer, gives, refuses, ◌>>=◌}
-use Rattle.answers.specs.Refusals.{refusal_of}
+use Rattle.answers.specs.Refusals.{question_of, passed}
 use Rattle.answers.specs.declared.Refusal as Code
 use Rattle.answers.proofs.Answer.{give_inj, never, bind_out}
 use Rattle.records.specs.Records.{carries, Part, all_yes, part, checked}
 use Rattle.records.specs.Format.{Front, front, Format, PayloadFormat, plain, record_of, decode_then, ◌then◌, some_of, optional, optional_if, choice}
-use Rattle.records.specs.Views.{bytes_at, payload_from, checked_of, part_at, record_of_read, IsRecordAt, rest_of, place_of, payload_of, IsNext, start_at, some_if, optional_of_read, optional_behind, IsOptionalAt, IsNextOptional, IsPartner, pair_if, marked, choice_of_read, choice_behind, IsNextChoice}
+use Rattle.records.specs.Views.{bytes_at, payload_from, part_at, record_of_read, IsRecordAt, rest_of, place_of, payload_of, IsNext, start_at, some_if, optional_of_read, optional_behind, IsOptionalAt, IsNextOptional, IsPartner, pair_if, marked, choice_of_read, choice_behind, IsNextChoice}
 use Rattle.records.specs.declared.common.Place.{Place}
-use Rattle.records.specs.declared.questions.Checked.{Checked}
-use Rattle.records.specs.declared.questions.Checked.TheVariants.{Passed, Refused as NotPassed}
+use Rattle.std.specs.Prelude.{Result, Ok, Err}
 use Rattle.records.specs.declared.reader.RecordRead.{RecordRead}
 use Rattle.records.specs.declared.reader.RecordRead.TheVariants.{Payload, Refused as NoRecord}
 use Rattle.records.specs.declared.reader.Branch.{Branch}
@@ -22,16 +21,16 @@ use Rattle.records.proofs.Records.{checked_passed}
 
 -- ---- the record, from what the code found and what it asked
 module _ (s t : List ℕ) (kind : ℕ) (r : RecordRead) (e : record_of_read s r ≡ part kind t) (questions : List ℕ → Answer Bool) where
-  pub checked_stops : (q : Code.Refusal) → r ≡ NoRecord q → refuses (refusal_of q) ≡ checked kind questions t
+  pub checked_stops : (q : Code.Refusal) → r ≡ NoRecord q → refuses (question_of q) ≡ checked kind questions t
   unfolding checked
   checked_stops q h = rw (← e, h) refl
 
-  module _ (p : Place) (h : r ≡ Payload p) (c : Checked) (f : checked_of c ≡ questions (bytes_at p s)) where
-    pub checked_no : (q : Code.Refusal) → c ≡ NotPassed q → refuses (refusal_of q) ≡ checked kind questions t
+  module _ (p : Place) (h : r ≡ Payload p) (c : Result Unit Code.Refusal) (f : passed c ≡ questions (bytes_at p s)) where
+    pub checked_no : (q : Code.Refusal) → c ≡ Err q → refuses (question_of q) ≡ checked kind questions t
     unfolding checked
     checked_no q g = rw (← e, h, ← f, g) refl
 
-    pub checked_yes : c ≡ Passed → gives (part_at s p) ≡ checked kind questions t
+    pub checked_yes : c ≡ Ok tt → gives (part_at s p) ≡ checked kind questions t
     unfolding checked
     checked_yes g = rw (← e, h, ← f, g) refl
 

@@ -1,23 +1,18 @@
 -- What the code's answers say of the file it was given: the code answers places, the definitions speak of bytes.
-use Rattle.std.specs.Prelude.{ℕ, ◌+◌, ◌-◌, ◌≤◌, ◌≡◌, Bool, true, false, cond, ◌&&◌, List, ◌++◌, length, get_or, take, drop}
+use Rattle.std.specs.Prelude.{ℕ, ◌+◌, ◌-◌, ◌≤◌, ◌≡◌, Bool, true, false, cond, ◌&&◌, List, ◌++◌, length, get_or, take, drop, Result, Ok, Err}
 use Rattle.std.proofs.Math.Option.{Option, none, some}
 use Rattle.nodes.specs.Row.{count}
 use Rattle.nodes.specs.Lists.{has}
 use Rattle.answers.specs.Answer.{Answer, gives, refuses, ◌>>=◌}
-use Rattle.answers.specs.Refusals.{refusal_of}
+use Rattle.answers.specs.Refusals.{question_of}
+use Rattle.answers.specs.declared.Refusal as Code
 use Rattle.records.specs.Records.{carries, length_field, Part, all_yes, checked, head_bytes, each_asks, kind_wide_layers, kind_set_signals, kind_angles}
 use Rattle.records.specs.Format.{Front, front, plain, record_of, optional_if}
 use Rattle.records.specs.JobFile.{JobFile, most_nodes, nodes_below, opening_asks, edges_asks, nodes_asks, measurements_asks, angles_asks, has_angles}
 use Rattle.records.specs.FlowFile.{FlowFile, layer_numbers, entries_of, listed, sets_asks}
 use Rattle.records.specs.declared.common.Place.{Place}
 use Rattle.records.specs.declared.common.JobPlaces.{JobPlaces}
-use Rattle.records.specs.declared.common.JobRead.{JobRead}
-use Rattle.records.specs.declared.common.JobRead.TheVariants.{Job, Refused as NoJob}
 use Rattle.records.specs.declared.common.FlowPlaces.{FlowPlaces}
-use Rattle.records.specs.declared.common.FlowRead.{FlowRead}
-use Rattle.records.specs.declared.common.FlowRead.TheVariants.{Flow, Refused as NoFlow}
-use Rattle.records.specs.declared.questions.Checked.{Checked}
-use Rattle.records.specs.declared.questions.Checked.TheVariants.{Passed, Refused as NotPassed}
 use Rattle.records.specs.declared.questions.Questions.{Questions}
 use Rattle.records.specs.declared.questions.Questions.TheVariants.{Opening, Edges, Nodes, Measurements, Angles, Each, Sets}
 use Rattle.records.specs.declared.reader.RecordRead.{RecordRead}
@@ -44,10 +39,6 @@ abbrev pub kept_around : List ℕ → Place → List ℕ → Place → List ℕ
 kept_around s first bytes last = bytes_at first s ++ (bytes ++ bytes_at last s)
 
 -- ---- the questions of a payload
-abbrev pub checked_of : Checked → Answer Bool
-checked_of Passed = gives true
-checked_of (NotPassed q) = refuses (refusal_of q)
-
 abbrev pub asks_of : List ℕ → Questions → List ℕ → Answer Bool
 asks_of s Opening = opening_asks
 asks_of s (Edges n) = edges_asks n
@@ -80,7 +71,7 @@ part_at s p = record { payload = bytes_at p s; rest = drop p.end s }
 
 abbrev pub record_of_read : List ℕ → RecordRead → Answer Part
 record_of_read s (Payload p) = gives (part_at s p)
-record_of_read s (NoRecord q) = refuses (refusal_of q)
+record_of_read s (NoRecord q) = refuses (question_of q)
 
 -- the record that starts at `at`, which lies in the file
 abbrev pub IsRecordAt : List ℕ → (at : ℕ) → RecordRead → Type 0
@@ -94,7 +85,7 @@ start_at at = Payload (record { start = at; end = at })
 -- the bytes behind it
 abbrev pub rest_of : List ℕ → RecordRead → Answer (List ℕ)
 rest_of s (Payload p) = gives (drop p.end s)
-rest_of s (NoRecord q) = refuses (refusal_of q)
+rest_of s (NoRecord q) = refuses (question_of q)
 
 -- the record behind it
 abbrev pub record_behind : List ℕ → RecordRead → ℕ → (List ℕ → Answer Bool) → Answer Part
@@ -172,14 +163,10 @@ job_at s p = record {
   after = drop p.end s;
 }
 
-abbrev pub job_of_read : List ℕ → JobRead → Answer JobFile
-job_of_read s (Job p) = gives (job_at s p)
-job_of_read s (NoJob q) = refuses (refusal_of q)
-
 -- the places are those of a job where the last record was read
-abbrev pub job_read : RecordRead → JobPlaces → JobRead
-job_read (Payload p) places = Job places
-job_read (NoRecord q) places = NoJob q
+abbrev pub job_read : RecordRead → JobPlaces → Result JobPlaces Code.Refusal
+job_read (Payload p) places = Ok places
+job_read (NoRecord q) places = Err q
 
 -- each record starts where the one before it ends
 abbrev pub job_places : List ℕ → JobPlaces
@@ -205,9 +192,9 @@ job_places s =
     }
 
 -- a job that was read lies at these places, in the file
-abbrev pub IsJobPlaced : List ℕ → JobRead → Type 0
-IsJobPlaced s (Job p) = (p ≡ job_places s) × (p.end ≤ length s)
-IsJobPlaced s (NoJob q) = Unit
+abbrev pub IsJobPlaced : List ℕ → Result JobPlaces Code.Refusal → Type 0
+IsJobPlaced s (Ok p) = (p ≡ job_places s) × (p.end ≤ length s)
+IsJobPlaced s (Err q) = Unit
 
 -- ---- a flow
 abbrev pub flow_at : List ℕ → FlowPlaces → FlowFile
@@ -219,13 +206,9 @@ flow_at s p = record {
   after = drop p.end s;
 }
 
-abbrev pub flow_of_read : List ℕ → FlowRead → Answer FlowFile
-flow_of_read s (Flow p) = gives (flow_at s p)
-flow_of_read s (NoFlow q) = refuses (refusal_of q)
-
-abbrev pub flow_read : RecordRead → FlowPlaces → FlowRead
-flow_read (Payload p) places = Flow places
-flow_read (NoRecord q) places = NoFlow q
+abbrev pub flow_read : RecordRead → FlowPlaces → Result FlowPlaces Code.Refusal
+flow_read (Payload p) places = Ok places
+flow_read (NoRecord q) places = Err q
 
 -- its first record starts at `at`
 abbrev pub flow_places : List ℕ → (at : ℕ) → FlowPlaces
@@ -245,6 +228,6 @@ flow_places s at =
       end = second.end;
     }
 
-abbrev pub IsFlowPlaced : List ℕ → (at : ℕ) → FlowRead → Type 0
-IsFlowPlaced s at (Flow p) = (p ≡ flow_places s at) × (p.end ≤ length s)
-IsFlowPlaced s at (NoFlow q) = Unit
+abbrev pub IsFlowPlaced : List ℕ → (at : ℕ) → Result FlowPlaces Code.Refusal → Type 0
+IsFlowPlaced s at (Ok p) = (p ≡ flow_places s at) × (p.end ≤ length s)
+IsFlowPlaced s at (Err q) = Unit

@@ -2,7 +2,6 @@
 ghost use Rattle.std.specs.Prelude.{◌≡◌, ◌<◌, get_or};
 ghost use Rattle.records.specs.Views.{bytes_at};
 
-use answers::Refusal;
 use nodes::utils::CAPACITY;
 
 // The bytes of a record's length and kind.
@@ -75,12 +74,6 @@ pub struct JobPlaces {
     pub end: usize,
 }
 
-#[derive(Clone, Copy)]
-pub enum JobRead {
-    Job(JobPlaces),
-    Refused(Refusal),
-}
-
 // Where the payloads of a flow lie, whether its layers are of the wide kind, whether the signal lists are there, and where it ends.
 #[derive(Clone, Copy)]
 pub struct FlowPlaces {
@@ -91,12 +84,6 @@ pub struct FlowPlaces {
     pub rows: Place,
     pub odds: Place,
     pub end: usize,
-}
-
-#[derive(Clone, Copy)]
-pub enum FlowRead {
-    Flow(FlowPlaces),
-    Refused(Refusal),
 }
 
 // A byte as a number.

@@ -2,23 +2,31 @@
 ghost use Rattle.std.specs.Prelude.{◌≡◌};
 ghost use Rattle.nodes.specs.NodeSet.{member};
 ghost use Rattle.records.specs.JobLists.{given, angles_given, lists_ask};
-ghost use Rattle.records.specs.Views.{checked_of, some_if};
+ghost use Rattle.answers.specs.Refusals.{passed};
+ghost use Rattle.records.specs.Views.{some_if};
 
 use crate::common::{MODE_PLANES, number};
-use crate::questions::{Checked, ask_angles, ask_measurements, below, opening_allowed};
+use crate::questions::{ask_angles, ask_measurements, below, opening_allowed};
 use crate::reader::set_of;
 use answers::Refusal;
 use nodes::utils::NodeSet;
 
 // Angles, where they are given, go with mode 2 only (4); then 3 and 23.
-fn ask_given(angled: bool, angles: &[u8], n: usize, mode: usize, outputs: NodeSet) -> Checked
-    ensures { checked_of result ≡ angles_given n mode (member outputs) (some_if angled angles.now) }
+#[tactic(auto, unfolding(crate::specs::JobLists::angles_given))]
+fn ask_given(
+    angled: bool,
+    angles: &[u8],
+    n: usize,
+    mode: usize,
+    outputs: NodeSet,
+) -> Result<(), Refusal>
+    ensures { passed result ≡ angles_given n mode (member outputs) (some_if angled angles.now) }
 {
     if !angled {
-        return Checked::Passed;
+        return Ok(());
     }
     if mode != number(MODE_PLANES) {
-        return Checked::Refused(Refusal::WRONG_OPENING);
+        return Err(Refusal::WrongOpening);
     }
     ask_angles(angles, n, outputs)
 }
@@ -33,28 +41,25 @@ pub fn ask_lists(
     measurements: &[u8],
     angled: bool,
     angles: &[u8],
-) -> Checked
-    ensures { checked_of result ≡ lists_ask (given n mode edges.now inputs.now outputs.now measurements.now (some_if angled angles.now)) }
+) -> Result<(), Refusal>
+    ensures { passed result ≡ lists_ask (given n mode edges.now inputs.now outputs.now measurements.now (some_if angled angles.now)) }
 {
     if !opening_allowed(n, mode) {
-        return Checked::Refused(Refusal::WRONG_OPENING);
+        return Err(Refusal::WrongOpening);
     }
     if edges.len() % 2 != 0 {
-        return Checked::Refused(Refusal::WRONG_LENGTH);
+        return Err(Refusal::WrongLength);
     }
     if !below(edges, n) {
-        return Checked::Refused(Refusal::NODE_TOO_LARGE);
+        return Err(Refusal::NodeTooLarge);
     }
     if !below(inputs, n) {
-        return Checked::Refused(Refusal::NODE_TOO_LARGE);
+        return Err(Refusal::NodeTooLarge);
     }
     if !below(outputs, n) {
-        return Checked::Refused(Refusal::NODE_TOO_LARGE);
+        return Err(Refusal::NodeTooLarge);
     }
     let set = set_of(outputs);
-    let asked = ask_measurements(measurements, n, mode as u8, outputs, set.count());
-    let Checked::Passed = asked else {
-        return asked;
-    };
+    ask_measurements(measurements, n, mode as u8, outputs, set.count())?;
     ask_given(angled, angles, n, mode, set)
 }

@@ -7,7 +7,8 @@ ghost use Rattle.nodes.specs.Row.{count};
 ghost use Rattle.records.specs.Records.{each_asks};
 ghost use Rattle.records.specs.JobFile.{most_nodes, rises, pairs_rise, highest_of, all_allowed, opening_allowed, opening_asks, edges_asks, nodes_asks, measurements_asks, angles_asks};
 ghost use Rattle.records.specs.FlowFile.{entries_of, listed, all_entries, entry_below, entries_rise, sets_asks, entry_asks};
-ghost use Rattle.records.specs.Views.{checked_of, asks_of, IsOutputs, IsGranted};
+ghost use Rattle.answers.specs.Refusals.{passed};
+ghost use Rattle.records.specs.Views.{asks_of, IsOutputs, IsGranted};
 
 use crate::common::{
     ENTRY_HEAD_BYTES, MODE_CAUSAL, MODE_PAULI, MODE_PLANES, MOST_NODES, Place, number, payload,
@@ -17,13 +18,6 @@ use angles::{ANGLE_BYTES, angles_allowed};
 use answers::Refusal;
 use flows::{PAULI_Z, PLANE_XY, PLANE_XZ};
 use nodes::utils::NodeSet;
-
-// What the questions of a payload or of lists answer.
-#[derive(Clone, Copy)]
-pub enum Checked {
-    Passed,
-    Refused(Refusal),
-}
 
 // The payloads by their questions, with what these are about: the number of nodes, the mode and the outputs; of those that have
 // so many bytes for each node and nothing more to ask, the number of bytes.
@@ -265,63 +259,67 @@ pub(crate) fn opening_allowed(n: usize, mode: usize) -> bool
     mode <= number(MODE_PAULI)
 }
 
-fn ask_opening(opening: &[u8]) -> Checked
-    ensures { checked_of result ≡ opening_asks opening.now }
+#[tactic(auto, unfolding(crate::specs::JobFile::opening_asks))]
+fn ask_opening(opening: &[u8]) -> Result<(), Refusal>
+    ensures { passed result ≡ opening_asks opening.now }
 {
     if opening.len() != 2 {
-        return Checked::Refused(Refusal::WRONG_LENGTH);
+        return Err(Refusal::WrongLength);
     }
     if !opening_allowed(number(opening[0]), number(opening[1])) {
-        return Checked::Refused(Refusal::WRONG_OPENING);
+        return Err(Refusal::WrongOpening);
     }
-    Checked::Passed
+    Ok(())
 }
 
-fn ask_edges(edges: &[u8], n: usize) -> Checked
-    ensures { checked_of result ≡ edges_asks n edges.now }
+#[tactic(auto, unfolding(crate::specs::JobFile::edges_asks))]
+fn ask_edges(edges: &[u8], n: usize) -> Result<(), Refusal>
+    ensures { passed result ≡ edges_asks n edges.now }
 {
     if edges.len() % 2 != 0 {
-        return Checked::Refused(Refusal::WRONG_LENGTH);
+        return Err(Refusal::WrongLength);
     }
     if !below(edges, n) {
-        return Checked::Refused(Refusal::NODE_TOO_LARGE);
+        return Err(Refusal::NodeTooLarge);
     }
     if !pairs_rising(edges) {
-        return Checked::Refused(Refusal::NOT_ASCENDING);
+        return Err(Refusal::NotAscending);
     }
-    Checked::Passed
+    Ok(())
 }
 
-fn ask_nodes(nodes: &[u8], n: usize) -> Checked
-    ensures { checked_of result ≡ nodes_asks n nodes.now }
+#[tactic(auto, unfolding(crate::specs::JobFile::nodes_asks))]
+fn ask_nodes(nodes: &[u8], n: usize) -> Result<(), Refusal>
+    ensures { passed result ≡ nodes_asks n nodes.now }
 {
     if !below(nodes, n) {
-        return Checked::Refused(Refusal::NODE_TOO_LARGE);
+        return Err(Refusal::NodeTooLarge);
     }
     if !rising(nodes) {
-        return Checked::Refused(Refusal::NOT_ASCENDING);
+        return Err(Refusal::NotAscending);
     }
-    Checked::Passed
+    Ok(())
 }
 
 // Of the outputs so many are distinct: in a file all, in an editor's list, where a node may stand twice, perhaps fewer.
+#[tactic(auto, unfolding(crate::specs::JobFile::measurements_asks))]
 pub(crate) fn ask_measurements(
     measurements: &[u8],
     n: usize,
     mode: u8,
     outputs: &[u8],
     distinct: usize,
-) -> Checked
+) -> Result<(), Refusal>
     requires { (n ≤ most_nodes) × IsOutputs n outputs.now distinct }
-    ensures { checked_of result ≡ measurements_asks n mode (has outputs.now) measurements.now }
+    ensures { passed result ≡ measurements_asks n mode (has outputs.now) measurements.now }
 {
     if measurements.len() != n {
-        return Checked::Refused(Refusal::WRONG_LENGTH);
+        return Err(Refusal::WrongLength);
     }
     if !all_allowed(measurements, mode, outputs, distinct) {
-        return Checked::Refused(Refusal::WRONG_MEASUREMENT);
+        return Err(Refusal::WrongMeasurement);
     }
-    Checked::Passed
+    Ok(())
 }
 
 // Are there so many bytes for each of n nodes?
@@ -337,60 +335,62 @@ fn length_is(len: usize, width: usize, n: usize) -> bool
     len / width == n
 }
 
-fn ask_each(bytes: &[u8], width: usize, n: usize) -> Checked
-    ensures { checked_of result ≡ each_asks width n bytes.now }
+#[tactic(auto, unfolding(crate::specs::Records::each_asks))]
+fn ask_each(bytes: &[u8], width: usize, n: usize) -> Result<(), Refusal>
+    ensures { passed result ≡ each_asks width n bytes.now }
 {
     if !length_is(bytes.len(), width, n) {
-        return Checked::Refused(Refusal::WRONG_LENGTH);
+        return Err(Refusal::WrongLength);
     }
-    Checked::Passed
+    Ok(())
 }
 
 // The entry of an output is asked for otherwise than that of a measured node.
-pub(crate) fn ask_angles(angles: &[u8], n: usize, outputs: NodeSet) -> Checked
-    ensures { checked_of result ≡ angles_asks n (member outputs) angles.now }
+pub(crate) fn ask_angles(angles: &[u8], n: usize, outputs: NodeSet) -> Result<(), Refusal>
+    ensures { passed result ≡ angles_asks n (member outputs) angles.now }
 {
     if !length_is(angles.len(), ANGLE_BYTES, n) {
-        return Checked::Refused(Refusal::WRONG_LENGTH);
+        return Err(Refusal::WrongLength);
     }
     if !angles_allowed(n, outputs, angles) {
-        return Checked::Refused(Refusal::WRONG_ANGLE);
+        return Err(Refusal::WrongAngle);
     }
-    Checked::Passed
+    Ok(())
 }
 
-fn ask_sets(sets: &[u8], n: usize) -> Checked
-    ensures { checked_of result ≡ sets_asks n sets.now }
+#[tactic(auto, unfolding(crate::specs::FlowFile::sets_asks))]
+fn ask_sets(sets: &[u8], n: usize) -> Result<(), Refusal>
+    ensures { passed result ≡ sets_asks n sets.now }
 {
     if !entries_end(sets) {
-        return Checked::Refused(Refusal::WRONG_LENGTH);
+        return Err(Refusal::WrongLength);
     }
     if !entries_below(sets, n) {
-        return Checked::Refused(Refusal::NODE_TOO_LARGE);
+        return Err(Refusal::NodeTooLarge);
     }
     if !entries_rising(sets) {
-        return Checked::Refused(Refusal::NOT_ASCENDING);
+        return Err(Refusal::NotAscending);
     }
-    Checked::Passed
+    Ok(())
 }
 
 // The questions of an entry that is lent alone: those of a sets record that is this entry and nothing more.
-pub fn ask_entry(entry: &[u8], n: usize) -> Checked
-    ensures { checked_of result ≡ entry_asks n entry.now }
+pub fn ask_entry(entry: &[u8], n: usize) -> Result<(), Refusal>
+    ensures { passed result ≡ entry_asks n entry.now }
 {
     if entry.len() < ENTRY_HEAD_BYTES {
-        return Checked::Refused(Refusal::WRONG_LENGTH);
+        return Err(Refusal::WrongLength);
     }
     if number(entry[1]) != entry.len() - ENTRY_HEAD_BYTES {
-        return Checked::Refused(Refusal::WRONG_LENGTH);
+        return Err(Refusal::WrongLength);
     }
     ask_sets(entry, n)
 }
 
 // The questions of a payload of the file; those of measurements and angles are asked after those of the outputs.
-pub(crate) fn ask(file: &[u8], questions: Questions, bytes: &[u8]) -> Checked
+pub(crate) fn ask(file: &[u8], questions: Questions, bytes: &[u8]) -> Result<(), Refusal>
     requires { IsGranted file.now questions }
-    ensures { checked_of result ≡ asks_of file.now questions bytes.now }
+    ensures { passed result ≡ asks_of file.now questions bytes.now }
 {
     match questions {
         Questions::Opening => ask_opening(bytes),

@@ -5,14 +5,15 @@ ghost use Rattle.nodes.specs.Lists.{has};
 ghost use Rattle.records.specs.Records.{carries, length_field, kind_field, head_bytes, part, checked, from_two_bytes};
 ghost use Rattle.records.specs.JobFile.{read_job};
 ghost use Rattle.records.specs.FlowFile.{read_flow};
-ghost use Rattle.records.specs.Views.{asks_of, IsGranted, record_of_read, record_behind, start_at, place_of, IsRecordAt, optional_of_read, optional_behind, IsOptionalAt, IsPartner, choice_of_read, choice_behind, job_of_read, job_read, IsJobPlaced, flow_at, flow_of_read, flow_read, IsFlowPlaced};
+ghost use Rattle.answers.specs.Refusals.{given};
+ghost use Rattle.records.specs.Views.{asks_of, IsGranted, record_of_read, record_behind, start_at, place_of, IsRecordAt, optional_of_read, optional_behind, IsOptionalAt, IsPartner, choice_of_read, choice_behind, job_at, job_read, IsJobPlaced, flow_at, flow_read, IsFlowPlaced};
 
 use crate::common::{
-    FlowPlaces, FlowRead, HEAD_BYTES, JobPlaces, JobRead, KIND_ANGLES, KIND_EDGES, KIND_INPUTS,
-    KIND_LAYERS, KIND_MEASUREMENTS, KIND_ODD_SIGNALS, KIND_OPENING, KIND_OUTPUTS, KIND_SET_SIGNALS,
-    KIND_SETS, KIND_WIDE_LAYERS, MODE_PLANES, Place, WIDE_LAYER_BYTES, byte_at, number, payload,
+    FlowPlaces, HEAD_BYTES, JobPlaces, KIND_ANGLES, KIND_EDGES, KIND_INPUTS, KIND_LAYERS,
+    KIND_MEASUREMENTS, KIND_ODD_SIGNALS, KIND_OPENING, KIND_OUTPUTS, KIND_SET_SIGNALS, KIND_SETS,
+    KIND_WIDE_LAYERS, MODE_PLANES, Place, WIDE_LAYER_BYTES, byte_at, number, payload,
 };
-use crate::questions::{Checked, Questions, ask};
+use crate::questions::{Questions, ask};
 use crate::signals::row_width;
 use answers::Refusal;
 use nodes::utils::NodeSet;
@@ -73,12 +74,12 @@ fn head(file: &[u8], at: usize, kind: u16) -> RecordRead
     ensures record_at { IsRecordAt file.now at result }
 {
     if !carried(file, at, kind) {
-        return RecordRead::Refused(Refusal::NO_RECORD);
+        return RecordRead::Refused(Refusal::NoRecord);
     }
     let count = length_field(file, at);
     let start = at + HEAD_BYTES;
     if count > file.len() - start {
-        return RecordRead::Refused(Refusal::CUT_PAYLOAD);
+        return RecordRead::Refused(Refusal::CutPayload);
     }
     RecordRead::Payload(Place {
         start,
@@ -89,6 +90,7 @@ fn head(file: &[u8], at: usize, kind: u16) -> RecordRead
 // ---- One record after the other: what is refused stays refused.
 
 // The record of the expected kind at this place, where its payload passes its questions.
+#[tactic(auto, unfolding(crate::specs::Records::checked))]
 fn read_record(file: &[u8], at: usize, kind: u16, questions: Questions) -> RecordRead
     requires { IsGranted file.now questions }
     ensures result_value { record_of_read file.now result ≡ checked kind (asks_of file.now questions) (drop at file.now) }
@@ -96,8 +98,8 @@ fn read_record(file: &[u8], at: usize, kind: u16, questions: Questions) -> Recor
 {
     match head(file, at, kind) {
         RecordRead::Payload(place) => match ask(file, questions, payload(file, place)) {
-            Checked::Passed => RecordRead::Payload(place),
-            Checked::Refused(q) => RecordRead::Refused(q),
+            Ok(()) => RecordRead::Payload(place),
+            Err(q) => RecordRead::Refused(q),
         },
         RecordRead::Refused(q) => RecordRead::Refused(q),
     }
@@ -229,17 +231,17 @@ fn end_of(read: RecordRead) -> usize
 // ---- A job: five records in order, each once, and in mode 2 perhaps the angles.
 
 // The places are those of a job where the last record was read.
-fn job_read(last: RecordRead, places: JobPlaces) -> JobRead
+fn job_read(last: RecordRead, places: JobPlaces) -> Result<JobPlaces, Refusal>
     ensures { result ≡ job_read last places }
 {
     match last {
-        RecordRead::Payload(_) => JobRead::Job(places),
-        RecordRead::Refused(q) => JobRead::Refused(q),
+        RecordRead::Payload(_) => Ok(places),
+        RecordRead::Refused(q) => Err(q),
     }
 }
 
-pub fn read_job(file: &[u8]) -> JobRead
-    ensures result_value { job_of_read file.now result ≡ read_job file.now }
+pub fn read_job(file: &[u8]) -> Result<JobPlaces, Refusal>
+    ensures result_value { given (job_at file.now) result ≡ read_job file.now }
     ensures job_placed { IsJobPlaced file.now result }
 {
     let opening = next(file, start(0), KIND_OPENING, Questions::Opening);
@@ -271,18 +273,18 @@ pub fn read_job(file: &[u8]) -> JobRead
 
 // ---- A flow: the records of layers and of sets, and both signal lists or neither.
 
-fn flow_read(last: RecordRead, places: FlowPlaces) -> FlowRead
+fn flow_read(last: RecordRead, places: FlowPlaces) -> Result<FlowPlaces, Refusal>
     ensures { result ≡ flow_read last places }
 {
     match last {
-        RecordRead::Payload(_) => FlowRead::Flow(places),
-        RecordRead::Refused(q) => FlowRead::Refused(q),
+        RecordRead::Payload(_) => Ok(places),
+        RecordRead::Refused(q) => Err(q),
     }
 }
 
 // The flow for n nodes that starts at this place.
-pub fn read_flow(file: &[u8], at: usize, n: usize) -> FlowRead
-    ensures result_value { flow_of_read file.now result ≡ read_flow n (drop at file.now) }
+pub fn read_flow(file: &[u8], at: usize, n: usize) -> Result<FlowPlaces, Refusal>
+    ensures result_value { given (flow_at file.now) result ≡ read_flow n (drop at file.now) }
     ensures flow_placed { IsFlowPlaced file.now at result }
 {
     let layers = choice(

@@ -1,14 +1,11 @@
 // The finder's flow and the stored one, each as it is read: the kind of the layers' record may differ, the numbers may not.
 use compare::holds;
-use records::common::{FlowPlaces, FlowRead, payload};
+use records::common::{FlowPlaces, payload};
 use records::reader::{layer_of, read_flow};
 
 // Do the bytes start with a flow of n nodes?
 pub(crate) fn is_flow(file: &[u8], n: usize) -> bool {
-    match read_flow(file, 0, n) {
-        FlowRead::Flow(_) => true,
-        FlowRead::Refused(_) => false,
-    }
+    read_flow(file, 0, n).is_ok()
 }
 
 // Is each node's layer the same number?
@@ -31,16 +28,16 @@ fn same_bytes(x: &[u8], y: &[u8]) -> bool {
 // Is the first, by layers of kind 0021 and with nothing behind its sets, the flow of n nodes that the second holds by either kind?
 pub(crate) fn same_flow(file: &[u8], stored: &[u8], n: usize) -> bool {
     match read_flow(file, 0, n) {
-        FlowRead::Flow(flow) => match read_flow(stored, 0, n) {
-            FlowRead::Flow(wanted) => {
+        Ok(flow) => match read_flow(stored, 0, n) {
+            Ok(wanted) => {
                 flow.wide
                     && flow.sets.end == file.len()
                     && wanted.sets.end == stored.len()
                     && same_layers(file, flow, stored, wanted, n)
                     && same_bytes(payload(file, flow.sets), payload(stored, wanted.sets))
             }
-            FlowRead::Refused(_) => false,
+            Err(_) => false,
         },
-        FlowRead::Refused(_) => false,
+        Err(_) => false,
     }
 }

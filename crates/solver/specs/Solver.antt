@@ -2,15 +2,12 @@
 use Rattle.std.specs.Prelude.{ℕ, ◌+◌, ◌*◌, ◌/◌, ◌<◌, ◌≡◌, ◌↔◌, Bool, true, false, ◌&&◌, List, T, eqb, leb, ltb, length}
 use Rattle.std.proofs.Math.Option.{Option, none, some}
 use Rattle.answers.specs.Answer.{Answer, gives, refuses, asks, ◌>>◌}
-use Rattle.answers.specs.Refusals.{refusal_of}
 use Rattle.nodes.specs.NodeSet.{member, capacity}
 use Rattle.solver.specs.System.{Solves, solve, pivot}
 use Rattle.solver.specs.Reduced.{IsReduced, read_off}
 use Rattle.solver.specs.WorkMatrix.{entry_of, system_of, side_of, within_width, bytes_of}
-use Rattle.solver.specs.declared.gf2_linalg.Elimination.{Elimination}
-use Rattle.solver.specs.declared.gf2_linalg.Elimination.TheVariants.{Pivots, Refused as NotEliminated}
 use Rattle.solver.specs.declared.gf2_linalg.Solved.{Solved}
-use Rattle.solver.specs.declared.gf2_linalg.Solved.TheVariants.{Solvable, Unsolvable, Refused}
+use Rattle.solver.specs.declared.gf2_linalg.Solved.TheVariants.{Solvable, Unsolvable}
 
 -- ---- the sizes
 -- each row, and the out bits, have a bit for each node
@@ -62,17 +59,11 @@ pub record Eliminated (rows cols sides : ℕ) (before after : List ℕ) : Type 0
       ≡ solve (system_of row_bytes before rows) cols (side_of row_bytes before cols side)
   pub reduced : IsReduced rows cols (entry_of row_bytes after)
 
--- ---- the answers, with document 01's number of a refusal
--- the members of the set that an elimination gives
-abbrev pub elimination_of : Elimination → Answer (ℕ → Bool)
-elimination_of (Pivots s) = gives (member s)
-elimination_of (NotEliminated r) = refuses (refusal_of r)
-
+-- ---- the answers
 -- solvable or not
-abbrev pub solved_of : Solved → Answer Bool
-solved_of Solvable = gives true
-solved_of Unsolvable = gives false
-solved_of (Refused r) = refuses (refusal_of r)
+abbrev pub is_solvable : Solved → Bool
+is_solvable Solvable = true
+is_solvable Unsolvable = false
 
 -- ---- the calls
 -- the matrix after a call: eliminated where the call refuses nothing, and else untouched

@@ -1,6 +1,7 @@
 // The solver of equations mod 2: rows of bits, coefficient columns first and then the right sides.
 ghost use Rattle.std.specs.Prelude.{◌≡◌, ◌≢◌, true, ◌&&◌, ◌||◌, ◌+◌, ◌-◌, ◌*◌, ◌<◌, ◌≤◌, length, eqb, ltb};
 ghost use Rattle.answers.specs.Answer.{gives};
+ghost use Rattle.answers.specs.Refusals.{given};
 ghost use Rattle.nodes.specs.Row.{lowest_from};
 ghost use Rattle.nodes.specs.NodeSet.{member};
 ghost use Rattle.nodes.specs.Lists.{zeros};
@@ -9,7 +10,7 @@ ghost use Rattle.solver.specs.WorkMatrix.{entry_of, row_within_width, within_wid
 ghost use Rattle.solver.specs.Steps.{xor_row, add_pivot_row, clear_one, clear_column, eliminate_column, eliminate_columns};
 ghost use Rattle.solver.specs.Steps.{inconsistent_row, no_solution, read_column, lead_bytes, set_bit};
 ghost use Rattle.solver.specs.Solver.{row_bytes, most_columns, matrix_fits, both_fit, well_shaped};
-ghost use Rattle.solver.specs.Solver.{MatrixAfter, elimination_of, solved_of, eliminate_call, outcome, read_off_call, solve_asks, solve_call};
+ghost use Rattle.solver.specs.Solver.{MatrixAfter, is_solvable, eliminate_call, outcome, read_off_call, solve_asks, solve_call};
 
 use answers::Refusal;
 use nodes::utils::{CAPACITY, NodeSet, mask};
@@ -24,18 +25,10 @@ const MOST_COLUMNS: usize = 8 * ROW_BYTES;
 // The bytes of a work matrix with all its rows.
 pub const WORK_BYTES: usize = MOST_ROWS * ROW_BYTES;
 
-// The pivot columns.
-#[derive(Clone, Copy)]
-pub enum Elimination {
-    Pivots(NodeSet),
-    Refused(Refusal),
-}
-
-#[derive(Clone, Copy)]
+#[derive(Clone, Copy, Debug, PartialEq, Eq)]
 pub enum Solved {
     Solvable,
     Unsolvable,
-    Refused(Refusal),
 }
 
 // Whether the row has a bit in the column.
@@ -264,10 +257,11 @@ fn put_leads(matrix: &[u8], out: &mut [u8], rows: usize, cols: usize, asked: usi
 }
 
 // 'No solution' keeps the out bits.
+#[tactic(auto, using(crate::proofs::Leads::read_none, crate::proofs::Leads::read_some))]
 fn answer(matrix: &[u8], out: &mut [u8], rows: usize, cols: usize, asked: usize) -> Solved
     requires { (rows * row_bytes ≤ length matrix.now) × (cols ≤ most_columns) × (asked < most_columns)
         × (length out.old ≡ row_bytes) }
-    ensures { record { answer = solved_of result; out = out.new }
+    ensures { record { answer = gives (is_solvable result); out = out.new }
         ≡ outcome (gives (read_column row_bytes matrix.now rows cols asked)) out.old }
 {
     if no_solution(matrix, rows, cols, asked) {
@@ -310,60 +304,55 @@ fn within_width(matrix: &[u8], rows: usize, width: usize) -> bool
 }
 
 // Each bound is asked before a sum or product of the numbers is made, which then can't wrap.
+#[tactic(auto, unfolding(crate::specs::Solver::matrix_fits))]
 fn matrix_fits(matrix: &[u8], rows: usize, cols: usize, sides: usize) -> bool
     ensures { result ≡ matrix_fits matrix.now rows cols sides }
 {
-    if rows > MOST_ROWS {
-        return false;
-    }
-    if cols > MOST_COLUMNS {
-        return false;
-    }
-    if sides > MOST_COLUMNS - cols {
-        return false;
-    }
-    matrix.len() == rows * ROW_BYTES
+    rows <= MOST_ROWS
+        && cols <= MOST_COLUMNS
+        && sides <= MOST_COLUMNS - cols
+        && matrix.len() == rows * ROW_BYTES
 }
 
+#[tactic(auto, unfolding(crate::specs::Solver::both_fit))]
 fn both_fit(matrix: &[u8], out: &[u8], rows: usize, cols: usize, sides: usize) -> bool
     ensures { result ≡ both_fit matrix.now out.now rows cols sides }
 {
-    if !matrix_fits(matrix, rows, cols, sides) {
-        return false;
-    }
-    out.len() == ROW_BYTES
+    matrix_fits(matrix, rows, cols, sides) && out.len() == ROW_BYTES
 }
 
 // Question 11.
+#[tactic(auto, using(crate::proofs::Solver::fits_out, crate::proofs::Solver::both_fit_out), unfolding(crate::specs::Solver::well_shaped))]
 fn well_shaped(matrix: &[u8], out: &[u8], rows: usize, cols: usize, sides: usize) -> bool
     ensures { result ≡ well_shaped matrix.now out.now rows cols sides }
 {
-    if rows == 0 {
-        return false;
-    }
-    if sides == 0 {
-        return false;
-    }
-    if !both_fit(matrix, out, rows, cols, sides) {
-        return false;
-    }
-    within_width(matrix, rows, cols + sides)
+    rows > 0
+        && sides > 0
+        && both_fit(matrix, out, rows, cols, sides)
+        && within_width(matrix, rows, cols + sides)
 }
 
 // The matrix is brought to reduced form by adding rows to each other; the answer is the set of its pivot columns.
-pub fn eliminate(matrix: &mut [u8], rows: usize, cols: usize, sides: usize) -> Elimination
-    ensures result_value { elimination_of result ≡ eliminate_call matrix.old rows cols sides }
+#[tactic(auto, using(crate::proofs::Solver::fits_out, crate::proofs::Solver::is_eliminated), unfolding(crate::specs::Solver::eliminate_call))]
+pub fn eliminate(
+    matrix: &mut [u8],
+    rows: usize,
+    cols: usize,
+    sides: usize,
+) -> Result<NodeSet, Refusal>
+    ensures result_value { given member result ≡ eliminate_call matrix.old rows cols sides }
     ensures matrix_after { MatrixAfter (eliminate_call matrix.old rows cols sides) rows cols sides
         matrix.old matrix.new }
 {
     if !matrix_fits(matrix, rows, cols, sides) {
-        return Elimination::Refused(Refusal::WRONG_SHAPE);
+        return Err(Refusal::WrongShape);
     }
     eliminate_columns(matrix, rows, cols);
-    Elimination::Pivots(pivot_columns(matrix, rows, cols))
+    Ok(pivot_columns(matrix, rows, cols))
 }
 
 // What an eliminated matrix answers for one right side.
+#[tactic(auto, using(crate::proofs::Solver::fits_out, crate::proofs::Solver::both_fit_out), unfolding(crate::specs::Solver::read_off_asks))]
 pub fn read_off(
     matrix: &[u8],
     out: &mut [u8],
@@ -371,17 +360,17 @@ pub fn read_off(
     cols: usize,
     sides: usize,
     side: usize,
-) -> Solved
-    ensures { record { answer = solved_of result; out = out.new }
+) -> Result<Solved, Refusal>
+    ensures { record { answer = given is_solvable result; out = out.new }
         ≡ read_off_call matrix.now out.old rows cols sides side }
 {
     if !both_fit(matrix, out, rows, cols, sides) {
-        return Solved::Refused(Refusal::WRONG_SHAPE);
+        return Err(Refusal::WrongShape);
     }
     if side >= sides {
-        return Solved::Refused(Refusal::NO_SUCH_EQUATION);
+        return Err(Refusal::NoSuchEquation);
     }
-    answer(matrix, out, rows, cols, cols + side)
+    Ok(answer(matrix, out, rows, cols, cols + side))
 }
 
 // Both questions are asked before anything is touched.
@@ -392,18 +381,18 @@ pub fn solve_in_place(
     cols: usize,
     sides: usize,
     side: usize,
-) -> Solved
-    ensures out_after { record { answer = solved_of result; out = out.new }
+) -> Result<Solved, Refusal>
+    ensures out_after { record { answer = given is_solvable result; out = out.new }
         ≡ solve_call matrix.old out.old rows cols sides side }
     ensures matrix_after { MatrixAfter (solve_asks matrix.old out.old rows cols sides side) rows cols sides
         matrix.old matrix.new }
 {
     if !well_shaped(matrix, out, rows, cols, sides) {
-        return Solved::Refused(Refusal::WRONG_SHAPE);
+        return Err(Refusal::WrongShape);
     }
     if side >= sides {
-        return Solved::Refused(Refusal::NO_SUCH_EQUATION);
+        return Err(Refusal::NoSuchEquation);
     }
     eliminate_columns(matrix, rows, cols);
-    answer(matrix, out, rows, cols, cols + side)
+    Ok(answer(matrix, out, rows, cols, cols + side))
 }

@@ -4,8 +4,7 @@
 ghost use Rattle.std.specs.Prelude.{◌≤◌, length};
 ghost use Rattle.streams.specs.Streams.{IsInBuffer};
 
-use answers::Refusal;
-use messages::{LINE_ROOM, message};
+use answers::{LINE_ROOM, RefusalRecord, message};
 use std::env::FillError;
 use std::io;
 use std::io::{Cursor, Read, Stderr, Stdin, Stdout, Write};
@@ -117,17 +116,17 @@ pub fn error_number(err: Stderr, x: usize) {
 }
 
 // The line of a refusal.
-fn write_line(to: &impl Print, q: Refusal) -> io::Result<()> {
+fn write_line(to: &impl Print, q: RefusalRecord) -> io::Result<()> {
     let mut line = [0u8; LINE_ROOM];
     let k = message(q, &mut line);
     to.write_all(&line[..k])
 }
 
-pub fn print_line(out: Stdout, q: Refusal) -> io::Result<()> {
+pub fn print_line(out: Stdout, q: RefusalRecord) -> io::Result<()> {
     write_line(&out, q)
 }
 
-pub fn tell(err: Stderr, q: Refusal) {
+pub fn tell(err: Stderr, q: RefusalRecord) {
     let _ = write_line(&err, q);
 }
 

@@ -5,7 +5,7 @@ use Prim.Native.Nat.{ℕ}
 use Prim.Native.String.{String}
 use Rattle.answers.specs.Answer.{gives, refuses, refusal}
 use Rattle.nodes.specs.Lists.{equal, zeros}
-use Rattle.messages.specs.Message.{codes}
+use Rattle.answers.specs.Message.{codes}
 use Rattle.texts.specs.Pieces.{until, past, pieces}
 use Rattle.texts.specs.Words.{place_in, with_digits}
 use Rattle.texts.specs.JobText.{TextRead, numbers, faulty, out_of_order, wrong_shape, no_word, too_many, after_words, after_lines, read_text, behind, measured}

@@ -6,7 +6,7 @@ use native.Mathlib.Numerals.{add-one}
 use native.Mathlib.Omega.{arith}
 use lib.ListN.{length, get_or, set, drop, length-append}
 use lib.Seq.{sets, length-sets, drop-cons}
-use Rattle.messages.proofs.Sets.{sets-append}
+use Rattle.answers.proofs.Sets.{sets-append}
 use Rattle.texts.specs.Placed.{HasRoom, Puts}
 
 -- ---- two pieces

@@ -13,8 +13,8 @@ use lib.ListN.{length, get_or, drop, length-append, length-drop, drop_of_length-
 use Rattle.nodes.specs.Lists.{has, all}
 use Rattle.nodes.proofs.Logic.{and_out}
 use Rattle.answers.specs.Answer.{Refusal, gives, refuses, refusal}
-use Rattle.messages.specs.Message.{codes, in_decimal}
-use Rattle.messages.proofs.Decimal.{decimal_most}
+use Rattle.answers.specs.Message.{codes, in_decimal}
+use Rattle.answers.proofs.Decimal.{decimal_most}
 use Rattle.records.specs.JobFile.{JobFile, read_job, nodes_below}
 use Rattle.records.specs.JobLists.{without_angles}
 use Rattle.records.specs.Encoding.{job_bytes, IsValidJob}

@@ -10,7 +10,7 @@ use lib.Dec.{eqb, leb, ltb}
 use lib.ListN.{length, get_or, length-append}
 use Rattle.nodes.specs.Lists.{has, all}
 use Rattle.nodes.proofs.Logic.{and_out}
-use Rattle.messages.specs.Message.{codes, in_decimal}
+use Rattle.answers.specs.Message.{codes, in_decimal}
 use Rattle.records.specs.JobFile.{JobFile}
 use Rattle.records.specs.Encoding.{IsBytes}
 use Rattle.texts.specs.Pieces.{pieces}

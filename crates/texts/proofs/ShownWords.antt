@@ -13,7 +13,7 @@ use Rattle.nodes.specs.Lists.{all, equal}
 use Rattle.nodes.specs.Row.{all_below}
 use Rattle.nodes.proofs.Logic.{and_out, is_true}
 use Rattle.nodes.proofs.Row.{all_out}
-use Rattle.messages.specs.Message.{codes, decimal_in, in_decimal}
+use Rattle.answers.specs.Message.{codes, decimal_in, in_decimal}
 use Rattle.records.proofs.Records.{all-append}
 use Rattle.texts.specs.Pieces.{parting, until, past, pieces}
 use Rattle.texts.specs.Words.{names, name_count, place_in, is_digit, with_digit, with_digits, value_of, numbers_of, word_of, most_number}

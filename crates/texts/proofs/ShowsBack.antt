@@ -13,7 +13,7 @@ use Rattle.nodes.specs.Lists.{has, zeros}
 use Rattle.nodes.specs.Options.{is_some}
 use Rattle.answers.specs.Answer.{Answer, gives}
 use Rattle.answers.proofs.Answer.{give_inj, bind_out, asks_out}
-use Rattle.messages.specs.Message.{codes}
+use Rattle.answers.specs.Message.{codes}
 use Rattle.flows.specs.Job.{plane_xy, plane_xz, pauli_z}
 use Rattle.records.specs.JobFile.{JobFile, mode_causal, mode_planes, nodes_below, highest_of, read_job}
 use Rattle.records.specs.JobLists.{JobLists, lists_of, without_angles}

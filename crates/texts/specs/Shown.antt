@@ -4,7 +4,7 @@ use Prim.Native.Char.{code}
 use Rattle.nodes.specs.Lists.{has}
 use Rattle.nodes.specs.Options.{is_some}
 use Rattle.answers.specs.Answer.{Answer, gives, asks, ◌>>=◌, ◌>>◌}
-use Rattle.messages.specs.Message.{codes, in_decimal}
+use Rattle.answers.specs.Message.{codes, in_decimal}
 use Rattle.records.specs.Encoding.{IsBytes}
 use Rattle.records.specs.JobFile.{JobFile, read_job}
 use Rattle.records.specs.FlowFile.{nothing_left}

@@ -1,10 +1,10 @@
 -- What the code's answers say, with the buffer that holds the numbers.
 use Rattle.std.specs.Prelude.{ℕ, ◌≤◌, List, length, take}
 use Rattle.answers.specs.Answer.{Answer, gives, refuses}
-use Rattle.answers.specs.Refusals.{refusal_of}
+use Rattle.answers.specs.Refusals.{question_of}
 use Rattle.texts.specs.JobText.{Reading, read, fault, TextRead, numbers, faulty, Ending, ends, broken}
-use Rattle.records.specs.declared.questions.Checked.{Checked}
-use Rattle.records.specs.declared.questions.Checked.TheVariants.{Passed, Refused as NotPassed}
+use Rattle.std.specs.Prelude.{Result, Ok, Err}
+use Rattle.answers.specs.declared.Refusal as Refused
 use Rattle.texts.specs.declared.reader.State.{State}
 use Rattle.texts.specs.declared.reader.Step.{Step}
 use Rattle.texts.specs.declared.reader.Step.TheVariants.{On, Fault}
@@ -34,12 +34,12 @@ IsTextInRoom (Numbers k) buffer = k ≤ length buffer
 IsTextInRoom (FaultAt before k) buffer = Unit {0}
 
 -- the measurements of the nodes, where nothing was refused
-abbrev pub table_in : Checked → List ℕ → Answer (List ℕ)
-table_in Passed table = gives table
-table_in (NotPassed q) table = refuses (refusal_of q)
+abbrev pub table_in : Result Unit Refused.Refusal → List ℕ → Answer (List ℕ)
+table_in (Ok u) table = gives table
+table_in (Err q) table = refuses (question_of q)
 
 -- how a text ended
 abbrev pub ending_of : Told → Ending
 ending_of (Wrote k) = ends (gives k)
-ending_of (Refused q) = ends (refuses (refusal_of q))
+ending_of (Refused q) = ends (refuses (question_of q))
 ending_of (Broken before k) = broken before k

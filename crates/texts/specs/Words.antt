@@ -3,7 +3,7 @@ use Rattle.std.specs.Prelude.{ℕ, suc, ◌+◌, ◌-◌, ◌*◌, Bool, cond, �
 use Prim.Native.Char.{code}
 use Rattle.std.proofs.Math.Option.{Option, none, some}
 use Rattle.nodes.specs.Lists.{equal}
-use Rattle.messages.specs.Message.{codes}
+use Rattle.answers.specs.Message.{codes}
 use Rattle.texts.specs.Pieces.{parting, until, past, pieces}
 use Rattle.texts.specs.declared.pieces.Stop.TheVariants.{Blank, Dash}
 use Rattle.texts.specs.declared.words.Word.{Word}

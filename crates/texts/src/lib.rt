@@ -16,12 +16,11 @@ ghost use Rattle.texts.specs.Views.{ending_of};
 
 use angles::ANGLE_BYTES;
 use answers::Refusal;
+use calls::OPERATOR;
 use calls::write::write_job;
-use calls::{OPERATOR, Reply};
 use lists::{INPUTS, OUTPUTS, measure, select};
 use reader::{EDGES, NUMBER_BYTES, TextRead, read_text};
 use records::common::{HEAD_BYTES, MOST_NODES, byte_at, number};
-use records::questions::Checked;
 
 // How many bytes of a job file were written; why the job was refused; or the fault of the text, behind the number of lines before it.
 #[derive(Clone, Copy)]
@@ -72,8 +71,8 @@ fn write_lists(numbers: &[u8], n: usize, measurements: &[u8], out: &mut [u8]) ->
         measurements,
         out,
     ) {
-        Reply::Wrote(k) => Told::Wrote(k),
-        Reply::Refused(q) => Told::Refused(q),
+        Ok(k) => Told::Wrote(k),
+        Err(q) => Told::Refused(q),
     }
 }
 
@@ -84,8 +83,8 @@ fn write_numbers(numbers: &[u8], out: &mut [u8]) -> Told
     let n = number(byte_at(numbers, NODES_AT));
     let mut table = [0u8; BYTE_VALUES];
     match measure(numbers, &mut table[..n]) {
-        Checked::Passed => write_lists(numbers, n, &table[..n], out),
-        Checked::Refused(q) => Told::Refused(q),
+        Ok(()) => write_lists(numbers, n, &table[..n], out),
+        Err(q) => Told::Refused(q),
     }
 }
 

@@ -6,7 +6,6 @@ ghost use Rattle.texts.specs.Views.{table_in};
 use crate::reader::NUMBER_BYTES;
 use answers::Refusal;
 use records::common::number;
-use records::questions::Checked;
 
 pub(crate) const INPUTS: u8 = 3;
 
@@ -35,26 +34,26 @@ pub(crate) fn select(numbers: &[u8], name: u8, out: &mut [u8]) -> usize
 }
 
 // Is a measured node below n (5), and measured once (21)?
-fn measure_one(name: u8, v: u8, table: &mut [u8]) -> Checked
+fn measure_one(name: u8, v: u8, table: &mut [u8]) -> Result<(), Refusal>
     ensures table_after { table_in result table.new ≡ measured_one name v table.old }
     ensures table_len_unchanged { length table.new ≡ length table.old }
 {
     if name < FIRST_MEASUREMENT {
-        return Checked::Passed;
+        return Ok(());
     }
     let x = number(v);
     if x >= table.len() {
-        return Checked::Refused(Refusal::NODE_TOO_LARGE);
+        return Err(Refusal::NodeTooLarge);
     }
     if table[x] != 0 {
-        return Checked::Refused(Refusal::GIVEN_TWICE);
+        return Err(Refusal::GivenTwice);
     }
     table[x] = name - OUTPUTS;
-    Checked::Passed
+    Ok(())
 }
 
 // The measurement of each node.
-pub(crate) fn measure(numbers: &[u8], table: &mut [u8]) -> Checked
+pub(crate) fn measure(numbers: &[u8], table: &mut [u8]) -> Result<(), Refusal>
     ensures table_after { table_in result table.new ≡ measured numbers.now table.old }
     ensures table_len_unchanged { length table.new ≡ length table.old }
 {
@@ -62,10 +61,8 @@ pub(crate) fn measure(numbers: &[u8], table: &mut [u8]) -> Checked
     let mut i = 0;
     while i < pairs {
         let at = NUMBER_BYTES * i;
-        if let Checked::Refused(q) = measure_one(numbers[at], numbers[at + 1], table) {
-            return Checked::Refused(q);
-        }
+        measure_one(numbers[at], numbers[at + 1], table)?;
         i += 1;
     }
-    Checked::Passed
+    Ok(())
 }

@@ -1,7 +1,7 @@
 // Text put into a buffer piece by piece: each piece has room there, and the answer is the place behind it.
 ghost use Rattle.std.specs.Prelude.{◌≡◌, ◌<◌};
-ghost use Rattle.messages.specs.Message.{in_decimal};
-ghost use Rattle.messages.specs.Message.{digit};
+ghost use Rattle.answers.specs.Message.{in_decimal};
+ghost use Rattle.answers.specs.Message.{digit};
 ghost use Rattle.texts.specs.Shown.{shown_number};
 ghost use Rattle.texts.specs.Placed.{HasRoom, Puts};
 

@@ -3,7 +3,7 @@ ghost use Rattle.std.specs.Prelude.{◌≡◌, cond, [], ◌++◌, ◌≤◌, le
 ghost use Rattle.nodes.specs.Lists.{has};
 ghost use Rattle.nodes.specs.NodeSet.{highest};
 ghost use Rattle.answers.specs.Answer.{gives};
-ghost use Rattle.messages.specs.Message.{codes};
+ghost use Rattle.answers.specs.Message.{codes};
 ghost use Rattle.records.specs.JobFile.{read_job};
 ghost use Rattle.records.specs.Views.{job_at};
 ghost use Rattle.demands.specs.Calls.{put};
@@ -13,8 +13,7 @@ ghost use Rattle.texts.specs.Placed.{HasRoom, Puts};
 
 use crate::putting::{put_bytes, put_decimal, put_number};
 use answers::Refusal;
-use calls::Reply;
-use records::common::{JobPlaces, JobRead, number, payload};
+use records::common::{JobPlaces, number, payload};
 use records::reader::{read_job, set_of};
 
 // The text of every job has room here.
@@ -146,16 +145,16 @@ fn put_job(out: &mut [u8], file: &[u8], job: JobPlaces) -> usize
 }
 
 // The bytes at the front of the lent buffer. Do they fit it (20)?
-fn put_front(out: &mut [u8], bytes: &[u8]) -> Reply
+fn put_front(out: &mut [u8], bytes: &[u8]) -> Result<usize, Refusal>
     ensures { record { answer = reply_of result; work = []; out = out.new } ≡ put [] bytes.now out.old }
 {
     if out.len() < bytes.len() {
-        return Reply::Refused(Refusal::RESULT_TOO_LONG);
+        return Err(Refusal::ResultTooLong);
     }
-    Reply::Wrote(put_bytes(out, 0, bytes))
+    Ok(put_bytes(out, 0, bytes))
 }
 
-fn show_job(file: &[u8], job: JobPlaces, out: &mut [u8]) -> Reply
+fn show_job(file: &[u8], job: JobPlaces, out: &mut [u8]) -> Result<usize, Refusal>
     requires { (read_job file.now ≡ gives (job_at file.now job)) × ((job_at file.now job).after ≡ []) }
     ensures { record { answer = reply_of result; work = []; out = out.new } ≡ put [] (shown_text (job_at file.now job)) out.old }
 {
@@ -165,25 +164,23 @@ fn show_job(file: &[u8], job: JobPlaces, out: &mut [u8]) -> Reply
 }
 
 // Is nothing left (8)? Are there no angles, which a text has not and an operator may not see (24)?
-fn show_read(file: &[u8], job: JobPlaces, out: &mut [u8]) -> Reply
+fn show_read(file: &[u8], job: JobPlaces, out: &mut [u8]) -> Result<usize, Refusal>
     requires { (read_job file.now ≡ gives (job_at file.now job)) × (job.end ≤ length file.now) }
     ensures { record { answer = reply_of result; work = []; out = out.new } ≡ show_text file.now out.old }
 {
     if job.end != file.len() {
-        return Reply::Refused(Refusal::BYTES_LEFT);
+        return Err(Refusal::BytesLeft);
     }
     if job.angled {
-        return Reply::Refused(Refusal::NOT_THE_OWNER);
+        return Err(Refusal::NotTheOwner);
     }
     show_job(file, job, out)
 }
 
 // The text goes to the front of the lent buffer; a refusal leaves it untouched.
-pub fn show_text(file: &[u8], out: &mut [u8]) -> Reply
+pub fn show_text(file: &[u8], out: &mut [u8]) -> Result<usize, Refusal>
     ensures { record { answer = reply_of result; work = []; out = out.new } ≡ show_text file.now out.old }
 {
-    match read_job(file) {
-        JobRead::Job(job) => show_read(file, job, out),
-        JobRead::Refused(q) => Reply::Refused(q),
-    }
+    let job = read_job(file)?;
+    show_read(file, job, out)
 }

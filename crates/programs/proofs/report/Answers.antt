@@ -1,5 +1,5 @@
 use mathlib.Core.Path.{sym, ap, ◌∙◌}
-use Rattle.messages.specs.Message.{put_whole}
+use Rattle.answers.specs.Message.{put_whole}
 use Rattle.programs.specs.Printing.{refused_of}
 use Rattle.programs.specs.declared.output.Told.{Told}
 use Rattle.demands.specs.Programs.{error_of}

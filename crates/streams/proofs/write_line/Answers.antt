@@ -1,6 +1,6 @@
 use Rattle.std.proofs.Common.{sym, arith}
 use Rattle.std.proofs.lemmas.List.{length-take-le}
-use Rattle.messages.proofs.Lines.{written_few}
+use Rattle.answers.proofs.Lines.{written_few}
 use Rattle.streams.proofs.write_line.Goals as goal
 
 pub slice_bounds-line-end : goal.slice_bounds-line-end

@@ -4,7 +4,9 @@ use lib.Seq.{length-take-le}
 use Rattle.demands.specs.Calls.{Outcome}
 use Rattle.demands.specs.Roles.{operator, writing, called}
 use Rattle.calls.specs.Replies.{reply_of}
-use Rattle.calls.specs.declared.Reply.{Reply}
+use Prim.Native.Nat.{ℕ}
+use Rattle.std.specs.Prelude.{Result}
+use Rattle.answers.specs.declared.Refusal.{Refusal}
 use Rattle.texts.specs.JobText.{made_by, lists_in}
 use Rattle.texts.proofs.write_lists.Goals as goal
 use Rattle.texts.proofs.write_lists.Goals.{After-write_job}
@@ -25,10 +27,10 @@ made c =
     let mode = c.number-mode.ensures.0 ∙ c.byte_at.ensures in
     rw (c.requires.1, mode, c.select-e.ensures.1, c.select-i.ensures.1, c.select-o.ensures.1) at c.write_job.ensures
 
-pub returns-in-Wrote : goal.returns-in-Wrote
-returns-in-Wrote c =
-    ap (λ (r : Reply). made_by (record { answer = reply_of r; work = []; out = c.write_job.new.out })) (sym c.in-Wrote.is) ∙ ap made_by (made (goal.at.returns-in-Wrote c).After-write_job)
+pub returns-in-Ok : goal.returns-in-Ok
+returns-in-Ok c =
+    ap (λ (r : Result ℕ Refusal). made_by (record { answer = reply_of r; work = []; out = c.write_job.new.out })) (sym c.in-Ok.is) ∙ ap made_by (made (goal.at.returns-in-Ok c).After-write_job)
 
-pub returns-in-Refused : goal.returns-in-Refused
-returns-in-Refused c =
-    ap (λ (r : Reply). made_by (record { answer = reply_of r; work = []; out = c.write_job.new.out })) (sym c.in-Refused.is) ∙ ap made_by (made (goal.at.returns-in-Refused c).After-write_job)
+pub returns-in-Err : goal.returns-in-Err
+returns-in-Err c =
+    ap (λ (r : Result ℕ Refusal). made_by (record { answer = reply_of r; work = []; out = c.write_job.new.out })) (sym c.in-Err.is) ∙ ap made_by (made (goal.at.returns-in-Err c).After-write_job)

@@ -6,7 +6,8 @@ use lib.ListN.{length, take, drop, length-replicate, length-append}
 use lib.Seq.{length-take-le, take_at}
 use Rattle.answers.specs.Answer.{Answer, gives}
 use Rattle.nodes.specs.Lists.{zeros}
-use Rattle.records.specs.declared.questions.Checked.{Checked}
+use Rattle.std.specs.Prelude.{Result}
+use Rattle.answers.specs.declared.Refusal.{Refusal}
 use Rattle.texts.specs.JobText.{node_count, measured, made_of}
 use Rattle.texts.specs.Views.{table_in}
 use Rattle.texts.proofs.Numbers.{fewer_zeros}
@@ -35,14 +36,14 @@ lent-at-After-measure c = length-take-le c.number-n.result (zeros 256) (omega (a
 size : (c : After-measure) → length c.measure.new.table ≡ c.number-n.result
 size c = c.measure.ensures.table_len_unchanged ∙ lent-at-After-measure c
 
-table : (c : After-measure) (r : Checked) → c.measure.result ≡ r → let a = c.args in table_in r c.measure.new.table ≡ measured a.numbers.now (zeros (node_count a.numbers.now))
+table : (c : After-measure) (r : Result Unit Refusal) → c.measure.result ≡ r → let a = c.args in table_in r c.measure.new.table ≡ measured a.numbers.now (zeros (node_count a.numbers.now))
 table c r e = let a = c.args in
-    ap (λ (k : Checked). table_in k c.measure.new.table) (sym e)
+    ap (λ (k : Result Unit Refusal). table_in k c.measure.new.table) (sym e)
     ∙ c.measure.ensures.table_after
     ∙ ap (measured a.numbers.now) (fewer_zeros 256 c.number-n.result (omega (arith, (count-at-After-measure c).1)) ∙ ap zeros (count-at-After-measure c).0)
 
-pub slice_bounds-table-end-in-Passed : goal.slice_bounds-table-end-in-Passed
-slice_bounds-table-end-in-Passed c = omega (arith, size (goal.at.slice_bounds-table-end-in-Passed c).After-measure, length-append c.measure.new.table (drop c.number-n.result (zeros 256)))
+pub slice_bounds-table-end-in-Ok : goal.slice_bounds-table-end-in-Ok
+slice_bounds-table-end-in-Ok c = omega (arith, size (goal.at.slice_bounds-table-end-in-Ok c).After-measure, length-append c.measure.new.table (drop c.number-n.result (zeros 256)))
 
 -- they are at the front
 
@@ -55,11 +56,11 @@ slice_bounds-write_lists-end c = sym (ap length (front (goal.at.slice_bounds-wri
 pub write_lists-requires : goal.write_lists-requires
 write_lists-requires c = (c.requires, (count (goal.at.write_lists-requires c).After-number-n).0)
 
-pub returns-in-Passed : goal.returns-in-Passed
-returns-in-Passed c = let a = c.args in
+pub returns-in-Ok : goal.returns-in-Ok
+returns-in-Ok c = let a = c.args in
     c.write_lists.ensures
-    ∙ ap (λ (t : List ℕ). made_of a.numbers.now (gives t) a.out.now) (front (goal.at.returns-in-Passed c).After-measure)
-    ∙ ap (λ (t : Answer (List ℕ)). made_of a.numbers.now t a.out.now) (table (goal.at.returns-in-Passed c).After-measure _ c.in-Passed.is)
+    ∙ ap (λ (t : List ℕ). made_of a.numbers.now (gives t) a.out.now) (front (goal.at.returns-in-Ok c).After-measure)
+    ∙ ap (λ (t : Answer (List ℕ)). made_of a.numbers.now t a.out.now) (table (goal.at.returns-in-Ok c).After-measure _ c.in-Ok.is)
 
-pub returns-in-Refused : goal.returns-in-Refused
-returns-in-Refused c = let a = c.args in ap (λ (t : Answer (List ℕ)). made_of a.numbers.now t a.out.now) (table (goal.at.returns-in-Refused c).After-measure _ c.in-Refused.is)
+pub returns-in-Err : goal.returns-in-Err
+returns-in-Err c = let a = c.args in ap (λ (t : Answer (List ℕ)). made_of a.numbers.now t a.out.now) (table (goal.at.returns-in-Err c).After-measure _ c.in-Err.is)

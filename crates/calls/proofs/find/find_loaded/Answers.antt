@@ -1,3 +1,4 @@
+use Rattle.std.specs.Prelude.{Ok}
 use Prim.Native.Nat.{ℕ}
 use mathlib.Core.Path.{◌≡◌, ap, ap₂, ◌∙◌}
 use mathlib.Core.List.{List}
@@ -7,17 +8,19 @@ use Rattle.nodes.specs.NodeSet.{member, capacity}
 use Rattle.nodes.specs.SetTable.{table_words}
 use Rattle.nodes.specs.Lists.{zeros}
 use Rattle.solver.specs.Solver.{work_bytes}
-use Rattle.finder.specs.Searches.{SearchOutcome, search_of, searched}
+use Rattle.std.proofs.lemmas.Result.{err_from_is_err_and}
+use Rattle.answers.specs.Refusals.{given}
+use Rattle.finder.specs.Searches.{SearchOutcome, is_flow, searched}
 use Rattle.records.specs.Splice.{put_front, put_answer}
 use Rattle.calls.specs.Replies.{records_for}
 use Rattle.calls.proofs.Finding.{put_is, told_flow, told_none, told_right, progress_of, search_goes, flow_written, none_written}
 use borrow.Author.Rules.{rules}
 use Rattle.calls.proofs.find.find_loaded.Goals as goal
-use Rattle.calls.proofs.find.find_loaded.Goals.{After-sets-2-1}
+use Rattle.calls.proofs.find.find_loaded.Goals.{After-find}
 
 -- what the search left
 
-left : (c : After-sets-2-1) → let r = c.find in ◌≡◌ {A = SearchOutcome} (record { answer = search_of r.result; work = r.new.work; layers = r.new.layers; sets = r.new.sets }) (searched c.args.job.n (progress_of c.args.job.n c.args.job.mode c.args.graph.now c.args.measured.now c.args.job.inputs c.args.job.outputs))
+left : (c : After-find) → let r = c.find in ◌≡◌ {A = SearchOutcome} (record { answer = given is_flow r.result; work = r.new.work; layers = r.new.layers; sets = r.new.sets }) (searched c.args.job.n (progress_of c.args.job.n c.args.job.mode c.args.graph.now c.args.measured.now c.args.job.inputs c.args.job.outputs))
 left c =
     let a = c.args in
     c.find.ensures
@@ -30,7 +33,7 @@ write_found-requires c = let size : length c.find.new.layers ≡ capacity = sear
 
 pub returns-in-Flow : goal.returns-in-Flow
 returns-in-Flow c = let a = c.args in
-    let e = left (goal.at.returns-in-Flow c).After-sets-2-1 in let told = told_flow _ _ (ap (λ (o : SearchOutcome). o.answer) e) c.in-Flow.is in
+    let e = left (goal.at.returns-in-Flow c).After-find in let told = told_flow _ _ (ap (λ (o : SearchOutcome). o.answer) e) (c.in_ok-find.was ∙ ap Ok c.in-Flow.is) in
     let wrote = c.write_found in
     let bytes =
     ap₂ (λ (l t : List ℕ). records_for a.job.n (member a.job.outputs) l t) (ap (λ (o : SearchOutcome). o.layers) e) (ap (λ (o : SearchOutcome). o.sets) e)
@@ -39,10 +42,10 @@ returns-in-Flow c = let a = c.args in
 
 pub returns-in-NoFlow : goal.returns-in-NoFlow
 returns-in-NoFlow c = let a = c.args in
-    let e = left (goal.at.returns-in-NoFlow c).After-sets-2-1 in let told = told_none _ _ (ap (λ (o : SearchOutcome). o.answer) e) c.in-NoFlow.is in
+    let e = left (goal.at.returns-in-NoFlow c).After-find in let told = told_none _ _ (ap (λ (o : SearchOutcome). o.answer) e) (c.in_ok-find.was ∙ ap Ok c.in-NoFlow.is) in
     let wrote = c.write_bare in
     let bytes = none_written a.job.n a.job.mode a.graph.now a.measured.now a.job.inputs a.job.outputs told in
     put_is _ a.out.now _ _ (zeros work_bytes) _ (wrote.ensures.result_value ∙ ap (λ (b : List ℕ). put_answer b a.out.now) bytes) (wrote.ensures.out_after ∙ ap (λ (b : List ℕ). put_front b a.out.now) bytes) (ap (λ (o : SearchOutcome). o.work) e)
 
-pub returns-in-Refused : goal.returns-in-Refused
-returns-in-Refused c = absurd (told_right _ _ (ap (λ (o : SearchOutcome). o.answer) (left (goal.at.returns-in-Refused c).After-sets-2-1)) _ c.in-Refused.is)
+pub returns-in_err-find : goal.returns-in_err-find
+returns-in_err-find c = absurd (told_right _ _ (ap (λ (o : SearchOutcome). o.answer) (left (goal.at.returns-in_err-find c).After-find)) _ c.in_err-find.was)

@@ -1,3 +1,4 @@
+use Rattle.std.proofs.lemmas.Result.{err_from_is_err_and}
 use mathlib.Core.Path.{◌≡◌, sym, ap, ◌∙◌, fun_ext}
 use mathlib.Core.Bool.{Bool, ◌&&◌, not}
 use mathlib.Core.List.{[]}
@@ -16,7 +17,8 @@ use Rattle.flows.specs.Job.{Job}
 use Rattle.records.specs.JobFile.{mode_causal}
 use Rattle.records.specs.FlowFile.{Flow}
 use Rattle.verdicts.specs.Verdict.{each, causal_ask, definition_ask}
-use Rattle.calls.specs.Loaded.{flow_in, no_nodes, within, asked_of}
+use Rattle.answers.specs.Refusals.{asked_of}
+use Rattle.calls.specs.Loaded.{flow_in, no_nodes, within}
 use Rattle.calls.proofs.AskingDefinition.{node_output, only, only_start, only-none, only_at, only_next, causal_node}
 use Rattle.nodes.proofs.Members.{lowest_some}
 use Rattle.calls.proofs.flow.check_node.Invariants.{asks}
@@ -63,15 +65,15 @@ loop-s-init c = let a = c.args in
     let s : member c.intersection-s.result ≡ (λ k. set_at a.sets.now a.i k && within a.n k) = c.intersection-s.ensures ∙ fun_ext (λ k. rw (c.set_at.ensures, c.below.ensures)) in
     (λ k t. below a.n (set_at a.sets.now a.i) k (rw s at t), only_start a.n (set_at a.sets.now a.i) (asks a.n a.graph.now a.layers.now a.i) (λ k l. set_past a.sets.now a.i k l) ∙ ap (λ (f : ℕ → Bool). each a.n (only f (asks a.n a.graph.now a.layers.now a.i))) (sym s))
 
-pub check_pair-a-requires : goal.check_pair-a-requires
-check_pair-a-requires c =
-    (c.requires.0, c.requires.1, omega (arith, c.lowest.ensures, lowest_some capacity (member c.loop-s.s) (left (goal.at.check_pair-a-requires c).In-loop-s)))
+pub check_pair-requires : goal.check_pair-requires
+check_pair-requires c =
+    (c.requires.0, c.requires.1, omega (arith, c.lowest.ensures, lowest_some capacity (member c.loop-s.s) (left (goal.at.check_pair-requires c).In-loop-s)))
 
-pub returns-in_default : goal.returns-in_default
-returns-in_default c =
+pub returns-in_err-check_pair : goal.returns-in_err-check_pair
+returns-in_err-check_pair c =
     let a = c.args in
-    let t = ap asked_of c.in_default.is in
-    t ∙ sym (still (goal.at.returns-in_default c).At-loop-s ∙ only_at a.n (member c.loop-s.s) (asks a.n a.graph.now a.layers.now a.i) (left (goal.at.returns-in_default c).In-loop-s) c.lowest.result c.lowest.ensures c.loop-s.invariant.0 _ (sym c.check_pair-a.ensures ∙ t))
+    let t = ap asked_of c.in_err-check_pair.was in
+    let p = err_from_is_err_and c.from_residual.result c.from_residual.ensures.1 in rw (p.1, p.2) (sym (still (goal.at.returns-in_err-check_pair c).At-loop-s ∙ only_at a.n (member c.loop-s.s) (asks a.n a.graph.now a.layers.now a.i) (left (goal.at.returns-in_err-check_pair c).In-loop-s) c.lowest.result c.lowest.ensures c.loop-s.invariant.0 _ (sym c.check_pair.ensures ∙ t)))
 
 pub loop-s-smaller : goal.loop-s-smaller
 loop-s-smaller c =
@@ -83,9 +85,9 @@ loop-s-preserved c =
     let a = c.args in
     let s = member c.loop-s.s in
     let f = asks a.n a.graph.now a.layers.now a.i in
-    let t = ap asked_of c.in-Passed.is in (
+    let t = ap asked_of c.in_ok-check_pair.was in (
       λ k m. c.loop-s.invariant.0 k (and_l (s k) _ (rw c.without_lowest-s.ensures at m)),
-      c.loop-s.invariant.1 ∙ only_next a.n s f (left (goal.at.loop-s-preserved c).In-loop-s) c.lowest.result c.lowest.ensures (sym c.check_pair-a.ensures ∙ t) ∙ ap (λ (g : ℕ → Bool). each a.n (only g f)) (sym c.without_lowest-s.ensures),
+      c.loop-s.invariant.1 ∙ only_next a.n s f (left (goal.at.loop-s-preserved c).In-loop-s) c.lowest.result c.lowest.ensures (sym c.check_pair.ensures ∙ t) ∙ ap (λ (g : ℕ → Bool). each a.n (only g f)) (sym c.without_lowest-s.ensures),
     )
 
 pub returns : goal.returns

@@ -1,3 +1,4 @@
+use Rattle.std.proofs.lemmas.Result.{err_from_is_err_and}
 use mathlib.Core.Path.{◌≡◌, sym, ap, ◌∙◌}
 use mathlib.Core.Bool.{Bool, true, not}
 use mathlib.Core.List.{[]}
@@ -10,12 +11,13 @@ use Rattle.flows.specs.Job.{Job}
 use Rattle.finder.specs.Searches.{job_in}
 use Rattle.records.specs.FlowFile.{Flow}
 use Rattle.verdicts.specs.Verdict.{ask, each, later, neighbour_ask, causal_ask}
-use Rattle.calls.specs.Loaded.{flow_in, no_nodes, asked_of}
+use Rattle.answers.specs.Refusals.{asked_of}
+use Rattle.calls.specs.Loaded.{flow_in, no_nodes}
 use Rattle.calls.proofs.Asking.{ask_yes, ask_no}
 use Rattle.calls.proofs.AskingNodes.{order_plain}
 use Rattle.calls.proofs.AskingDefinition.{pair_late, pair_around, pair_last}
 use Rattle.calls.proofs.flow.check_pair.Goals as goal
-use Rattle.calls.proofs.flow.check_pair.Goals.{After-has, After-in_order-a, After-set_at-around, Start}
+use Rattle.calls.proofs.flow.check_pair.Goals.{After-has, After-in_order, After-set_at-around, Start}
 
 abbrev G : Start → Job
 G s = job_in s.args.n s.args.graph.now no_nodes no_nodes []
@@ -34,17 +36,17 @@ late c =
     let l : c.layer_at.result < c.layer_at-2.result = omega arith in
     rw (← c.layer_at.ensures, ← c.layer_at-2.ensures) (lt-ltb _ _ l)
 
-abbrev G-at-After-in_order-a : After-in_order-a → Job
-G-at-After-in_order-a s = job_in s.args.n s.args.graph.now no_nodes no_nodes []
+abbrev G-at-After-in_order : After-in_order → Job
+G-at-After-in_order s = job_in s.args.n s.args.graph.now no_nodes no_nodes []
 
-abbrev F-at-After-in_order-a : After-in_order-a → Flow
-F-at-After-in_order-a s = flow_in s.args.layers.now no_nodes []
+abbrev F-at-After-in_order : After-in_order → Flow
+F-at-After-in_order s = flow_in s.args.layers.now no_nodes []
 
-around : (c : After-in_order-a) → each c.args.n (neighbour_ask (G-at-After-in_order-a c) (F-at-After-in_order-a c) c.args.i c.args.k) ≡ asked_of c.in_order-a.result
+around : (c : After-in_order) → each c.args.n (neighbour_ask (G-at-After-in_order c) (F-at-After-in_order c) c.args.i c.args.k) ≡ asked_of c.in_order.result
 around c =
-    order_plain c.args.n c.args.i (F-at-After-in_order-a c).layer ((G-at-After-in_order-a c).edge c.args.k) (member c.intersection.result) (λ k l. set_past c.args.graph.now c.args.k k l)
+    order_plain c.args.n c.args.i (F-at-After-in_order c).layer ((G-at-After-in_order c).edge c.args.k) (member c.intersection.result) (λ k l. set_past c.args.graph.now c.args.k k l)
     (λ k. ap (λ (f : ℕ → Bool). f k) c.intersection.ensures ∙ rw (c.set_at-around.ensures, c.not_later.ensures))
-    ∙ sym c.in_order-a.ensures
+    ∙ sym c.in_order.ensures
 
 -- the first two questions hold, and the call's answer is the third's
 
@@ -59,24 +61,24 @@ late-at-After-has c =
     let l : c.layer_at.result < c.layer_at-2.result = omega arith in
     rw (← c.layer_at.ensures, ← c.layer_at-2.ensures) (lt-ltb _ _ l)
 
-around-at-After-has : (c : After-has) → each c.args.n (neighbour_ask (G-at-After-has c) (F-at-After-has c) c.args.i c.args.k) ≡ asked_of c.in_order-a.result
+around-at-After-has : (c : After-has) → each c.args.n (neighbour_ask (G-at-After-has c) (F-at-After-has c) c.args.i c.args.k) ≡ asked_of c.in_order.result
 around-at-After-has c =
     order_plain c.args.n c.args.i (F-at-After-has c).layer ((G-at-After-has c).edge c.args.k) (member c.intersection.result) (λ k l. set_past c.args.graph.now c.args.k k l)
     (λ k. ap (λ (f : ℕ → Bool). f k) c.intersection.ensures ∙ rw (c.set_at-around.ensures, c.not_later.ensures))
-    ∙ sym c.in_order-a.ensures
+    ∙ sym c.in_order.ensures
 
 last : (c : After-has) → causal_ask (G-at-After-has c) (F-at-After-has c) c.args.i c.args.k ≡ ask c.has.result 18 c.args.i c.args.k
 last c =
-    pair_last (G-at-After-has c) (F-at-After-has c) c.args.i c.args.k (late-at-After-has c) (around-at-After-has c ∙ ap asked_of c.in-Passed.is)
+    pair_last (G-at-After-has c) (F-at-After-has c) c.args.i c.args.k (late-at-After-has c) (around-at-After-has c ∙ ap asked_of c.in_ok-in_order.was)
     ∙ ap (λ (b : Bool). ask b 18 c.args.i c.args.k) (sym (c.has.ensures ∙ rw c.set_at-around.ensures))
 
 pub returns-then-layer_at : goal.returns-then-layer_at
 returns-then-layer_at c = let l : c.layer_at-2.result ≤ c.layer_at.result = omega arith in
     pair_late (G (goal.at.returns-then-layer_at c).Start) (F (goal.at.returns-then-layer_at c).Start) c.args.i c.args.k (rw (← c.layer_at.ensures, ← c.layer_at-2.ensures) (le-ltb _ _ l))
 
-pub returns-in_default : goal.returns-in_default
-returns-in_default c = let t = ap asked_of c.in_default.is in
-    t ∙ sym (pair_around (G (goal.at.returns-in_default c).Start) (F (goal.at.returns-in_default c).Start) c.args.i c.args.k (late (goal.at.returns-in_default c).After-set_at-around) _ (around (goal.at.returns-in_default c).After-in_order-a ∙ t))
+pub returns-in_err-in_order : goal.returns-in_err-in_order
+returns-in_err-in_order c = let t = ap asked_of c.in_err-in_order.was in
+    let p = err_from_is_err_and c.from_residual.result c.from_residual.ensures.1 in rw (p.1, p.2) (sym (pair_around (G (goal.at.returns-in_err-in_order c).Start) (F (goal.at.returns-in_err-in_order c).Start) c.args.i c.args.k (late (goal.at.returns-in_err-in_order c).After-set_at-around) _ (around (goal.at.returns-in_err-in_order c).After-in_order ∙ t)))
 
 pub returns-then-not-has : goal.returns-then-not-has
 returns-then-not-has c = let a = c.args in sym (last (goal.at.returns-then-not-has c).After-has ∙ ask_no c.has.result 18 a.i a.k (not-true _ (ap not c.if-not-has.true)))

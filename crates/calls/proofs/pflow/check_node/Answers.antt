@@ -1,3 +1,4 @@
+use Rattle.std.proofs.lemmas.Result.{err_from_is_err_and}
 use mathlib.Core.Path.{◌≡◌, sym, ap, ◌∙◌, fun_ext}
 use mathlib.Core.Bool.{Bool, false, ◌&&◌}
 use mathlib.Core.Option.{Option, none}
@@ -14,11 +15,12 @@ use Rattle.answers.specs.Answer.{Refusal}
 use Rattle.records.specs.JobFile.{mode_pauli}
 use Rattle.records.specs.FlowFile.{Flow}
 use Rattle.verdicts.specs.Verdict.{ask, ◌next◌, each, member_ask, odd_ask, y_ask, own_ask, definition_ask}
-use Rattle.calls.specs.Loaded.{flow_in, no_nodes, asked_of, first_in}
+use Rattle.answers.specs.Refusals.{asked_of}
+use Rattle.calls.specs.Loaded.{flow_in, no_nodes, first_in}
 use Rattle.calls.proofs.AskingNodes.{odd_past, order_excused, y_first}
 use Rattle.calls.proofs.AskingDefinition.{node_output, node_members, node_odd, node_rest}
 use Rattle.calls.proofs.pflow.check_node.Goals as goal
-use Rattle.calls.proofs.pflow.check_node.Goals.{After-in_order-a, After-in_order-b, After-intersection-wrong, After-odd_of-odd, After-set_at-set, In-Passed-b, Start}
+use Rattle.calls.proofs.pflow.check_node.Goals.{After-in_order, After-in_order-2, After-intersection-wrong, After-odd_of-odd, After-set_at-set, In_ok-in_order-2, Start}
 
 abbrev G : Start → Job
 G s = job_in s.args.n s.args.graph.now no_nodes s.args.outputs s.args.measured.now
@@ -32,17 +34,17 @@ G-at-After-set_at-set s = job_in s.args.n s.args.graph.now no_nodes s.args.outpu
 plain : (c : After-set_at-set) → (G-at-After-set_at-set c).output c.args.i ≡ false
 plain c = sym c.has.ensures ∙ c.if-has.false
 
-abbrev G-at-After-in_order-a : After-in_order-a → Job
-G-at-After-in_order-a s = job_in s.args.n s.args.graph.now no_nodes s.args.outputs s.args.measured.now
+abbrev G-at-After-in_order : After-in_order → Job
+G-at-After-in_order s = job_in s.args.n s.args.graph.now no_nodes s.args.outputs s.args.measured.now
 
-abbrev F-at-After-in_order-a : After-in_order-a → Flow
-F-at-After-in_order-a s = flow_in s.args.layers.now no_nodes s.args.sets.now
+abbrev F-at-After-in_order : After-in_order → Flow
+F-at-After-in_order s = flow_in s.args.layers.now no_nodes s.args.sets.now
 
-first : (c : After-in_order-a) → each c.args.n (member_ask (G-at-After-in_order-a c) (F-at-After-in_order-a c) c.args.mode c.args.i) ≡ asked_of c.in_order-a.result
+first : (c : After-in_order) → each c.args.n (member_ask (G-at-After-in_order c) (F-at-After-in_order c) c.args.mode c.args.i) ≡ asked_of c.in_order.result
 first c =
-    order_excused c.args.n c.args.i (F-at-After-in_order-a c).layer ((F-at-After-in_order-a c).set c.args.i) (member_excused (G-at-After-in_order-a c) (eqb c.args.mode mode_pauli)) (member c.intersection.result) (λ k l. set_past c.args.sets.now c.args.i k l)
+    order_excused c.args.n c.args.i (F-at-After-in_order c).layer ((F-at-After-in_order c).set c.args.i) (member_excused (G-at-After-in_order c) (eqb c.args.mode mode_pauli)) (member c.intersection.result) (λ k l. set_past c.args.sets.now c.args.i k l)
     (λ k. ap (λ (f : ℕ → Bool). f k) c.intersection.ensures ∙ rw (c.set_at-set.ensures, c.difference.ensures, c.not_later-early.ensures, c.requires.excused_by.members))
-    ∙ sym c.in_order-a.ensures
+    ∙ sym c.in_order.ensures
 
 abbrev G-at-After-odd_of-odd : After-odd_of-odd → Job
 G-at-After-odd_of-odd s = job_in s.args.n s.args.graph.now no_nodes s.args.outputs s.args.measured.now
@@ -54,68 +56,68 @@ set-odd : (c : After-odd_of-odd) → member c.odd_of-odd.result ≡ odd (G-at-Af
 set-odd c =
     c.odd_of-odd.ensures ∙ fun_ext (λ v. ap (λ (x : ℕ → Bool). parity c.args.n (λ k. set_at c.args.graph.now k v && x k)) c.set_at-set.ensures)
 
-abbrev G-at-After-in_order-b : After-in_order-b → Job
-G-at-After-in_order-b s = job_in s.args.n s.args.graph.now no_nodes s.args.outputs s.args.measured.now
+abbrev G-at-After-in_order-2 : After-in_order-2 → Job
+G-at-After-in_order-2 s = job_in s.args.n s.args.graph.now no_nodes s.args.outputs s.args.measured.now
 
-abbrev F-at-After-in_order-b : After-in_order-b → Flow
-F-at-After-in_order-b s = flow_in s.args.layers.now no_nodes s.args.sets.now
+abbrev F-at-After-in_order-2 : After-in_order-2 → Flow
+F-at-After-in_order-2 s = flow_in s.args.layers.now no_nodes s.args.sets.now
 
-set-odd-at-After-in_order-b : (c : After-in_order-b) → member c.odd_of-odd.result ≡ odd (G-at-After-in_order-b c) ((F-at-After-in_order-b c).set c.args.i)
-set-odd-at-After-in_order-b c =
+set-odd-at-After-in_order-2 : (c : After-in_order-2) → member c.odd_of-odd.result ≡ odd (G-at-After-in_order-2 c) ((F-at-After-in_order-2 c).set c.args.i)
+set-odd-at-After-in_order-2 c =
     c.odd_of-odd.ensures ∙ fun_ext (λ v. ap (λ (x : ℕ → Bool). parity c.args.n (λ k. set_at c.args.graph.now k v && x k)) c.set_at-set.ensures)
 
-second : (c : After-in_order-b) → each c.args.n (odd_ask (G-at-After-in_order-b c) (F-at-After-in_order-b c) c.args.mode c.args.i) ≡ asked_of c.in_order-b.result
+second : (c : After-in_order-2) → each c.args.n (odd_ask (G-at-After-in_order-2 c) (F-at-After-in_order-2 c) c.args.mode c.args.i) ≡ asked_of c.in_order-2.result
 second c =
     let s = c in
-    order_excused s.args.n s.args.i (F-at-After-in_order-b s).layer (odd (G-at-After-in_order-b s) ((F-at-After-in_order-b s).set s.args.i)) (odd_excused (G-at-After-in_order-b s) (eqb s.args.mode mode_pauli)) (member c.intersection-2.result)
-    (odd_past s.args.n (set_at s.args.graph.now) ((F-at-After-in_order-b s).set s.args.i) (set_past s.args.graph.now))
-    (λ k. ap (λ (f : ℕ → Bool). f k) c.intersection-2.ensures ∙ rw (set-odd-at-After-in_order-b c, c.difference-2.ensures, c.not_later-early.ensures, s.requires.excused_by.odds))
-    ∙ sym c.in_order-b.ensures
+    order_excused s.args.n s.args.i (F-at-After-in_order-2 s).layer (odd (G-at-After-in_order-2 s) ((F-at-After-in_order-2 s).set s.args.i)) (odd_excused (G-at-After-in_order-2 s) (eqb s.args.mode mode_pauli)) (member c.intersection-2.result)
+    (odd_past s.args.n (set_at s.args.graph.now) ((F-at-After-in_order-2 s).set s.args.i) (set_past s.args.graph.now))
+    (λ k. ap (λ (f : ℕ → Bool). f k) c.intersection-2.ensures ∙ rw (set-odd-at-After-in_order-2 c, c.difference-2.ensures, c.not_later-early.ensures, s.requires.excused_by.odds))
+    ∙ sym c.in_order-2.ensures
 
 -- where the second question is asked, the first holds
 
-first-at-After-in_order-b : (c : After-in_order-b) → each c.args.n (member_ask (G-at-After-in_order-b c) (F-at-After-in_order-b c) c.args.mode c.args.i) ≡ asked_of c.in_order-a.result
-first-at-After-in_order-b c =
-    order_excused c.args.n c.args.i (F-at-After-in_order-b c).layer ((F-at-After-in_order-b c).set c.args.i) (member_excused (G-at-After-in_order-b c) (eqb c.args.mode mode_pauli)) (member c.intersection.result) (λ k l. set_past c.args.sets.now c.args.i k l)
+first-at-After-in_order-2 : (c : After-in_order-2) → each c.args.n (member_ask (G-at-After-in_order-2 c) (F-at-After-in_order-2 c) c.args.mode c.args.i) ≡ asked_of c.in_order.result
+first-at-After-in_order-2 c =
+    order_excused c.args.n c.args.i (F-at-After-in_order-2 c).layer ((F-at-After-in_order-2 c).set c.args.i) (member_excused (G-at-After-in_order-2 c) (eqb c.args.mode mode_pauli)) (member c.intersection.result) (λ k l. set_past c.args.sets.now c.args.i k l)
     (λ k. ap (λ (f : ℕ → Bool). f k) c.intersection.ensures ∙ rw (c.set_at-set.ensures, c.difference.ensures, c.not_later-early.ensures, c.requires.excused_by.members))
-    ∙ sym c.in_order-a.ensures
+    ∙ sym c.in_order.ensures
 
-first_holds : (c : After-in_order-b) → each c.args.n (member_ask (G-at-After-in_order-b c) (F-at-After-in_order-b c) c.args.mode c.args.i) ≡ none
-first_holds c = first-at-After-in_order-b c ∙ ap asked_of c.in-Passed.is
+first_holds : (c : After-in_order-2) → each c.args.n (member_ask (G-at-After-in_order-2 c) (F-at-After-in_order-2 c) c.args.mode c.args.i) ≡ none
+first_holds c = first-at-After-in_order-2 c ∙ ap asked_of c.in_ok-in_order.was
 
-abbrev G-at-In-Passed-b : In-Passed-b → Job
-G-at-In-Passed-b s = job_in s.args.n s.args.graph.now no_nodes s.args.outputs s.args.measured.now
+abbrev G-at-In_ok-in_order-2 : In_ok-in_order-2 → Job
+G-at-In_ok-in_order-2 s = job_in s.args.n s.args.graph.now no_nodes s.args.outputs s.args.measured.now
 
-abbrev F-at-In-Passed-b : In-Passed-b → Flow
-F-at-In-Passed-b s = flow_in s.args.layers.now no_nodes s.args.sets.now
+abbrev F-at-In_ok-in_order-2 : In_ok-in_order-2 → Flow
+F-at-In_ok-in_order-2 s = flow_in s.args.layers.now no_nodes s.args.sets.now
 
-plain-at-In-Passed-b : (c : In-Passed-b) → (G-at-In-Passed-b c).output c.args.i ≡ false
-plain-at-In-Passed-b c = sym c.has.ensures ∙ c.if-has.false
+plain-at-In_ok-in_order-2 : (c : In_ok-in_order-2) → (G-at-In_ok-in_order-2 c).output c.args.i ≡ false
+plain-at-In_ok-in_order-2 c = sym c.has.ensures ∙ c.if-has.false
 
-set-odd-at-In-Passed-b : (c : In-Passed-b) → member c.odd_of-odd.result ≡ odd (G-at-In-Passed-b c) ((F-at-In-Passed-b c).set c.args.i)
-set-odd-at-In-Passed-b c =
+set-odd-at-In_ok-in_order-2 : (c : In_ok-in_order-2) → member c.odd_of-odd.result ≡ odd (G-at-In_ok-in_order-2 c) ((F-at-In_ok-in_order-2 c).set c.args.i)
+set-odd-at-In_ok-in_order-2 c =
     c.odd_of-odd.ensures ∙ fun_ext (λ v. ap (λ (x : ℕ → Bool). parity c.args.n (λ k. set_at c.args.graph.now k v && x k)) c.set_at-set.ensures)
 
-second-at-In-Passed-b : (c : In-Passed-b) → each c.args.n (odd_ask (G-at-In-Passed-b c) (F-at-In-Passed-b c) c.args.mode c.args.i) ≡ asked_of c.in_order-b.result
-second-at-In-Passed-b c =
+second-at-In_ok-in_order-2 : (c : In_ok-in_order-2) → each c.args.n (odd_ask (G-at-In_ok-in_order-2 c) (F-at-In_ok-in_order-2 c) c.args.mode c.args.i) ≡ asked_of c.in_order-2.result
+second-at-In_ok-in_order-2 c =
     let s = c in
-    order_excused s.args.n s.args.i (F-at-In-Passed-b s).layer (odd (G-at-In-Passed-b s) ((F-at-In-Passed-b s).set s.args.i)) (odd_excused (G-at-In-Passed-b s) (eqb s.args.mode mode_pauli)) (member c.intersection-2.result)
-    (odd_past s.args.n (set_at s.args.graph.now) ((F-at-In-Passed-b s).set s.args.i) (set_past s.args.graph.now))
-    (λ k. ap (λ (f : ℕ → Bool). f k) c.intersection-2.ensures ∙ rw (set-odd-at-In-Passed-b c, c.difference-2.ensures, c.not_later-early.ensures, s.requires.excused_by.odds))
-    ∙ sym c.in_order-b.ensures
+    order_excused s.args.n s.args.i (F-at-In_ok-in_order-2 s).layer (odd (G-at-In_ok-in_order-2 s) ((F-at-In_ok-in_order-2 s).set s.args.i)) (odd_excused (G-at-In_ok-in_order-2 s) (eqb s.args.mode mode_pauli)) (member c.intersection-2.result)
+    (odd_past s.args.n (set_at s.args.graph.now) ((F-at-In_ok-in_order-2 s).set s.args.i) (set_past s.args.graph.now))
+    (λ k. ap (λ (f : ℕ → Bool). f k) c.intersection-2.ensures ∙ rw (set-odd-at-In_ok-in_order-2 c, c.difference-2.ensures, c.not_later-early.ensures, s.requires.excused_by.odds))
+    ∙ sym c.in_order-2.ensures
 
-first-at-In-Passed-b : (c : In-Passed-b) → each c.args.n (member_ask (G-at-In-Passed-b c) (F-at-In-Passed-b c) c.args.mode c.args.i) ≡ asked_of c.in_order-a.result
-first-at-In-Passed-b c =
-    order_excused c.args.n c.args.i (F-at-In-Passed-b c).layer ((F-at-In-Passed-b c).set c.args.i) (member_excused (G-at-In-Passed-b c) (eqb c.args.mode mode_pauli)) (member c.intersection.result) (λ k l. set_past c.args.sets.now c.args.i k l)
+first-at-In_ok-in_order-2 : (c : In_ok-in_order-2) → each c.args.n (member_ask (G-at-In_ok-in_order-2 c) (F-at-In_ok-in_order-2 c) c.args.mode c.args.i) ≡ asked_of c.in_order.result
+first-at-In_ok-in_order-2 c =
+    order_excused c.args.n c.args.i (F-at-In_ok-in_order-2 c).layer ((F-at-In_ok-in_order-2 c).set c.args.i) (member_excused (G-at-In_ok-in_order-2 c) (eqb c.args.mode mode_pauli)) (member c.intersection.result) (λ k l. set_past c.args.sets.now c.args.i k l)
     (λ k. ap (λ (f : ℕ → Bool). f k) c.intersection.ensures ∙ rw (c.set_at-set.ensures, c.difference.ensures, c.not_later-early.ensures, c.requires.excused_by.members))
-    ∙ sym c.in_order-a.ensures
+    ∙ sym c.in_order.ensures
 
-first_holds-at-In-Passed-b : (c : In-Passed-b) → each c.args.n (member_ask (G-at-In-Passed-b c) (F-at-In-Passed-b c) c.args.mode c.args.i) ≡ none
-first_holds-at-In-Passed-b c = first-at-In-Passed-b c ∙ ap asked_of c.in-Passed.is
+first_holds-at-In_ok-in_order-2 : (c : In_ok-in_order-2) → each c.args.n (member_ask (G-at-In_ok-in_order-2 c) (F-at-In_ok-in_order-2 c) c.args.mode c.args.i) ≡ none
+first_holds-at-In_ok-in_order-2 c = first-at-In_ok-in_order-2 c ∙ ap asked_of c.in_ok-in_order.was
 
-rest : (c : In-Passed-b) → definition_ask (G-at-In-Passed-b c) (F-at-In-Passed-b c) c.args.mode c.args.i ≡ (each c.args.n (y_ask (G-at-In-Passed-b c) (F-at-In-Passed-b c) c.args.mode c.args.i) next own_ask (G-at-In-Passed-b c) (F-at-In-Passed-b c) c.args.i)
+rest : (c : In_ok-in_order-2) → definition_ask (G-at-In_ok-in_order-2 c) (F-at-In_ok-in_order-2 c) c.args.mode c.args.i ≡ (each c.args.n (y_ask (G-at-In_ok-in_order-2 c) (F-at-In_ok-in_order-2 c) c.args.mode c.args.i) next own_ask (G-at-In_ok-in_order-2 c) (F-at-In_ok-in_order-2 c) c.args.i)
 rest c =
-    node_rest (G-at-In-Passed-b c) (F-at-In-Passed-b c) c.args.mode c.args.i (plain-at-In-Passed-b c) c.requires.n_le_capacity.2 (first_holds-at-In-Passed-b c) (second-at-In-Passed-b c ∙ ap asked_of c.in-Passed-b.is)
+    node_rest (G-at-In_ok-in_order-2 c) (F-at-In_ok-in_order-2 c) c.args.mode c.args.i (plain-at-In_ok-in_order-2 c) c.requires.n_le_capacity.2 (first_holds-at-In_ok-in_order-2 c) (second-at-In_ok-in_order-2 c ∙ ap asked_of c.in_ok-in_order-2.was)
 
 -- the Y nodes
 
@@ -140,16 +142,16 @@ third c =
 pub returns-then-has : goal.returns-then-has
 returns-then-has c = node_output (G (goal.at.returns-then-has c).Start) (F (goal.at.returns-then-has c).Start) c.args.mode c.args.i (sym c.has.ensures ∙ c.if-has.true)
 
-pub returns-in_default : goal.returns-in_default
-returns-in_default c = let t = ap asked_of c.in_default.is in
-    t ∙ sym (node_members (G (goal.at.returns-in_default c).Start) (F (goal.at.returns-in_default c).Start) c.args.mode c.args.i (plain (goal.at.returns-in_default c).After-set_at-set) c.requires.n_le_capacity.2 _ (first (goal.at.returns-in_default c).After-in_order-a ∙ t))
+pub returns-in_err-in_order : goal.returns-in_err-in_order
+returns-in_err-in_order c = let t = ap asked_of c.in_err-in_order.was in
+    let p = err_from_is_err_and c.from_residual.result c.from_residual.ensures.1 in rw (p.1, p.2) (sym (node_members (G (goal.at.returns-in_err-in_order c).Start) (F (goal.at.returns-in_err-in_order c).Start) c.args.mode c.args.i (plain (goal.at.returns-in_err-in_order c).After-set_at-set) c.requires.n_le_capacity.2 _ (first (goal.at.returns-in_err-in_order c).After-in_order ∙ t)))
 
-pub in_order-b-requires : goal.in_order-b-requires
-in_order-b-requires c = c.requires.n_le_capacity.1
+pub in_order-requires-2 : goal.in_order-requires-2
+in_order-requires-2 c = c.requires.n_le_capacity.1
 
-pub returns-in_default-b : goal.returns-in_default-b
-returns-in_default-b c = let x = ap asked_of c.in_default-b.is in
-    x ∙ sym (node_odd (G (goal.at.returns-in_default-b c).Start) (F (goal.at.returns-in_default-b c).Start) c.args.mode c.args.i (plain (goal.at.returns-in_default-b c).After-set_at-set) c.requires.n_le_capacity.2 (first_holds (goal.at.returns-in_default-b c).After-in_order-b) _ (second (goal.at.returns-in_default-b c).After-in_order-b ∙ x))
+pub returns-in_err-in_order-2 : goal.returns-in_err-in_order-2
+returns-in_err-in_order-2 c = let x = ap asked_of c.in_err-in_order-2.was in
+    let p = err_from_is_err_and c.from_residual-in_err-in_order-2.result c.from_residual-in_err-in_order-2.ensures.1 in rw (p.1, p.2) (sym (node_odd (G (goal.at.returns-in_err-in_order-2 c).Start) (F (goal.at.returns-in_err-in_order-2 c).Start) c.args.mode c.args.i (plain (goal.at.returns-in_err-in_order-2 c).After-set_at-set) c.requires.n_le_capacity.2 (first_holds (goal.at.returns-in_err-in_order-2 c).After-in_order-2) _ (second (goal.at.returns-in_err-in_order-2 c).After-in_order-2 ∙ x)))
 
 pub check_measurement-requires : goal.check_measurement-requires
 check_measurement-requires c = c.requires.n_le_capacity.1
@@ -159,4 +161,4 @@ returns c = let e = c in
     let s = e in
     c.check_measurement.ensures
     ∙ ap (λ (p : Option Refusal). p next ask (own c.byte_at.result (member e.set_at-set.result s.args.i) (member c.odd_of-odd.result s.args.i)) 19 s.args.i 0) (sym (third (goal.at.returns c).After-intersection-wrong))
-    ∙ rw (c.byte_at.ensures, e.set_at-set.ensures, set-odd (goal.at.returns c).After-odd_of-odd) (sym (rest (goal.at.returns c).In-Passed-b))
+    ∙ rw (c.byte_at.ensures, e.set_at-set.ensures, set-odd (goal.at.returns c).After-odd_of-odd) (sym (rest (goal.at.returns c).In_ok-in_order-2))

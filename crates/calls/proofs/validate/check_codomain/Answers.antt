@@ -26,25 +26,22 @@ asked c =
     (c.without-wrong.ensures ∙ fun_ext (λ k. rw (c.intersection-in-loop-u.ensures, c.intersection.ensures, c.set_at.ensures, c.below-all.ensures)))
 
 pub loop-u-init : goal.loop-u-init
-loop-u-init c = (search rules, each_start _ _)
+loop-u-init c = each_start _ _
 
 pub returns-then-not-is_empty : goal.returns-then-not-is_empty
 returns-then-not-is_empty c =
     let a = c.args in
     let d = member c.without-wrong.result in
-    sym (c.loop-u.invariant.1 ∙ each_no a.n c.loop-u.u (asks a.n a.inputs a.sets.now) (omega arith) _
+    sym (c.loop-u.invariant ∙ each_no a.n c.loop-u.u (asks a.n a.inputs a.sets.now) (omega arith) _
     (asked (goal.at.returns-then-not-is_empty c).After-without-wrong ∙ sym (first_some d (λ k. record { number = 13; a = c.loop-u.u; b = 0 }) (is_true _ (unless_in c.is_empty.result (any_below capacity d) c.is_empty.ensures (ap not c.if-not-is_empty.true))))))
 
 pub loop-u-preserved : goal.loop-u-preserved
 loop-u-preserved c =
     let a = c.args in
-    let d = member c.without-wrong.result in (
-      search rules,
-      c.loop-u.invariant.1 ∙ each_yes a.n c.loop-u.u (asks a.n a.inputs a.sets.now) (omega arith)
-          (asked (goal.at.loop-u-preserved c).After-without-wrong ∙ sym (first_none d (λ k. record { number = 13; a = c.loop-u.u; b = 0 }) (is_false _ (unless_out c.is_empty.result (any_below capacity d) c.is_empty.ensures (ap not c.if-not-is_empty.false))))),
-    )
+    let d = member c.without-wrong.result in (c.loop-u.invariant ∙ each_yes a.n c.loop-u.u (asks a.n a.inputs a.sets.now) (omega arith)
+    (asked (goal.at.loop-u-preserved c).After-without-wrong ∙ sym (first_none d (λ k. record { number = 13; a = c.loop-u.u; b = 0 }) (is_false _ (unless_out c.is_empty.result (any_below capacity d) c.is_empty.ensures (ap not c.if-not-is_empty.false))))))
 
 pub returns : goal.returns
 returns c =
     let a = c.args in
-    sym (c.loop-u.invariant.1 ∙ each_end a.n c.loop-u.u (asks a.n a.inputs a.sets.now) (omega arith))
+    sym (c.loop-u.invariant ∙ each_end a.n c.loop-u.u (asks a.n a.inputs a.sets.now) (omega arith))

@@ -1,7 +1,7 @@
 use mathlib.Core.Path.{◌≡◌}
 use mathlib.Core.Option.{Option}
 use mathlib.Core.List.{List, []}
-use Prim.Native.Nat.{ℕ, ◌-◌, ◌≤◌}
+use Prim.Native.Nat.{ℕ, ◌-◌}
 use Rattle.nodes.specs.declared.utils.NodeSet.{NodeSet}
 use Rattle.finder.specs.Searches.{job_in}
 use Rattle.answers.specs.Answer.{Refusal}
@@ -13,7 +13,4 @@ abbrev pub asks : ℕ → ℕ → NodeSet → List ℕ → ℕ → Option Refusa
 asks n mode outputs layers = layer_ask (job_in n [] no_nodes outputs []) (flow_in layers no_nodes []) mode
 
 abbrev pub invariant-loop-u : goal.invariant-loop-u
-invariant-loop-u l = (l.u ≤ l.n) × (each l.n (asks l.n l.mode l.outputs l.layers) ≡ each_from l.u (l.n - l.u) (asks l.n l.mode l.outputs l.layers))
-
-abbrev pub decreases-loop-u : goal.decreases-loop-u
-decreases-loop-u l = l.n - l.u
+invariant-loop-u l = each l.n (asks l.n l.mode l.outputs l.layers) ≡ each_from l.u (l.n - l.u) (asks l.n l.mode l.outputs l.layers)

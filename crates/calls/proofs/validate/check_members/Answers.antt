@@ -34,19 +34,19 @@ asked c =
     sym (domain_test c.is_empty-empty.result (any_below a.n (set_at a.sets.now u)) (member a.outputs u) empty) ∙ ap (λ (b : Bool). not (beq c.is_empty-empty.result b)) (sym c.has.ensures)
 
 pub loop-u-init : goal.loop-u-init
-loop-u-init c = (search rules, each_start _ _)
+loop-u-init c = each_start _ _
 
 pub returns-then-empty-has : goal.returns-then-empty-has
 returns-then-empty-has c =
     let a = c.args in
-    sym (c.loop-u.invariant.1 ∙ each_no a.n c.loop-u.u (asks a.n a.outputs a.sets.now) (omega arith) _ (ask_no (holds (goal.at.returns-then-empty-has c).After-has) 14 c.loop-u.u 0 (not-true (holds (goal.at.returns-then-empty-has c).After-has) (asked (goal.at.returns-then-empty-has c).After-has ∙ c.if-empty-has.true))))
+    sym (c.loop-u.invariant ∙ each_no a.n c.loop-u.u (asks a.n a.outputs a.sets.now) (omega arith) _ (ask_no (holds (goal.at.returns-then-empty-has c).After-has) 14 c.loop-u.u 0 (not-true (holds (goal.at.returns-then-empty-has c).After-has) (asked (goal.at.returns-then-empty-has c).After-has ∙ c.if-empty-has.true))))
 
 pub loop-u-preserved : goal.loop-u-preserved
 loop-u-preserved c =
     let a = c.args in
-    (search rules, c.loop-u.invariant.1 ∙ each_yes a.n c.loop-u.u (asks a.n a.outputs a.sets.now) (omega arith) (ask_yes (holds (goal.at.loop-u-preserved c).After-has) 14 c.loop-u.u 0 (not-false (holds (goal.at.loop-u-preserved c).After-has) (asked (goal.at.loop-u-preserved c).After-has ∙ c.if-empty-has.false))))
+    (c.loop-u.invariant ∙ each_yes a.n c.loop-u.u (asks a.n a.outputs a.sets.now) (omega arith) (ask_yes (holds (goal.at.loop-u-preserved c).After-has) 14 c.loop-u.u 0 (not-false (holds (goal.at.loop-u-preserved c).After-has) (asked (goal.at.loop-u-preserved c).After-has ∙ c.if-empty-has.false))))
 
 pub returns : goal.returns
 returns c =
     let a = c.args in
-    sym (c.loop-u.invariant.1 ∙ each_end a.n c.loop-u.u (asks a.n a.outputs a.sets.now) (omega arith))
+    sym (c.loop-u.invariant ∙ each_end a.n c.loop-u.u (asks a.n a.outputs a.sets.now) (omega arith))

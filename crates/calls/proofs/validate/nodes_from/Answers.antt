@@ -11,20 +11,17 @@ use borrow.Author.Rules.{rules}
 use Rattle.calls.proofs.validate.nodes_from.Goals as goal
 
 pub loop-v-init : goal.loop-v-init
-loop-v-init c = let a = c.args in (search rules, λ u. ap (λ (f : ℕ → Bool). f u) c.empty-s.ensures ∙ from_none (λ k. get_or a.bytes.now k 0) a.low u)
+loop-v-init c = let a = c.args in (λ u. ap (λ (f : ℕ → Bool). f u) c.empty-s.ensures ∙ from_none (λ k. get_or a.bytes.now k 0) a.low u)
 
 pub loop-v-preserved : goal.loop-v-preserved
 loop-v-preserved c = let b = c.byte_at-byte in
     let l = c.loop-v in
-    let a = c.args in (
-      search rules,
-      λ u. ap (λ (f : ℕ → Bool). f u) c.with_if-s.ensures
-          ∙ ap₂ (λ (x : Bool) (y : ℕ). x || (leb a.low y && (eqb u l.v && leb l.v highest))) (l.invariant.1 u) b.ensures
-          ∙ from_more (λ k. get_or a.bytes.now k 0) a.low l.v u,
-    )
+    let a = c.args in (λ u. ap (λ (f : ℕ → Bool). f u) c.with_if-s.ensures
+    ∙ ap₂ (λ (x : Bool) (y : ℕ). x || (leb a.low y && (eqb u l.v && leb l.v highest))) (l.invariant u) b.ensures
+    ∙ from_more (λ k. get_or a.bytes.now k 0) a.low l.v u)
 
 pub returns : goal.returns
 returns c = let l = c.loop-v in
     let a = c.args in
     let e : l.v ≡ a.n = omega arith in
-    fun_ext (λ u. l.invariant.1 u ∙ ap (λ (k : ℕ). within k u && leb a.low (get_or a.bytes.now u 0)) e)
+    fun_ext (λ u. l.invariant u ∙ ap (λ (k : ℕ). within k u && leb a.low (get_or a.bytes.now u 0)) e)

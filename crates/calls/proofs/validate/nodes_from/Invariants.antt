@@ -1,6 +1,6 @@
 use mathlib.Core.Path.{◌≡◌}
 use mathlib.Core.Bool.{◌&&◌}
-use Prim.Native.Nat.{ℕ, ◌-◌, ◌≤◌}
+use Prim.Native.Nat.{ℕ, ◌-◌}
 use lib.Dec.{leb}
 use lib.ListN.{get_or}
 use Rattle.nodes.specs.NodeSet.{member}
@@ -8,7 +8,4 @@ use Rattle.calls.specs.Loaded.{within}
 use Rattle.calls.proofs.validate.nodes_from.Given as goal
 
 abbrev pub invariant-loop-v : goal.invariant-loop-v
-invariant-loop-v l = (l.v ≤ l.n) × ((u : ℕ) → member l.s u ≡ within l.v u && leb l.low (get_or l.bytes u 0))
-
-abbrev pub decreases-loop-v : goal.decreases-loop-v
-decreases-loop-v l = l.n - l.v
+invariant-loop-v l = (u : ℕ) → member l.s u ≡ within l.v u && leb l.low (get_or l.bytes u 0)

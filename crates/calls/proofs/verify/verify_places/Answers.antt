@@ -1,3 +1,4 @@
+use Rattle.std.proofs.lemmas.Result.{err_from_is_err_and}
 use mathlib.Core.Bool.{not}
 use Prim.Native.Nat.{ℕ, ◌≤◌}
 use mathlib.Core.Path.{◌≡◌, refl, sym, ap, ◌∙◌, subst}
@@ -13,12 +14,13 @@ use Rattle.records.specs.FlowFile.{set_in, flow_of}
 use Rattle.records.specs.Views.{bytes_at, job_at, flow_at}
 use Rattle.verdicts.specs.Verdict.{verify}
 use Rattle.demands.specs.Calls.{lists_match}
-use Rattle.calls.specs.Loaded.{asked_of, IsEntriesFor, stored_match}
+use Rattle.answers.specs.Refusals.{asked_of}
+use Rattle.calls.specs.Loaded.{IsEntriesFor, stored_match}
 use Rattle.calls.proofs.Editing.{bytes_known, entries_read}
 use Rattle.calls.proofs.LoadingFiles.{read_job_valid, read_flow_valid, entries_fit, judge_stops, judge_differs, judge_accepts}
 use Rattle.calls.proofs.Loaded.{verify_joined}
 use Rattle.calls.proofs.verify.verify_places.Goals as goal
-use Rattle.calls.proofs.verify.verify_places.Goals.{After-lists_match, After-load_job-loaded, After-verify_loaded-a, In-Passed}
+use Rattle.calls.proofs.verify.verify_places.Goals.{After-lists_match, After-load_job-loaded, After-verify_loaded, In_ok-verify_loaded}
 
 pub load_job-loaded-requires : goal.load_job-loaded-requires
 load_job-loaded-requires c = let a = c.args in (read_job_valid a.file.now a.job a.flow c.requires, length-replicate {A = ℕ} table_words 0, refl)
@@ -37,24 +39,24 @@ load_flow-entries-requires c =
 few-nodes : (c : After-load_job-loaded) → c.load_job-loaded.result.n ≤ capacity
 few-nodes c = let a = c.args in omega (arith, ap (λ (j : Job). j.nodes) c.load_job-loaded.ensures.measured_after, (read_job_valid a.file.now a.job a.flow c.requires).few)
 
-pub verify_loaded-a-requires : goal.verify_loaded-a-requires
-verify_loaded-a-requires c = few-nodes (goal.at.verify_loaded-a-requires c).After-load_job-loaded
+pub verify_loaded-requires : goal.verify_loaded-requires
+verify_loaded-requires c = few-nodes (goal.at.verify_loaded-requires c).After-load_job-loaded
 
 -- questions 13 to 19
 
-asked : (c : After-verify_loaded-a) → let a = c.args in asked_of c.verify_loaded-a.result ≡ verify (job_of (job_at a.file.now a.job)) (flow_of (flow_at a.file.now a.flow)) (working_of (job_at a.file.now a.job)).mode
-asked c = verify_joined _ _ _ _ _ _ _ c.verify_loaded-a.ensures c.load_job-loaded.ensures.measured_after c.load_flow-entries.ensures c.load_job-loaded.ensures.mode_value
+asked : (c : After-verify_loaded) → let a = c.args in asked_of c.verify_loaded.result ≡ verify (job_of (job_at a.file.now a.job)) (flow_of (flow_at a.file.now a.flow)) (working_of (job_at a.file.now a.job)).mode
+asked c = verify_joined _ _ _ _ _ _ _ c.verify_loaded.ensures c.load_job-loaded.ensures.measured_after c.load_flow-entries.ensures c.load_job-loaded.ensures.mode_value
 
-pub returns-in_default : goal.returns-in_default
-returns-in_default c =
+pub returns-in_err-verify_loaded : goal.returns-in_err-verify_loaded
+returns-in_err-verify_loaded c =
     let a = c.args in
-    judge_stops (job_at a.file.now a.job) (flow_at a.file.now a.flow) (asked_of c.verify_loaded-a.result) _ (asked (goal.at.returns-in_default c).After-verify_loaded-a) (ap asked_of c.in_default.is)
+    let p = err_from_is_err_and c.from_residual.result c.from_residual.ensures.1 in rw (p.1, p.2) (judge_stops (job_at a.file.now a.job) (flow_at a.file.now a.flow) _ _ (sym (ap asked_of c.in_err-verify_loaded.was) ∙ asked (goal.at.returns-in_err-verify_loaded c).After-verify_loaded) refl)
 
-asked-at-In-Passed : (c : In-Passed) → let a = c.args in asked_of c.verify_loaded-a.result ≡ verify (job_of (job_at a.file.now a.job)) (flow_of (flow_at a.file.now a.flow)) (working_of (job_at a.file.now a.job)).mode
-asked-at-In-Passed c = verify_joined _ _ _ _ _ _ _ c.verify_loaded-a.ensures c.load_job-loaded.ensures.measured_after c.load_flow-entries.ensures c.load_job-loaded.ensures.mode_value
+asked-at-In_ok-verify_loaded : (c : In_ok-verify_loaded) → let a = c.args in asked_of c.verify_loaded.result ≡ verify (job_of (job_at a.file.now a.job)) (flow_of (flow_at a.file.now a.flow)) (working_of (job_at a.file.now a.job)).mode
+asked-at-In_ok-verify_loaded c = verify_joined _ _ _ _ _ _ _ c.verify_loaded.ensures c.load_job-loaded.ensures.measured_after c.load_flow-entries.ensures c.load_job-loaded.ensures.mode_value
 
-passed : (c : In-Passed) → let a = c.args in none ≡ verify (job_of (job_at a.file.now a.job)) (flow_of (flow_at a.file.now a.flow)) (working_of (job_at a.file.now a.job)).mode
-passed c = sym (ap asked_of c.in-Passed.is) ∙ asked-at-In-Passed c
+passed : (c : In_ok-verify_loaded) → let a = c.args in none ≡ verify (job_of (job_at a.file.now a.job)) (flow_of (flow_at a.file.now a.flow)) (working_of (job_at a.file.now a.job)).mode
+passed c = sym (ap asked_of c.in_ok-verify_loaded.was) ∙ asked-at-In_ok-verify_loaded c
 
 pub lists_match-requires : goal.lists_match-requires
 lists_match-requires c =
@@ -73,9 +75,9 @@ matches c =
 pub returns-then-not-lists_match : goal.returns-then-not-lists_match
 returns-then-not-lists_match c =
     let a = c.args in
-    judge_differs (job_at a.file.now a.job) (flow_at a.file.now a.flow) (passed (goal.at.returns-then-not-lists_match c).In-Passed) (sym (matches (goal.at.returns-then-not-lists_match c).After-lists_match) ∙ not-true _ (ap not c.if-not-lists_match.true))
+    judge_differs (job_at a.file.now a.job) (flow_at a.file.now a.flow) (passed (goal.at.returns-then-not-lists_match c).In_ok-verify_loaded) (sym (matches (goal.at.returns-then-not-lists_match c).After-lists_match) ∙ not-true _ (ap not c.if-not-lists_match.true))
 
 pub returns : goal.returns
 returns c =
     let a = c.args in
-    judge_accepts (job_at a.file.now a.job) (flow_at a.file.now a.flow) (passed (goal.at.returns c).In-Passed) (sym (matches (goal.at.returns c).After-lists_match) ∙ not-false _ (ap not c.if-not-lists_match.false))
+    judge_accepts (job_at a.file.now a.job) (flow_at a.file.now a.flow) (passed (goal.at.returns c).In_ok-verify_loaded) (sym (matches (goal.at.returns c).After-lists_match) ∙ not-false _ (ap not c.if-not-lists_match.false))

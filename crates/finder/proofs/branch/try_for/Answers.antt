@@ -37,16 +37,16 @@ loop-x-init c = let a = c.args in row_tried a.n a.graph.now (for_node (context_o
 pub try_branch-t-requires : goal.try_branch-t-requires
 try_branch-t-requires c = c.requires
 
-pub returns-in-Set : goal.returns-in-Set
-returns-in-Set c =
-    ap (λ (o : Option (ℕ → Bool)). option_or o (listed_at (goal.at.returns-in-Set c).At-loop-x c.loop-x.later)) (ap solution_of (sym c.in-Set.is) ∙ c.try_branch-t.ensures) ∙ c.loop-x.invariant
+pub returns-in-Some : goal.returns-in-Some
+returns-in-Some c =
+    ap (λ (o : Option (ℕ → Bool)). option_or o (listed_at (goal.at.returns-in-Some c).At-loop-x c.loop-x.later)) (ap solution_of (sym c.in-Some.is) ∙ c.try_branch-t.ensures) ∙ c.loop-x.invariant
 
 pub returns-then-later-eq-NO_BRANCH : goal.returns-then-later-eq-NO_BRANCH
 returns-then-later-eq-NO_BRANCH c =
     let e : c.loop-x.later ≡ 0 = c.if-later-eq-NO_BRANCH.true in
-    sym (ap₂ option_or (sym c.try_branch-t.ensures ∙ ap solution_of c.in-Nothing.is) (ap (listed_at (goal.at.returns-then-later-eq-NO_BRANCH c).At-loop-x) e)) ∙ c.loop-x.invariant
+    sym (ap₂ option_or (sym c.try_branch-t.ensures ∙ ap solution_of c.in_default.is) (ap (listed_at (goal.at.returns-then-later-eq-NO_BRANCH c).At-loop-x) e)) ∙ c.loop-x.invariant
 
 pub loop-x-preserved : goal.loop-x-preserved
 loop-x-preserved c =
     alone (try-at (goal.at.loop-x-preserved c).At-loop-x c.loop-x.later) ∙ sym (ap (λ (z : Bool). cond z none (try-at (goal.at.loop-x-preserved c).At-loop-x c.loop-x.later)) (ne_eqb c.loop-x.later 0 c.if-later-eq-NO_BRANCH.false))
-    ∙ sym (ap (λ (o : Option (ℕ → Bool)). option_or o (listed_at (goal.at.loop-x-preserved c).At-loop-x c.loop-x.later)) (sym c.try_branch-t.ensures ∙ ap solution_of c.in-Nothing.is)) ∙ c.loop-x.invariant
+    ∙ sym (ap (λ (o : Option (ℕ → Bool)). option_or o (listed_at (goal.at.loop-x-preserved c).At-loop-x c.loop-x.later)) (sym c.try_branch-t.ensures ∙ ap solution_of c.in_default.is)) ∙ c.loop-x.invariant

@@ -4,7 +4,7 @@ use Rattle.finder.proofs.Tries.{own_in, own_out}
 use Rattle.finder.proofs.branch.with_node.Goals as goal
 
 pub returns-then-in_set : goal.returns-then-in_set
-returns-then-in_set c = let a = c.args in own_in a.f c.in-Set.x c.union.result a.u a.b (member a.alone) c.in-Set.is (sym c.in_set.ensures ∙ c.if-in_set.true) c.requires c.union.ensures
+returns-then-in_set c = let a = c.args in own_in a.f c.in_ok-x.x c.union.result a.u a.b (member a.alone) c.in_ok-x.was (sym c.in_set.ensures ∙ c.if-in_set.true) c.requires c.union.ensures
 
-pub returns-else-in_set : goal.returns-else-in_set
-returns-else-in_set c = let a = c.args in own_out a.f c.in-Set.x a.u a.b c.in-Set.is (sym c.in_set.ensures ∙ c.if-in_set.false)
+pub returns : goal.returns
+returns c = let a = c.args in own_out a.f c.in_ok-x.x a.u a.b c.in_ok-x.was (sym c.in_set.ensures ∙ c.if-in_set.false)

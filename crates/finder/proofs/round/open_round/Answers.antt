@@ -23,24 +23,24 @@ room c =
 pub fill-requires : goal.fill-requires
 fill-requires c = omega (arith, room (goal.at.fill-requires c).After-intersection-upper, c.requires.0)
 
-pub returns-in-Ready : goal.returns-in-Ready
-returns-in-Ready c =
+pub returns-in-Ok : goal.returns-in-Ok
+returns-in-Ok c =
     let g = c.fill in
     let a = c.args in
     let p = c.requires in
     let i = c.intersection-upper in
-    let z = form_ready c.form-formed.result c.in-Ready.e g.new.work (member i.result) (member a.s.lower) (member a.s.columns) a.kernel.now a.reduced.now a.preimage.now c.form-formed.new.kernel c.form-formed.new.reduced c.form-formed.new.preimage c.in-Ready.is c.form-formed.ensures.form_after in record {
-      tables_solve = laid_answers a.transposed.now g.new.work a.s i.result a.rows i.ensures p.3 g.ensures.laid_out g.ensures.laid_out_2.0 c.in-Ready.e _ _ _ z;
+    let z = form_ready c.form-formed.result c.in-Ok.e g.new.work (member i.result) (member a.s.lower) (member a.s.columns) a.kernel.now a.reduced.now a.preimage.now c.form-formed.new.kernel c.form-formed.new.reduced c.form-formed.new.preimage c.in-Ok.is c.form-formed.ensures.form_after in record {
+      tables_solve = laid_answers a.transposed.now g.new.work a.s i.result a.rows i.ensures p.3 g.ensures.laid_out g.ensures.laid_out_2.0 c.in-Ok.e _ _ _ z;
       work_len = (g.ensures.laid_out_2.1 ∙ p.0, (z.kernel_size, z.reduced_size, z.preimage_size));
     }
 
-pub returns-in-Refused : goal.returns-in-Refused
-returns-in-Refused c =
+pub returns-in-Err : goal.returns-in-Err
+returns-in-Err c =
     let g = c.fill in
     let a = c.args in
     let p = c.requires in record {
-      tables_solve = absurd (form_refused c.form-formed.result g.new.work (member c.intersection-upper.result) (member a.s.lower) a.kernel.now a.reduced.now a.preimage.now c.in-Refused.field-0 c.in-Refused.is c.form-formed.ensures.result_value
-          (omega (arith, room (goal.at.returns-in-Refused c).After-intersection-upper, p.0, g.ensures.laid_out_2.1)) p.2.0 p.2.1 p.2.2);
-      work_len = absurd (form_refused c.form-formed.result g.new.work (member c.intersection-upper.result) (member a.s.lower) a.kernel.now a.reduced.now a.preimage.now c.in-Refused.field-0 c.in-Refused.is c.form-formed.ensures.result_value
-          (omega (arith, room (goal.at.returns-in-Refused c).After-intersection-upper, p.0, g.ensures.laid_out_2.1)) p.2.0 p.2.1 p.2.2);
+      tables_solve = absurd (form_refused c.form-formed.result g.new.work (member c.intersection-upper.result) (member a.s.lower) a.kernel.now a.reduced.now a.preimage.now c.in-Err.field-0 c.in-Err.is c.form-formed.ensures.result_value
+          (omega (arith, room (goal.at.returns-in-Err c).After-intersection-upper, p.0, g.ensures.laid_out_2.1)) p.2.0 p.2.1 p.2.2);
+      work_len = absurd (form_refused c.form-formed.result g.new.work (member c.intersection-upper.result) (member a.s.lower) a.kernel.now a.reduced.now a.preimage.now c.in-Err.field-0 c.in-Err.is c.form-formed.ensures.result_value
+          (omega (arith, room (goal.at.returns-in-Err c).After-intersection-upper, p.0, g.ensures.laid_out_2.1)) p.2.0 p.2.1 p.2.2);
     }

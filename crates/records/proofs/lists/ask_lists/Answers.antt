@@ -1,3 +1,4 @@
+use Rattle.std.proofs.lemmas.Result.{err_from_is_err_and}
 use Prim.Native.Nat.{ℕ, ◌≤◌}
 use mathlib.Core.Path.{◌≡◌, sym, ap, ◌∙◌, fun_ext}
 use mathlib.Core.Bool.{Bool, true, not}
@@ -60,15 +61,15 @@ opened-at-After-set_of-set c = sym c.opening_allowed.ensures ∙ not-false _ (ap
 few : (c : After-set_of-set) → let a = c.args in a.n ≤ most_nodes
 few c = let a = c.args in (allowed_out a.n a.mode (opened-at-After-set_of-set c)).0
 
-pub ask_measurements-asked-requires : goal.ask_measurements-asked-requires
-ask_measurements-asked-requires c =
+pub ask_measurements-requires : goal.ask_measurements-requires
+ask_measurements-requires c =
     let a = c.args in
-    let below = outputs-below (goal.at.ask_measurements-asked-requires c).Else-not-below-3 in
-    (few (goal.at.ask_measurements-asked-requires c).After-set_of-set, (below, sym (c.count.ensures ∙ ap (count capacity) c.set_of-set.ensures ∙ set_count a.n a.outputs.now (few (goal.at.ask_measurements-asked-requires c).After-set_of-set) below)))
+    let below = outputs-below (goal.at.ask_measurements-requires c).Else-not-below-3 in
+    (few (goal.at.ask_measurements-requires c).After-set_of-set, (below, sym (c.count.ensures ∙ ap (count capacity) c.set_of-set.ensures ∙ set_count a.n a.outputs.now (few (goal.at.ask_measurements-requires c).After-set_of-set) below)))
 
-pub returns-in_default : goal.returns-in_default
+pub returns-in_err-ask_measurements : goal.returns-in_err-ask_measurements
 unfolding lists_ask
-returns-in_default c = simp (opened (goal.at.returns-in_default c).Else-not-opening_allowed, paired (goal.at.returns-in_default c).Else-edges-ne0, edges-below (goal.at.returns-in_default c).Else-not-below, inputs-below (goal.at.returns-in_default c).Else-not-below-2, outputs-below (goal.at.returns-in_default c).Else-not-below-3, sym c.ask_measurements-asked.ensures, c.in_default.is)
+returns-in_err-ask_measurements c = let p = err_from_is_err_and c.from_residual.result c.from_residual.ensures.1 in rw (p.1, p.2) (simp (opened (goal.at.returns-in_err-ask_measurements c).Else-not-opening_allowed, paired (goal.at.returns-in_err-ask_measurements c).Else-edges-ne0, edges-below (goal.at.returns-in_err-ask_measurements c).Else-not-below, inputs-below (goal.at.returns-in_err-ask_measurements c).Else-not-below-2, outputs-below (goal.at.returns-in_err-ask_measurements c).Else-not-below-3, sym c.ask_measurements.ensures, c.in_err-ask_measurements.was))
 
 pub returns : goal.returns
 unfolding lists_ask
@@ -76,4 +77,4 @@ returns c =
     let a = c.args in
     let held : member c.set_of-set.result ≡ has a.outputs.now = c.set_of-set.ensures ∙ fun_ext (has_small a.n a.outputs.now (few (goal.at.returns c).After-set_of-set) (outputs-below (goal.at.returns c).Else-not-below-3)) in
     c.ask_given.ensures ∙ ap (λ (s : ℕ → Bool). angles_given a.n a.mode s (some_if a.angled a.angles.now)) held
-    ∙ sym (simp (opened (goal.at.returns c).Else-not-opening_allowed, paired (goal.at.returns c).Else-edges-ne0, edges-below (goal.at.returns c).Else-not-below, inputs-below (goal.at.returns c).Else-not-below-2, outputs-below (goal.at.returns c).Else-not-below-3, sym c.ask_measurements-asked.ensures, c.in-Passed.is))
+    ∙ sym (simp (opened (goal.at.returns c).Else-not-opening_allowed, paired (goal.at.returns c).Else-edges-ne0, edges-below (goal.at.returns c).Else-not-below, inputs-below (goal.at.returns c).Else-not-below-2, outputs-below (goal.at.returns c).Else-not-below-3, sym c.ask_measurements.ensures, c.in_ok-ask_measurements.was))

@@ -14,29 +14,15 @@ use Rattle.solver.proofs.column_basis.form.Goals.{After-load_columns}
 fit : (c : After-load_columns) → let a = c.args in form_fits a.matrix.now (member a.upper) (member a.lower) a.kernel.now a.reduced.now a.preimage.now ≡ true
 fit c = sym c.form_fits.ensures ∙ turned _ (ap not c.if-not-form_fits.false)
 
-pub returns-then-not-form_fits : goal.returns-then-not-form_fits
-returns-then-not-form_fits c = record {
-  result_value = ap (asks 11) (sym (turned _ (ap not c.if-not-form_fits.true)) ∙ c.form_fits.ensures);
-  form_after = (refl, refl, refl);
-}
-
-pub load_columns-requires : goal.load_columns-requires
-load_columns-requires c =
-    let a = c.args in
-    let f = fits_out a.matrix.now (member a.upper) (member a.lower) a.kernel.now a.reduced.now a.preimage.now (sym c.form_fits.ensures ∙ turned _ (ap not c.if-not-form_fits.false)) in
-    (f.0, f.1)
-
 pub reduce_columns-requires : goal.reduce_columns-requires
 reduce_columns-requires c =
     let a = c.args in
     let f = fits_out a.matrix.now (member a.upper) (member a.lower) a.kernel.now a.reduced.now a.preimage.now (fit (goal.at.reduce_columns-requires c).After-load_columns) in
     (record { kernel_size = c.load_columns.ensures.size; reduced_size = f.2; preimage_size = f.3; across_size = refl }, λ i p. ap (λ (g : ℕ → Bool). g p) (zeros_empty table_words i))
 
-pub returns : goal.returns
-returns c =
+pub returns-clause-form_after : goal.returns-clause-form_after
+returns-clause-form_after c =
     let g = c.reduce_columns in
-    let a = c.args in record {
-      result_value = ap (asks 11) (sym (fit (goal.at.returns c).After-load_columns));
-      form_after = forms a.matrix.now (member a.upper) (member a.lower) (member a.columns) g.result c.load_columns.new.kernel a.reduced.now a.preimage.now g.new.kernel g.new.reduced g.new.preimage
-          c.load_columns.ensures g.ensures.kernel_after g.ensures.sized.kernel_size g.ensures.sized.reduced_size g.ensures.sized.preimage_size;
-    }
+    let a = c.args in
+    forms a.matrix.now (member a.upper) (member a.lower) (member a.columns) g.result c.load_columns.new.kernel a.reduced.now a.preimage.now g.new.kernel g.new.reduced g.new.preimage
+    c.load_columns.ensures g.ensures.kernel_after g.ensures.sized.kernel_size g.ensures.sized.reduced_size g.ensures.sized.preimage_size

@@ -12,43 +12,16 @@ use Rattle.solver.specs.Solver.{row_bytes, matrix_fits, Eliminated, eliminate_ca
 use Rattle.solver.proofs.Solver.{fits_out, is_eliminated, pivots_read}
 use Rattle.solver.proofs.gf2_linalg.eliminate.Goals as goal
 
-pub returns-then-not-matrix_fits : goal.returns-then-not-matrix_fits
+pub returns-clause-result_value : goal.returns-clause-result_value
 unfolding eliminate_call
-returns-then-not-matrix_fits c =
-    let a = c.args in
-    let fit : matrix_fits a.matrix.now a.rows a.cols a.sides ≡ false = sym c.matrix_fits.ensures ∙ not-true _ (ap not c.if-not-matrix_fits.true) in record {
-      result_value = simp fit;
-      matrix_after = rw fit refl;
-    }
-
-pub eliminate_columns-requires : goal.eliminate_columns-requires
-eliminate_columns-requires c =
-    let a = c.args in
-    let fit : matrix_fits a.matrix.now a.rows a.cols a.sides ≡ true = sym c.matrix_fits.ensures ∙ not-false _ (ap not c.if-not-matrix_fits.false) in
-    let sizes = fits_out _ _ _ _ fit in
-    (omega arith, omega arith)
-
-pub pivot_columns-requires : goal.pivot_columns-requires
-pivot_columns-requires c =
-    let a = c.args in
-    let fit : matrix_fits a.matrix.now a.rows a.cols a.sides ≡ true = sym c.matrix_fits.ensures ∙ not-false _ (ap not c.if-not-matrix_fits.false) in
-    let sizes = fits_out _ _ _ _ fit in
-    (omega arith, omega arith)
-
-pub returns : goal.returns
-unfolding eliminate_call
-returns c =
+returns-clause-result_value c =
     let a = c.args in
     let fit : matrix_fits a.matrix.now a.rows a.cols a.sides ≡ true = sym c.matrix_fits.ensures ∙ not-false _ (ap not c.if-not-matrix_fits.false) in
     let sizes = fits_out _ _ _ _ fit in
     let room : a.rows * row_bytes ≤ length a.matrix.now = omega arith in
-    let done = c.eliminate_columns.ensures in record {
-      result_value = simp fit
-          (ap gives
-          (c.pivot_columns.ensures
-          ∙ ap {B = ℕ → Bool} (λ l k. leads a.rows a.cols (entry_of row_bytes l) (λ i. true) k) done
-          ∙ pivots_read a.rows a.cols a.sides a.matrix.now room sizes.1));
-      matrix_after = rw fit
-          (subst (λ (l : List ℕ). Eliminated a.rows a.cols a.sides a.matrix.now l) (sym done)
-          (is_eliminated a.rows a.cols a.sides a.matrix.now room sizes.1));
-    }
+    let done = c.eliminate_columns.ensures in
+    simp fit
+    (ap gives
+    (c.pivot_columns.ensures
+    ∙ ap {B = ℕ → Bool} (λ l k. leads a.rows a.cols (entry_of row_bytes l) (λ i. true) k) done
+    ∙ pivots_read a.rows a.cols a.sides a.matrix.now room sizes.1))

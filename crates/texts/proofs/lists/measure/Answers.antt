@@ -4,7 +4,9 @@ use mathlib.Core.List.{List}
 use native.Mathlib.Omega.{arith}
 use lib.ListN.{drop}
 use Rattle.answers.specs.Answer.{Answer, ◌>>=◌}
-use Rattle.records.specs.declared.questions.Checked.{Checked}
+use Rattle.std.specs.Prelude.{Result}
+use Rattle.answers.specs.declared.Refusal.{Refusal}
+use Rattle.std.proofs.lemmas.Result.{err_from_is_err_and}
 use Rattle.texts.specs.JobText.{measured}
 use Rattle.texts.specs.Views.{table_in}
 use Rattle.texts.proofs.Numbers.{measured_end, measured_next}
@@ -25,12 +27,13 @@ step c =
     ∙ sym (measured_next a.numbers.now l.i (omega arith) l.table)
     ∙ l.invariant.3
 
-pub returns-in-Refused : goal.returns-in-Refused
-returns-in-Refused c =
+pub returns-in_err-measure_one : goal.returns-in_err-measure_one
+returns-in_err-measure_one c =
     let l = c.loop-i in
     let a = c.args in
-    let m = c.measure_one in record {
-      table_after = sym (ap (λ (k : Checked). table_in k m.new.table >>= measured (drop (2 * (l.i + 1)) a.numbers.now)) c.in-Refused.is) ∙ step (goal.at.returns-in-Refused c).After-measure_one;
+    let m = c.measure_one in
+    let p = err_from_is_err_and c.from_residual.result c.from_residual.ensures.1 in record {
+      table_after = rw (p.1, p.2) (sym (ap (λ (k : Result Unit Refusal). table_in k m.new.table >>= measured (drop (2 * (l.i + 1)) a.numbers.now)) c.in_err-measure_one.was) ∙ step (goal.at.returns-in_err-measure_one c).After-measure_one);
       table_len_unchanged = m.ensures.table_len_unchanged ∙ l.invariant.2;
     }
 
@@ -39,7 +42,7 @@ loop-i-preserved c =
     let l = c.loop-i in
     let a = c.args in
     let m = c.measure_one in
-    (omega arith, search rules, m.ensures.table_len_unchanged ∙ l.invariant.2, sym (ap (λ (k : Checked). table_in k m.new.table >>= measured (drop (2 * (l.i + 1)) a.numbers.now)) c.in_default.is) ∙ step (goal.at.loop-i-preserved c).After-measure_one)
+    (omega arith, search rules, m.ensures.table_len_unchanged ∙ l.invariant.2, sym (ap (λ (k : Result Unit Refusal). table_in k m.new.table >>= measured (drop (2 * (l.i + 1)) a.numbers.now)) c.in_ok-measure_one.was) ∙ step (goal.at.loop-i-preserved c).After-measure_one)
 
 pub returns : goal.returns
 returns c =

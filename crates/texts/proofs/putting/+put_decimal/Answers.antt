@@ -1,5 +1,5 @@
 use Rattle.std.proofs.Common.{ℕ, ◌+◌, ◌≤◌, sym, ap, arith}
-use Rattle.messages.proofs.Decimal.{one_long, more_long, put_one, put_more}
+use Rattle.answers.proofs.Decimal.{one_long, more_long, put_one, put_more}
 use Rattle.texts.proofs.putting.+put_decimal.Goals as goal
 
 pub bounds-out-at : goal.bounds-out-at

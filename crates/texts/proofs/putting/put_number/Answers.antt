@@ -1,6 +1,6 @@
 use Prim.Native.Char.{code}
 use mathlib.Core.List.{[], ◌∷◌}
-use Rattle.messages.specs.Message.{in_decimal}
+use Rattle.answers.specs.Message.{in_decimal}
 use Rattle.texts.proofs.Placed.{room_next, puts_one, puts_both, puts_same}
 use Rattle.texts.proofs.putting.put_number.Goals as goal
 

@@ -1,7 +1,7 @@
 use mathlib.Core.Path.{subst}
 use mathlib.Core.Bool.{Bool, cond}
 use mathlib.Core.List.{[]}
-use Rattle.messages.specs.Message.{codes}
+use Rattle.answers.specs.Message.{codes}
 use Rattle.texts.specs.Placed.{HasRoom}
 use Rattle.texts.proofs.Placed.{puts_none}
 use Rattle.texts.proofs.show.put_beginning.Goals as goal

@@ -3,7 +3,7 @@ use Prim.Native.Char.{code}
 use mathlib.Core.Bool.{cond}
 use mathlib.Core.List.{List, [], ◌∷◌, ◌++◌}
 use lib.Dec.{eqb}
-use Rattle.messages.specs.Message.{codes, in_decimal}
+use Rattle.answers.specs.Message.{codes, in_decimal}
 use Rattle.texts.specs.Shown.{shown_number, edges_in_line}
 use Rattle.texts.specs.Placed.{HasRoom}
 use Rattle.texts.proofs.Placed.{room_first, room_next, puts_both}

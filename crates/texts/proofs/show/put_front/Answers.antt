@@ -3,7 +3,7 @@ use native.Mathlib.Omega.{arith}
 use native.Mathlib.Nat.{zero-add}
 use borrow.Author.Tests.{le-leb, lt-leb}
 use lib.ListN.{length}
-use Rattle.messages.proofs.Filling.{front_put}
+use Rattle.answers.proofs.Filling.{front_put}
 use Rattle.demands.specs.Calls.{put}
 use Rattle.texts.proofs.show.put_front.Goals as goal
 

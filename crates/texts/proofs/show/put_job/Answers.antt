@@ -1,6 +1,6 @@
 use Prim.Native.Nat.{ℕ}
 use mathlib.Core.List.{List, ◌++◌}
-use Rattle.messages.specs.Message.{codes}
+use Rattle.answers.specs.Message.{codes}
 use Rattle.records.specs.JobFile.{JobFile}
 use Rattle.records.specs.Views.{job_at}
 use Rattle.texts.specs.Shown.{shown_opening, shown_nodes, shown_edges, shown_measurements}

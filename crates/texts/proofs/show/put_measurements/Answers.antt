@@ -1,7 +1,7 @@
 use Prim.Native.Nat.{ℕ}
 use mathlib.Core.List.{List, ◌++◌}
 use native.Mathlib.Omega.{arith}
-use Rattle.messages.specs.Message.{codes}
+use Rattle.answers.specs.Message.{codes}
 use Rattle.texts.specs.Pieces.{pieces}
 use Rattle.texts.specs.Shown.{shown_measurement}
 use Rattle.texts.specs.Placed.{HasRoom}

@@ -1,6 +1,6 @@
 use Prim.Native.Nat.{ℕ}
 use mathlib.Core.List.{List, ◌++◌}
-use Rattle.messages.specs.Message.{codes}
+use Rattle.answers.specs.Message.{codes}
 use Rattle.texts.specs.Shown.{shown_number}
 use Rattle.texts.specs.Placed.{HasRoom}
 use Rattle.texts.proofs.Placed.{room_first, room_next, puts_both}

@@ -5,7 +5,7 @@ use native.Mathlib.Omega.{arith}
 use native.Mathlib.Nat.{zero-add}
 use lib.ListN.{length, drop, take, replicate, length-replicate}
 use lib.Seq.{length-take-le, take-append_seam}
-use Rattle.messages.proofs.Filling.{front_put}
+use Rattle.answers.proofs.Filling.{front_put}
 use Rattle.records.specs.Views.{job_at}
 use Rattle.demands.specs.Calls.{put}
 use Rattle.texts.specs.Shown.{shown_text, text_room}

@@ -1,7 +1,7 @@
 use mathlib.Core.Path.{◌≡◌, refl}
 use native.Mathlib.Omega.{arith}
 use lib.ListN.{length}
-use Rattle.messages.specs.Message.{codes}
+use Rattle.answers.specs.Message.{codes}
 use Rattle.texts.specs.Pieces.{pieces}
 use Rattle.texts.specs.Words.{names, name_count}
 use Rattle.texts.proofs.words.name_of.Goals as goal

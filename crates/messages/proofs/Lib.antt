@@ -1,5 +1,0 @@
-pub mod Sets
-pub mod Text
-pub mod Decimal
-pub mod Filling
-pub mod Lines
