@@ -3,6 +3,7 @@
 #![tactic(auto)]
 
 use answers::RefusalRecord;
+use std::env::Env;
 use std::io::{Stderr, Stdout};
 use streams::{Input, only_usage, read_input, tell, write_output};
 use texts::show::{TEXT_ROOM, show_text};

@@ -3,6 +3,7 @@
 #![tactic(auto)]
 
 use answers::RefusalRecord;
+use std::env::Env;
 use std::io::{Stderr, Stdout};
 use streams::{Input, error_number, only_usage, read_input, tell, write_error, write_output};
 use texts::reader::{NO_WORD, OUT_OF_ORDER, TOO_MANY, WRONG_SHAPE};
