@@ -1,21 +1,20 @@
 -- Going through the record of angles, byte by byte and entry by entry.
-use Prim.Native.Nat.{ℕ, zero, suc, ◌+◌, ◌-◌, ◌*◌, ◌/◌, ◌%◌, ◌^◌, ◌<◌, ◌≤◌}
+use Prim.Native.Nat.{ℕ, zero, suc, ◌+◌, ◌<◌}
 use mathlib.Core.Path.{◌≡◌, refl, sym, ap, ap₂, ◌∙◌}
 use mathlib.Core.Bool.{Bool, true, false, ◌&&◌}
 use mathlib.Core.List.{List, [], ◌∷◌, ◌++◌, append_assoc}
-use native.Mathlib.Nat.{add_comm, pow-le-pow_right}
 use native.Mathlib.Numerals.{add-one}
 use native.Mathlib.Omega.{arith}
-use lib.Dec.{T, eqb, eqb→eq, eqb_refl, lit<}
-use lib.ListN.{length, get_or, set, take, drop}
+use lib.ListN.{length, get_or, set, drop}
 use lib.Seq.{drop-cons, set_at}
+use Rattle.std.specs.Int.{w64, from_le_bytes}
 use Rattle.nodes.specs.Row.{all_below}
 use Rattle.nodes.specs.Lists.{list_of}
-use Rattle.nodes.proofs.Logic.{is_false, from_false, beq_eq}
+use Rattle.nodes.proofs.Logic.{is_false, from_false}
 use Rattle.nodes.proofs.Row.{all_out}
 use Rattle.nodes.proofs.Lists.{length-list_of}
 use Rattle.angles.specs.Angle.{read_bits, entry_allowed}
-use Rattle.angles.specs.AngleRecord.{angle_bytes, little, bits_at, inferred_from}
+use Rattle.angles.specs.AngleRecord.{little, bits_at, inferred_from}
 
 -- ---- the questions and the values of node u, as the record's definitions have them
 abbrev pub allowed_at : (output : ℕ → Bool) → List ℕ → ℕ → Bool
@@ -25,36 +24,21 @@ abbrev pub inferred_at : (planes angles : List ℕ) → ℕ → ℕ
 inferred_at planes angles u = inferred_from (get_or planes u 0) (read_bits (bits_at angles u))
 
 -- ---- bytes
--- the bits of an angle with one more byte, from the highest down
-pub little_more : (l : List ℕ) (at i n : ℕ) → 0 < i → i ≤ angle_bytes → at + angle_bytes ≤ length l → n ≡ little (take (angle_bytes - i) (drop (at + i) l))
-    → n * 256 + get_or l (at + (i - 1)) 0 ≡ little (take (angle_bytes - (i - 1)) (drop (at + (i - 1)) l))
+-- the eight bytes of an angle, lowest first
+pub little_8 : (bytes : List ℕ) → length bytes ≡ 8 → from_le_bytes w64 bytes ≡ little bytes
 unfolding little
-little_more l at i n p q h e =
-    let j = at + (i - 1) in
-    let m : angle_bytes - (i - 1) ≡ suc (angle_bytes - i) = omega arith in
-    let k : suc j ≡ at + i = omega arith in
-    ap (λ (x : ℕ). x * 256 + get_or l j 0) e
-    ∙ add_comm (little (take (angle_bytes - i) (drop (at + i) l)) * 256) (get_or l j 0)
-    ∙ ap (λ (x : ℕ). get_or l j 0 + little (take (angle_bytes - i) (drop x l)) * 256) (sym k)
-    ∙ sym (ap (λ (x : ℕ). little (take x (drop j l))) m ∙ ap (λ (t : List ℕ). little (take (suc (angle_bytes - i)) t)) (drop-cons l j 0 (omega arith)))
-
--- the bits before another byte leave room for it
-pub little_room : (i n : ℕ) → 0 < i → n < 256 ^ (angle_bytes - i) → n < 256 ^ 7
-little_room i n p h =
-    let e : angle_bytes - i ≤ 7 = omega arith in
-    let few : 256 ^ (angle_bytes - i) ≤ 256 ^ 7 = pow-le-pow_right {n = 256} (lit< tt) e in
-    omega arith
+little_8 [] l = absurd (omega arith)
+little_8 (a ∷ []) l = absurd (omega arith)
+little_8 (a ∷ b ∷ []) l = absurd (omega arith)
+little_8 (a ∷ b ∷ c ∷ []) l = absurd (omega arith)
+little_8 (a ∷ b ∷ c ∷ d ∷ []) l = absurd (omega arith)
+little_8 (a ∷ b ∷ c ∷ d ∷ e ∷ []) l = absurd (omega arith)
+little_8 (a ∷ b ∷ c ∷ d ∷ e ∷ f ∷ []) l = absurd (omega arith)
+little_8 (a ∷ b ∷ c ∷ d ∷ e ∷ f ∷ g ∷ []) l = absurd (omega arith)
+little_8 (a ∷ b ∷ c ∷ d ∷ e ∷ f ∷ g ∷ h ∷ []) l = omega arith
+little_8 (a ∷ b ∷ c ∷ d ∷ e ∷ f ∷ g ∷ h ∷ x ∷ bytes) l = absurd (omega arith)
 
 -- ---- entries
--- the length divided, instead of the number of nodes multiplied
-pub suits_divided : (l n : ℕ) → l % angle_bytes ≡ 0 → eqb (l / angle_bytes) n ≡ eqb l (angle_bytes * n)
-suits_divided l n h =
-    beq_eq (eqb (l / angle_bytes) n) (eqb l (angle_bytes * n)) (λ t. let e : l / angle_bytes ≡ n = eqb→eq (l / angle_bytes) n t in same l (angle_bytes * n) (omega arith))
-    (λ t. let e : l ≡ angle_bytes * n = eqb→eq l (angle_bytes * n) t in same (l / angle_bytes) n (omega arith))
-  where
-    same : (a b : ℕ) → a ≡ b → T (eqb a b)
-    same a b e = rw e (eqb_refl b)
-
 -- one more entry is allowed
 pub all_next : (n : ℕ) (s : ℕ → Bool) → all_below n s ≡ true → s n ≡ true → all_below (n + 1) s ≡ true
 unfolding all_below

@@ -7,14 +7,13 @@ use mathlib.Core.Logic.{◌⊎◌, inl, inr}
 use lib.Dec.{T, eqb, eqb→eq}
 use lib.Ieee.{Float}
 use lib.ListN.{length, get_or}
+use Rattle.std.specs.Prelude.{Some, None}
 use Rattle.nodes.proofs.Logic.{is_false, dec, eqb_yes}
 use Rattle.nodes.proofs.Lists.{length-list_of, get_or-list_of}
 use Rattle.flows.specs.Job.{plane_xy, plane_yz, plane_xz, pauli_x, pauli_y, pauli_z}
 use Rattle.flows.proofs.Inferred.{infers}
-use Rattle.angles.specs.Angle.{is_whole, is_half, inferred_in, inferred_byte, read_bits}
+use Rattle.angles.specs.Angle.{Angle, is_whole, is_half, inferred_in, inferred_byte, read_bits}
 use Rattle.angles.specs.AngleRecord.{bits_at, inferred_from, inferred_bytes}
-use Rattle.angles.specs.declared.Angle.{Angle}
-use Rattle.angles.specs.declared.Angle.TheVariants.{Value, NotANumber}
 
 -- one of the three
 in_plane : (p whole half : ℕ) → T (infers p p) → T (infers p whole) → T (infers p half) → (x : Float) → T (infers p (inferred_in x p whole half))
@@ -49,8 +48,8 @@ byte-infers p x = go (dec (eqb p plane_xy)) (dec (eqb p plane_yz)) (dec (eqb p p
     go (inr a) (inr b) (inr c) = other_infers p x (is_false (eqb p plane_xy) a) (is_false (eqb p plane_yz) b) (is_false (eqb p plane_xz) c)
 
 angle_infers : (p : ℕ) (a : Angle) → T (infers p (inferred_from p a))
-angle_infers p (Value x) = byte-infers p x
-angle_infers p NotANumber = same_infers p
+angle_infers p (Some x) = byte-infers p x
+angle_infers p None = same_infers p
 
 pub inferred_length : (planes angles : List ℕ) → length (inferred_bytes planes angles) ≡ length planes
 unfolding inferred_bytes

@@ -1,12 +1,10 @@
 -- Angles, in units of pi: which are allowed, and the Paulis hidden in them.
-use Rattle.std.specs.Prelude.{ℕ, Bool, false, cond, not, ◌&&◌, ◌||◌, eqb, pos, negsuc, Float}
+use Rattle.std.specs.Prelude.{ℕ, Bool, false, cond, not, ◌&&◌, ◌||◌, eqb, pos, negsuc, Float, Option, Some, None}
 use Rattle.std.specs.Float.{fin, binary64}
 use Rattle.std.specs.Float.Ieee.{eq, lt, of_bits, nan_bits}
 use Rattle.flows.specs.Job.{plane_xy, plane_yz, plane_xz, pauli_x, pauli_y, pauli_z}
 use Rattle.angles.specs.declared.PlaneAngle.{PlaneAngle}
 use Rattle.angles.specs.declared.PlaneAngle.TheVariants.{XY, YZ, XZ}
-use Rattle.angles.specs.declared.Angle.{Angle}
-use Rattle.angles.specs.declared.Angle.TheVariants.{Value, NotANumber}
 
 -- ---- the numbers that angles are compared with, each by sign, digits and power of two. Negative zero equals 0.
 abbrev pub zero_pi : Float
@@ -48,16 +46,20 @@ unfoldable pub inferred_byte : ℕ → Float → ℕ
 inferred_byte p x = cond (eqb p plane_xy) (inferred (XY x)) (cond (eqb p plane_yz) (inferred (YZ x)) (cond (eqb p plane_xz) (inferred (XZ x)) p))
 
 -- ---- the bits of an angle, an IEEE double
+-- what 64 bits are as an angle: some number, or none
+abbrev pub Angle : Type 0
+Angle = Option Float
+
 unfoldable pub read_bits : ℕ → Angle
-read_bits bits = cond (nan_bits binary64 bits) NotANumber (Value (of_bits binary64 bits))
+read_bits bits = cond (nan_bits binary64 bits) None (Some (of_bits binary64 bits))
 
 -- neither below 0 nor not below 2
 unfoldable pub in_range : Float → Bool
 in_range x = not (lt x zero_pi) && lt x two_pi
 
 abbrev pub angle_allowed : Angle → Bool
-angle_allowed (Value x) = in_range x
-angle_allowed NotANumber = false
+angle_allowed (Some x) = in_range x
+angle_allowed None = false
 
 -- question 23 of one entry: at an output positive zero, whose bits are all 0, and else an angle from 0 to below 2
 unfoldable pub entry_allowed : (output : Bool) (bits : ℕ) → Bool

@@ -1,10 +1,8 @@
 -- The record of angles: 8 bytes for each node, lowest first.
-use Rattle.std.specs.Prelude.{ℕ, ◌+◌, ◌*◌, Bool, cond, ◌&&◌, List, [], ◌∷◌, ◌++◌, eqb, leb, length, get_or, take, drop}
+use Rattle.std.specs.Prelude.{ℕ, ◌+◌, ◌*◌, Bool, cond, ◌&&◌, List, [], ◌∷◌, ◌++◌, eqb, leb, length, get_or, take, drop, Some, None}
 use Rattle.nodes.specs.Row.{all_below}
 use Rattle.nodes.specs.Lists.{list_of}
-use Rattle.angles.specs.Angle.{read_bits, entry_allowed, inferred_byte}
-use Rattle.angles.specs.declared.Angle.{Angle}
-use Rattle.angles.specs.declared.Angle.TheVariants.{Value, NotANumber}
+use Rattle.angles.specs.Angle.{Angle, read_bits, entry_allowed, inferred_byte}
 
 -- the bytes of an angle
 abbrev pub angle_bytes : ℕ
@@ -26,8 +24,8 @@ angles_allowed n output angles = all_below n (λ u. entry_allowed (output u) (bi
 -- ---- the measurements to work with
 -- the measurement byte of a node with this angle; what is not a number infers nothing
 abbrev pub inferred_from : ℕ → Angle → ℕ
-inferred_from p (Value x) = inferred_byte p x
-inferred_from p NotANumber = p
+inferred_from p (Some x) = inferred_byte p x
+inferred_from p None = p
 
 -- those of all nodes, from the measurement bytes of their planes
 unfoldable pub inferred_bytes : (planes angles : List ℕ) → List ℕ

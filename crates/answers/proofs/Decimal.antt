@@ -1,4 +1,4 @@
--- For `put_decimal`, of specs/Message: numbers in decimal: one digit more, and how many digits there are at most.
+-- Numbers in decimal, of specs/Message: how many digits there are at most, and that they are those that std writes.
 use Prim.Native.Nat.{ℕ, zero, suc, ◌+◌, ◌*◌, ◌/◌, ◌%◌, ◌^◌, ◌≤◌, ◌<◌}
 use mathlib.Core.Path.{◌≡◌, refl, sym, ap, ap₂, ◌∙◌}
 use mathlib.Core.Bool.{Bool, true, false, cond}
@@ -9,6 +9,8 @@ use borrow.Author.Tests.{lt-ltb, le-ltb, ltb-true, ltb-false}
 use lib.Dec.{ltb}
 use lib.ListN.{length, set, length-append}
 use lib.Seq.{sets}
+use Rattle.std.specs.Fmt.{decimal}
+use Rattle.std.proofs.lemmas.Fmt.{decimal_by_steps}
 use Rattle.answers.specs.Message.{digit, decimal_in, in_decimal}
 use Rattle.answers.proofs.Sets.{sets-append}
 
@@ -59,3 +61,7 @@ decimal_most (suc k) n h = by (ltb n 10) refl (decimal_most k (n / 10))
         let big : 10 ≤ n = ltb-false n 10 e in
         let p : 10 ^ suc (suc k) ≡ 10 ^ suc k * 10 = pow-suc 10 (suc k) in
         omega (arith, ap length (decimal_more n big), length-append (in_decimal (n / 10)) (digit (n % 10) ∷ []), ih (omega arith))
+
+-- the digits are those that std writes
+pub decimal_as_std : (n : ℕ) → n < 2 ^ 64 → decimal n ≡ in_decimal n
+decimal_as_std = decimal_by_steps (λ m ds. ds ≡ in_decimal m) (λ m small. sym (decimal_one m small)) (λ m ds big e. ap (λ (s : List ℕ). s ++ digit (m % 10) ∷ []) e ∙ sym (decimal_more m big))

@@ -4,3 +4,4 @@ pub mod Text
 pub mod Decimal
 pub mod Filling
 pub mod Lines
+pub mod Pieces

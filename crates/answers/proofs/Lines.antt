@@ -1,5 +1,5 @@
--- Of specs/Message: what holds of every line, a worked example, and the code's table of words.
-use Prim.Native.Nat.{ℕ, zero, suc, ◌+◌, ◌≤◌}
+-- Of specs/Message: what holds of every line, a worked example, and the words of all numbers as one text.
+use Prim.Native.Nat.{ℕ, zero, suc, ◌+◌, ◌≤◌, ◌<◌}
 use Prim.Native.String.{String}
 use mathlib.Core.Path.{◌≡◌, refl, sym, ap, ◌∙◌, subst}
 use mathlib.Core.Bool.{Bool, true, false, cond, ◌&&◌, false≢true}
@@ -63,7 +63,7 @@ written_few bytes out w e = subst (λ (w : Written). w.count ≤ length out) (sy
     by true e = leb-true (length bytes) (length out) e
     by false e = omega arith
 
--- ---- the code's table of words
+-- ---- the words of all numbers as one text
 -- the words of numbers that no question has, and those of the questions, in the order of their numbers
 abbrev pub words_listed : List (ℕ × String) → List String
 words_listed [] = []
@@ -128,3 +128,9 @@ words_line n = by (ltb n (length (words_listed table))) refl
         ap (λ (s : List ℕ). first_line (or_all s text)) (no_line (words_listed table) n table_clean l)
         ∙ (line_words (words_listed table) 0 unknown table_clean (omega arith)).1
         ∙ ap codes (sym (table_words n ∙ get_or-eq_default (words_listed table) unknown l))
+
+-- numbers that no question has
+pub no_words : (n : ℕ) → (0 < n → 24 < n) → words_in questions n ≡ unknown
+unfolding words_in
+no_words zero h = refl
+no_words (suc n) h = table_words (suc n) ∙ get_or-eq_default (words_listed table) unknown (h (omega arith))

@@ -1,4 +1,4 @@
--- A run of stores after another: serves the proofs of what is written piece by piece.
+-- A run of stores after another: serves the proofs of what is written piece by piece, as in texts.
 use Prim.Native.Nat.{ℕ, suc, ◌+◌}
 use mathlib.Core.Path.{◌≡◌, ap, ◌∙◌}
 use mathlib.Core.List.{List, [], ◌∷◌, ◌++◌}

@@ -2,3 +2,4 @@ pub mod Answer
 pub mod Refusals
 pub mod Message
 pub mod Text
+pub mod Pieces

@@ -90,19 +90,24 @@ impl From<Refusal> for RefusalRecord {
     }
 }
 
-// The line of the three numbers.
+/// The line of the three numbers.
 impl fmt::Display for RefusalRecord {
+    ghost use Rattle.std.specs.Prelude.{Some};
+    ghost use Rattle.answers.specs.Message.{line};
+
+    ghost output = { λ q. Some (line (refusal_of q)) };
+
     fn fmt<W: fmt::Write>(&self, f: &mut fmt::Formatter<W>) -> fmt::Result {
-        let mut line = [0u8; LINE_ROOM];
-        let end = message(*self, &mut line);
-        match str::from_utf8(&line[..end]) {
-            Ok(words) => f.write_str(words),
-            Err(_) => Err(fmt::Error),
-        }
+        f.write_str(&words::line_of(*self))
     }
 }
 
 impl fmt::Display for Refusal {
+    ghost use Rattle.std.specs.Prelude.{Some};
+    ghost use Rattle.answers.specs.Message.{line};
+
+    ghost output = { λ q. Some (line (question_of q)) };
+
     fn fmt<W: fmt::Write>(&self, f: &mut fmt::Formatter<W>) -> fmt::Result {
         RefusalRecord::from(*self).fmt(f)
     }

@@ -18,7 +18,7 @@ use Rattle.flows.specs.Job.{Job}
 use Rattle.answers.specs.Answer.{Refusal}
 use Rattle.records.specs.JobFile.{mode_causal}
 use Rattle.records.specs.FlowFile.{Flow}
-use Rattle.verdicts.specs.Verdict.{ask, ◌next◌, each, later, member_ask, odd_ask, y_ask, own_ask, node_ask, neighbour_ask, adjacent_ask, causal_ask, causal_node_ask, definition_ask, check_domain, check_initial, check_definition, verify}
+use Rattle.verdicts.specs.Verdict.{ask, ◌next◌, each, later, member_ask, odd_ask, y_ask, own_ask, node_ask, neighbour_ask, adjacent_ask, causal_ask, causal_node_ask, definition_ask}
 use Rattle.calls.specs.Loaded.{within}
 use Rattle.verdicts.proofs.Questions.{each_in}
 use Rattle.calls.proofs.Asking.{each_ext, each_at, within_yes}
@@ -123,18 +123,3 @@ one_of low m = by (ℕ_discrete m low) (le_or_lt low m)
         past : m ≢ low → low ≤ m → low + 1 ≤ m
         past d l = omega arith
     by (no d) (inr l) = rw (ne_eqb m low d, lt-leb low m l)
-
--- ---- all of them
-module _ (j : Job) (f : Flow) (mode : ℕ) where
-  pub verify_domain : (r : Refusal) → check_domain j f ≡ some r → verify j f mode ≡ some r
-  unfolding verify
-  verify_domain r e = rw e
-
-  module _ (e : check_domain j f ≡ none) where
-    pub verify_initial : (r : Refusal) → check_initial j f mode ≡ some r → verify j f mode ≡ some r
-    unfolding verify
-    verify_initial r g = rw (e, g)
-
-    pub verify_definition : check_initial j f mode ≡ none → verify j f mode ≡ check_definition j f mode
-    unfolding verify
-    verify_definition g = rw (e, g)

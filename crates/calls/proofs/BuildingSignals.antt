@@ -11,7 +11,7 @@ use borrow.Author.Tests.{eq-eqb, ne_eqb, lt-ltb, le-ltb, le-leb}
 use lib.Pow.{pow-lt}
 use lib.Bits.{bit_and, bit_or, and_lt, or_lt}
 use lib.Dec.{T, eqb, ltb, leb, ltb→lt}
-use lib.ListN.{length, get_or, set, take, drop, replicate, length-set, length-append}
+use lib.ListN.{length, get_or, set, take, replicate, length-set}
 use lib.Seq.{take-append_seam, get_or-set_same, get_or-set_other}
 use Rattle.nodes.specs.Bit.{bit, ◌⊕◌}
 use Rattle.nodes.specs.NodeSet.{highest, capacity}
@@ -26,12 +26,10 @@ use Rattle.records.specs.JobFile.{nodes_below, rises}
 use Rattle.records.specs.FlowFile.{SetEntry, entries_of, listed, all_entries, entry_below, entries_rise, set_in, entry_in}
 use Rattle.records.specs.BitRows.{byte_bits, row_width, with_digit, with_column}
 use Rattle.records.specs.SignalLists.{flips, signal_list, edited_list}
-use Rattle.records.specs.Views.{between}
 use Rattle.records.proofs.BitRows.{row_within, same_place, bit_rows_ext, bit_rows_none, in_column, digit_twice, column-length, column_at, column_is, column_rows}
 use Rattle.records.proofs.FlowFile.{below_out, each_out, rise_none, rise_out, rise-cons, entries_none, no_entry_no_set}
 use Rattle.records.proofs.JobFile.{rises_out, has_below}
 use Rattle.records.proofs.NodeLists.{rises_least}
-use Rattle.records.proofs.ReadingEntries.{entries_end, fits, framed_next, listed_next}
 use Rattle.records.proofs.SignalLists.{list_ext, edited_afresh}
 use Rattle.records.proofs.Writing.{members-has}
 use Rattle.calls.specs.Loaded.{flipped_by, list_for, IsEntriesFor, odd_among, set_bit, set_bits, most_list}
@@ -250,101 +248,81 @@ module _ (n : ℕ) (p : ℕ → Bool) (x : ℕ → ℕ → Bool) where
       by v j (yes d) = rw (d, eq-eqb i i refl, now, e) refl
       by v j (no d) = rw (ne_eqb v i d, others v d) refl
 
--- ---- entries, one after the other
--- the nodes whose entries stand from `at` on
-abbrev ahead : (p : List ℕ) (at : ℕ) → List SetEntry
-ahead p at = listed (entries_of (drop at p))
+-- ---- entries, one after the other: all of them, and those that are left
+pub record IsEntered (n : ℕ) (whole rest : List SetEntry) : Type 0 where
+  pub below : all_entries (entry_below n) rest ≡ true
+  pub rise : entries_rise 0 rest ≡ true
+  pub same : (u v : ℕ) → T (entry_in rest u) → set_in whole u v ≡ set_in rest u v
 
-pub record IsEntered (n : ℕ) (p : List ℕ) (at : ℕ) : Type 0 where
-  pub inside : at ≤ length p
-  pub rest : IsEntriesFor n (drop at p)
-  pub same : (u v : ℕ) → T (entry_in (ahead p at) u) → set_in (ahead p 0) u v ≡ set_in (ahead p at) u v
+-- the list of the nodes that are not left
+abbrev pub list_up_to : (n : ℕ) (edge : ℕ → ℕ → Bool) (odd : Bool) (whole rest : List SetEntry) → List ℕ
+list_up_to n edge odd whole rest = list_of_some n (λ u. not (entry_in rest u)) (λ u. flipped_by n edge odd (set_in whole u))
 
--- the list of the nodes that are not ahead
-abbrev pub list_up_to : (n : ℕ) (edge : ℕ → ℕ → Bool) (odd : Bool) (p : List ℕ) (at : ℕ) → List ℕ
-list_up_to n edge odd p at = list_of_some n (λ u. not (entry_in (ahead p at) u)) (λ u. flipped_by n edge odd (set_in (ahead p 0) u))
-
-pub entered_start : (n : ℕ) (p : List ℕ) → IsEntriesFor n p → IsEntered n p 0
-entered_start n p f = record { inside = zero-le; rest = f; same = λ u v t. refl }
+pub entered_start : (n : ℕ) (p : List ℕ) → IsEntriesFor n p → IsEntered n (listed (entries_of p)) (listed (entries_of p))
+entered_start n p f = record { below = f.below; rise = f.rise; same = λ u v t. refl }
 
 flips_none : (n : ℕ) (edge : ℕ → ℕ → Bool) (odd : Bool) (s : ℕ → Bool) (v : ℕ) → ((k : ℕ) → s k ≡ false) → flipped_by n edge odd s v ≡ false
 flips_none n edge true s v f = parity_none n _ (λ k h. ap (λ (b : Bool). edge k v && b) (f k) ∙ and_none (edge k v))
 flips_none n edge false s v f = f v
 
-pub up_to_none : (n : ℕ) (edge : ℕ → ℕ → Bool) (odd : Bool) (p : List ℕ) → zeros (row_width n * n) ≡ list_up_to n edge odd p 0
-up_to_none n edge odd p = list_start n (λ u. not (entry_in (ahead p 0) u)) (λ u. flipped_by n edge odd (set_in (ahead p 0) u)) (λ u v. by u v (entry_in (ahead p 0) u) refl)
+pub up_to_none : (n : ℕ) (edge : ℕ → ℕ → Bool) (odd : Bool) (whole : List SetEntry) → zeros (row_width n * n) ≡ list_up_to n edge odd whole whole
+up_to_none n edge odd whole = list_start n (λ u. not (entry_in whole u)) (λ u. flipped_by n edge odd (set_in whole u)) (λ u v. by u v (entry_in whole u) refl)
   where
-    by : (u v : ℕ) (b : Bool) → entry_in (ahead p 0) u ≡ b → not b && flipped_by n edge odd (set_in (ahead p 0) u) v ≡ false
+    by : (u v : ℕ) (b : Bool) → entry_in whole u ≡ b → not b && flipped_by n edge odd (set_in whole u) v ≡ false
     by u v true e = refl
-    by u v false e = flips_none n edge odd (set_in (ahead p 0) u) v (λ k. no_entry_no_set (ahead p 0) u k e)
+    by u v false e = flips_none n edge odd (set_in whole u) v (λ k. no_entry_no_set whole u k e)
 
-pub up_to_all : (n : ℕ) (edge : ℕ → ℕ → Bool) (odd : Bool) (p : List ℕ) (at : ℕ) → length p ≤ at → list_up_to n edge odd p at ≡ list_for n edge odd (set_in (listed (entries_of p)))
+pub up_to_all : (n : ℕ) (edge : ℕ → ℕ → Bool) (odd : Bool) (whole : List SetEntry) → list_up_to n edge odd whole [] ≡ list_for n edge odd (set_in whole)
 unfolding entry_in
-up_to_all n edge odd p at h = list_end n _ _ (λ u. ap (λ (o : List SetEntry). not (entry_in o u)) (ap listed (entries_end p at h)))
+up_to_all n edge odd whole = list_end n _ _ (λ u. refl)
 
 rise_from : (low : ℕ) (es : List SetEntry) → entries_rise low es ≡ true → entries_rise 0 es ≡ true
 rise_from low [] h = rise_none 0
 rise_from low (e ∷ es) h = let (a, b, c) = rise_out low e es h in rise-cons 0 e es zero-le b ∙ c
 
--- the entry that starts at `at`, up to j
-module _ (n : ℕ) (p : List ℕ) (at j : ℕ) (e : j ≡ at + 2 + get_or p (at + 1) 0) (l : at < length p) (s : IsEntered n p at) where
-  room : j ≤ length p
-  room = rw e (fits p at s.rest.framed l)
+-- the next entry
+module _ (n : ℕ) (whole before rest : List SetEntry) (entry : SetEntry) (split : before ≡ entry ∷ rest) (s : IsEntered n whole before) where
+  pub entry_below_lem : (entry.node < n) × (nodes_below n entry.set ≡ true)
+  entry_below_lem = below_out n entry (each_out (entry_below n) entry rest (sym (ap (all_entries (entry_below n)) split) ∙ s.below)).0
 
-  entry : SetEntry
-  entry = record { node = get_or p at 0; set = between (at + 2) j p }
+  rise : (0 ≤ entry.node) × (rises 0 entry.set ≡ true) × (entries_rise (entry.node + 1) rest ≡ true)
+  rise = rise_out 0 entry rest (sym (ap (entries_rise 0) split) ∙ s.rise)
 
-  split : ahead p at ≡ entry ∷ ahead p j
-  unfolding entry
-  split = listed_next p at j e room s.rest.framed
-
-  pub entry_below_lem : (get_or p at 0 < n) × (nodes_below n (between (at + 2) j p) ≡ true)
-  unfolding entry
-  entry_below_lem = below_out n entry (each_out (entry_below n) entry (ahead p j) (sym (ap (all_entries (entry_below n)) split) ∙ s.rest.below)).0
-
-  rise : (0 ≤ get_or p at 0) × (rises 0 (between (at + 2) j p) ≡ true) × (entries_rise (get_or p at 0 + 1) (ahead p j) ≡ true)
-  unfolding entry
-  rise = rise_out 0 entry (ahead p j) (sym (ap (entries_rise 0) split) ∙ s.rest.rise)
-
-  pub entry_rises : rises 0 (between (at + 2) j p) ≡ true
+  pub entry_rises : rises 0 entry.set ≡ true
   entry_rises = rise.1
 
   -- no entry behind it is of its node
-  gone : entry_in (ahead p j) (get_or p at 0) ≡ false
-  gone = entries_none (get_or p at 0 + 1) (ahead p j) (get_or p at 0) rise.2 (omega arith)
+  gone : entry_in rest entry.node ≡ false
+  gone = entries_none (entry.node + 1) rest entry.node rise.2 (omega arith)
 
-  here : entry_in (ahead p at) (get_or p at 0) ≡ true
-  unfolding entry entry_in
-  here = rw split (rw (eq-eqb (get_or p at 0) (get_or p at 0) refl) refl)
+  here : entry_in before entry.node ≡ true
+  unfolding entry_in
+  here = rw split (rw (eq-eqb entry.node entry.node refl) refl)
 
-  elsewhere : (u : ℕ) → u ≢ get_or p at 0 → entry_in (ahead p at) u ≡ entry_in (ahead p j) u
-  unfolding entry entry_in
-  elsewhere u d = rw split (rw (ne_eqb (get_or p at 0) u (λ q. d (sym q))) refl)
+  elsewhere : (u : ℕ) → u ≢ entry.node → entry_in before u ≡ entry_in rest u
+  unfolding entry_in
+  elsewhere u d = rw split (rw (ne_eqb entry.node u (λ q. d (sym q))) refl)
 
-  own : set_in (ahead p 0) (get_or p at 0) ≡ has (between (at + 2) j p)
-  unfolding entry set_in
-  own = fun_ext (λ v. s.same (get_or p at 0) v (rw here tt) ∙ rw split (rw (eq-eqb (get_or p at 0) (get_or p at 0) refl, no_entry_no_set (ahead p j) (get_or p at 0) v gone) (or_false (has (between (at + 2) j p) v))))
+  own : set_in whole entry.node ≡ has entry.set
+  unfolding set_in
+  own = fun_ext (λ v. s.same entry.node v (rw here tt) ∙ rw split (rw (eq-eqb entry.node entry.node refl, no_entry_no_set rest entry.node v gone) (or_false (has entry.set v))))
 
-  pub entered_next : IsEntered n p j
-  unfolding entry set_in
+  pub entered_next : IsEntered n whole rest
+  unfolding set_in
   entered_next = record {
-    inside = room;
-    rest = record {
-      framed = sym (framed_next p at j e room) ∙ s.rest.framed;
-      below = (each_out (entry_below n) entry (ahead p j) (sym (ap (all_entries (entry_below n)) split) ∙ s.rest.below)).1;
-      rise = rise_from (get_or p at 0 + 1) (ahead p j) rise.2;
-    };
+    below = (each_out (entry_below n) entry rest (sym (ap (all_entries (entry_below n)) split) ∙ s.below)).1;
+    rise = rise_from (entry.node + 1) rest rise.2;
     same = λ u v t.
-        let d : u ≢ get_or p at 0 = λ q. from_false (entry_in (ahead p j) u) (ap (entry_in (ahead p j)) q ∙ gone) t in
-        s.same u v (rw (elsewhere u d) t) ∙ rw split (rw (ne_eqb (get_or p at 0) u (λ q. d (sym q))) refl);
+        let d : u ≢ entry.node = λ q. from_false (entry_in rest u) (ap (entry_in rest) q ∙ gone) t in
+        s.same u v (rw (elsewhere u d) t) ∙ rw split (rw (ne_eqb entry.node u (λ q. d (sym q))) refl);
   }
 
-  -- its column is clear, and with it the list goes up to j
-  pub up_to_clear : (edge : ℕ → ℕ → Bool) (odd : Bool) → with_column n (get_or p at 0) (λ v. false) (list_up_to n edge odd p at) ≡ list_up_to n edge odd p at
-  up_to_clear edge odd = list_clear n (λ u. not (entry_in (ahead p at) u)) (λ u. flipped_by n edge odd (set_in (ahead p 0) u)) (get_or p at 0) entry_below_lem.0 (ap not here)
+  -- its column is clear, and with it the list goes on to the rest
+  pub up_to_clear : (edge : ℕ → ℕ → Bool) (odd : Bool) → with_column n entry.node (λ v. false) (list_up_to n edge odd whole before) ≡ list_up_to n edge odd whole before
+  up_to_clear edge odd = list_clear n (λ u. not (entry_in before u)) (λ u. flipped_by n edge odd (set_in whole u)) entry.node entry_below_lem.0 (ap not here)
 
-  pub up_to_next : (edge : ℕ → ℕ → Bool) (odd : Bool) → edited_list n (get_or p at 0) (flipped_by n edge odd (has (between (at + 2) j p))) (list_up_to n edge odd p at) ≡ list_up_to n edge odd p j
-  up_to_next edge odd = list_next n _ _ (λ u. not (entry_in (ahead p j) u)) (get_or p at 0) _ entry_below_lem.0 (ap not gone) (λ u d. ap not (sym (elsewhere u d))) (ap (flipped_by n edge odd) (sym own))
+  pub up_to_next : (edge : ℕ → ℕ → Bool) (odd : Bool) → edited_list n entry.node (flipped_by n edge odd (has entry.set)) (list_up_to n edge odd whole before) ≡ list_up_to n edge odd whole rest
+  up_to_next edge odd = list_next n _ _ (λ u. not (entry_in rest u)) entry.node _ entry_below_lem.0 (ap not gone) (λ u d. ap not (sym (elsewhere u d))) (ap (flipped_by n edge odd) (sym own))
 
 -- the nodes below n without i, of those that a set can have
 pub flippable : (n i j : ℕ) (t all less s : ℕ → Bool) → n ≤ capacity → j < n → all ≡ (λ u. ltb u n && leb u highest) → less ≡ (λ u. all u && not (eqb u i)) → s ≡ (λ u. t u && less u) → s j ≡ flips t i j
@@ -369,8 +347,5 @@ zeros_front k m h = by k m h
     by (suc k) (suc m) h = ap (λ (l : List ℕ). 0 ∷ l) (by k m (omega arith))
 
 -- a list at the front of a buffer
-pub front_fits : (k : ℕ) (l r : List ℕ) → length l ≡ k → k ≤ length (l ++ r)
-front_fits k l r e = omega (arith, length-append l r)
-
 pub front_is : (k : ℕ) (l r : List ℕ) → length l ≡ k → take k (l ++ r) ≡ l
 front_is k l r e = ap (λ (n : ℕ). take n (l ++ r)) (sym e) ∙ take-append_seam l r

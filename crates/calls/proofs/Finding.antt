@@ -11,7 +11,6 @@ use lib.ListN.{length}
 use Rattle.nodes.specs.Row.{all_below}
 use Rattle.nodes.specs.NodeSet.{member, highest, capacity}
 use Rattle.nodes.specs.SetTable.{table_words}
-use Rattle.nodes.specs.declared.utils.NodeSet.{NodeSet}
 use Rattle.nodes.proofs.Logic.{is_true}
 use Rattle.nodes.proofs.Row.{all_in}
 use Rattle.flows.specs.Job.{Job}
@@ -25,7 +24,7 @@ use Rattle.std.specs.Prelude.{Result, Ok, Err}
 use Rattle.answers.specs.Refusals.{given}
 use Rattle.finder.proofs.Below.{progress_below}
 use Rattle.answers.specs.declared.Refusal as Code
-use Rattle.answers.specs.Answer.{Refusal, Answer, gives, refuses, refusal}
+use Rattle.answers.specs.Answer.{Answer, gives}
 use Rattle.answers.proofs.Answer.{give_inj, never}
 use Rattle.records.specs.Records.{written, kind_no_flow}
 use Rattle.nodes.specs.Lists.{zeros}
@@ -88,7 +87,7 @@ module _ (f : JobFile) (valid : IsValidJob f) where
   planes_loaded j mode e m = rw (e, m) planes_read
 
 -- ---- the search of a job that was loaded, and what is written of it
-module _ (n mode : ℕ) (graph measured : List ℕ) (inputs outputs : NodeSet) where
+module _ (n mode : ℕ) (graph measured : List ℕ) (inputs outputs : List ℕ) where
   abbrev j : Job
   j = job_in n graph inputs outputs measured
 
@@ -130,27 +129,8 @@ module _ (n mode : ℕ) (graph measured : List ℕ) (inputs outputs : NodeSet) w
       by true a = rw a
       by false a = rw a
 
--- ---- the questions before the search
-module _ (s work out : List ℕ) where
-  pub find_unread : (r : Refusal) → read_job s ≡ refuses r → ◌≡◌ {A = Outcome} (record { answer = refuses r; work = work; out = out }) (find_call s work out)
-  unfolding find_call find_asks
-  find_unread r read = rw read
-
-  module _ (f : JobFile) (read : read_job s ≡ gives f) where
-    pub find_left : eqb (length f.after) 0 ≡ false → ◌≡◌ {A = Outcome} (record { answer = refuses (refusal 8); work = work; out = out }) (find_call s work out)
-    unfolding find_call find_asks
-    find_left a = rw (read, a)
-
-    module _ (a : eqb (length f.after) 0 ≡ true) where
-      pub find_mode : (eqb f.mode mode_planes || eqb f.mode mode_pauli) ≡ false → ◌≡◌ {A = Outcome} (record { answer = refuses (refusal 10); work = work; out = out }) (find_call s work out)
-      unfolding find_call find_asks
-      find_mode b = rw (read, a, b)
-
-      module _ (b : (eqb f.mode mode_planes || eqb f.mode mode_pauli) ≡ true) where
-        pub find_size : eqb (length work) work_bytes ≡ false → ◌≡◌ {A = Outcome} (record { answer = refuses (refusal 11); work = work; out = out }) (find_call s work out)
-        unfolding find_call find_asks
-        find_size d = rw (read, a, b, d)
-
-        pub find_goes : length work ≡ work_bytes → put (zeros work_bytes) (found_bytes f) out ≡ find_call s work out
-        unfolding find_call find_asks
-        find_goes d = sym (rw (read, a, b, eq-eqb (length work) work_bytes d, d))
+-- ---- the call of a job that passed the questions before the search
+pub find_goes : (s work out : List ℕ) (f : JobFile) → read_job s ≡ gives f → eqb (length f.after) 0 ≡ true → (eqb f.mode mode_planes || eqb f.mode mode_pauli) ≡ true
+    → length work ≡ work_bytes → put (zeros work_bytes) (found_bytes f) out ≡ find_call s work out
+unfolding find_call find_asks
+find_goes s work out f read a b d = sym (rw (read, a, b, eq-eqb (length work) work_bytes d, d))

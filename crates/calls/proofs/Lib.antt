@@ -9,5 +9,4 @@ pub mod Loaded
 pub mod LoadingEdges
 pub mod LoadingFiles
 pub mod LoadingTables
-pub mod ReadingOut
 pub mod Writing

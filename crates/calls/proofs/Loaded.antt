@@ -1,7 +1,7 @@
 -- The joining law: job and flow as they were loaded are what the file means.
 use Prim.Native.Nat.{ℕ, ◌+◌, ◌-◌, ◌*◌, ◌≤◌, ◌<◌}
 use mathlib.Core.Path.{◌≡◌, refl, sym, ap, ◌∙◌, fun_ext}
-use mathlib.Core.Bool.{Bool, true, false, cond, ◌&&◌}
+use mathlib.Core.Bool.{Bool, cond, ◌&&◌}
 use mathlib.Core.List.{List, ◌++◌}
 use mathlib.Core.Option.{Option}
 use mathlib.Core.Logic.{◌⊎◌, inl, inr}
@@ -14,13 +14,11 @@ use lib.Seq.{get_or-set_same, get_or-set_other, get_or-append-add, get_or-drop}
 use Rattle.nodes.specs.NodeSet.{member, highest}
 use Rattle.nodes.specs.SetTable.{set_at}
 use Rattle.nodes.specs.Lists.{has, zeros}
-use Rattle.nodes.specs.declared.utils.NodeSet.{NodeSet}
 use Rattle.nodes.proofs.Logic.{lt_or_ge}
 use Rattle.flows.specs.Job.{Job}
 use Rattle.angles.specs.AngleRecord.{angle_bytes, inferred_bytes, inferred_into}
 use Rattle.angles.proofs.Inferred.{inferred_length}
-use Rattle.records.specs.JobFile.{JobFile, mode_pauli, has_edge, working, working_of, job_of}
-use Rattle.records.specs.Views.{some_if}
+use Rattle.records.specs.JobFile.{JobFile, has_edge, working_of, job_of}
 use Rattle.records.specs.FlowFile.{FlowFile, Flow, entry_in, set_in, flow_of}
 use Rattle.records.specs.Encoding.{IsValidJob}
 use Rattle.records.proofs.JobFile.{has_small}
@@ -28,15 +26,15 @@ use Rattle.answers.specs.Answer.{Refusal}
 use Rattle.verdicts.specs.Verdict.{verify}
 use Rattle.records.specs.Writing.{flow_bytes}
 use Rattle.demands.specs.Calls.{progress_by_mode, Outcome, put}
-use Rattle.calls.specs.Loaded.{job_loaded, flow_in}
-use Rattle.calls.specs.declared.load.Loaded.{Loaded}
+use Rattle.finder.specs.Searches.{job_in}
+use Rattle.calls.specs.Loaded.{flow_in}
 
 module _ (f : JobFile) (valid : IsValidJob f) where
-  pub job_loaded_lem : (l : Loaded) (graph measured : List ℕ) → l.n ≡ f.n → ((u v : ℕ) → set_at graph u v ≡ has_edge f.edges u v)
-      → member l.inputs ≡ (λ u. has f.inputs u && leb u highest) → member l.outputs ≡ (λ u. has f.outputs u && leb u highest)
-      → ((u : ℕ) → get_or measured u 0 ≡ get_or (working_of f).measurements u 0) → job_loaded l graph measured ≡ job_of f
-  job_loaded_lem l graph measured n edges ins outs m =
-      make n (fun_ext (λ u. fun_ext (λ v. edges u v)))
+  pub job_is_loaded : (graph measured : List ℕ) (inputs outputs : List ℕ) → ((u v : ℕ) → set_at graph u v ≡ has_edge f.edges u v)
+      → member inputs ≡ (λ u. has f.inputs u && leb u highest) → member outputs ≡ (λ u. has f.outputs u && leb u highest)
+      → ((u : ℕ) → get_or measured u 0 ≡ get_or (working_of f).measurements u 0) → job_in f.n graph inputs outputs measured ≡ job_of f
+  job_is_loaded graph measured inputs outputs edges ins outs m =
+      make refl (fun_ext (λ u. fun_ext (λ v. edges u v)))
       (ins ∙ fun_ext (has_small f.n f.inputs valid.few valid.inputs_below))
       (outs ∙ fun_ext (has_small f.n f.outputs valid.few valid.outputs_below))
       (fun_ext m)
@@ -53,36 +51,35 @@ zeros_at n u = by (lt_or_ge u n)
     by (inl h) = get_or-replicate n u 0 0 h
     by (inr h) = get_or-eq_default (zeros n) 0 (omega (arith, length-replicate {A = ℕ} n 0))
 
--- the measurements that angles infer, in a buffer that was 0
-pub inferred_loaded : (planes angles to : List ℕ) → length angles ≡ angle_bytes * length planes → length planes ≤ length to → to ≡ zeros (length to)
-    → (u : ℕ) → get_or (inferred_into planes angles to) u 0 ≡ get_or (inferred_bytes planes angles) u 0
-unfolding inferred_into
-inferred_loaded planes angles to s h z u = rw (eq-eqb (length angles) (angle_bytes * length planes) s, le-leb (length planes) (length to) h) (by (lt_or_ge u (length planes)))
+-- numbers at the front of a buffer that was 0
+pub front_loaded : (p to : List ℕ) → length p ≤ length to → to ≡ zeros (length to) → (u : ℕ) → get_or (p ++ drop (length p) to) u 0 ≡ get_or p u 0
+front_loaded p to h z u = by (lt_or_ge u (length p))
   where
-    size : length (inferred_bytes planes angles) ≡ length planes
-    size = inferred_length planes angles
-
     zero_at : (v : ℕ) → get_or to v 0 ≡ 0
     zero_at v = ap (λ (l : List ℕ). get_or l v 0) z ∙ zeros_at (length to) v
 
-    by : (u < length planes) ⊎ (length planes ≤ u) → get_or (inferred_bytes planes angles ++ drop (length planes) to) u 0 ≡ get_or (inferred_bytes planes angles) u 0
-    by (inl l) = get_or-append (inferred_bytes planes angles) (drop (length planes) to) 0 u (omega (arith, size))
+    by : (u < length p) ⊎ (length p ≤ u) → get_or (p ++ drop (length p) to) u 0 ≡ get_or p u 0
+    by (inl l) = get_or-append p (drop (length p) to) 0 u l
     by (inr l) =
-        let at : length (inferred_bytes planes angles) + (u - length planes) ≡ u = omega (arith, size) in
-        ap (λ (k : ℕ). get_or (inferred_bytes planes angles ++ drop (length planes) to) k 0) (sym at)
-        ∙ get_or-append-add (inferred_bytes planes angles) (drop (length planes) to) (u - length planes) 0
-        ∙ get_or-drop (length planes) to (u - length planes) 0
-        ∙ zero_at (length planes + (u - length planes))
-        ∙ sym (get_or-eq_default (inferred_bytes planes angles) 0 (omega (arith, size)))
+        let at : length p + (u - length p) ≡ u = omega arith in
+        ap (λ (k : ℕ). get_or (p ++ drop (length p) to) k 0) (sym at)
+        ∙ get_or-append-add p (drop (length p) to) (u - length p) 0
+        ∙ get_or-drop (length p) to (u - length p) 0
+        ∙ zero_at (length p + (u - length p))
+        ∙ sym (get_or-eq_default p 0 l)
 
--- the mode to work with, from whether there are angles
-pub works_mode : (mode : ℕ) (measurements p : List ℕ) (b : Bool) → cond b mode_pauli mode ≡ (working mode measurements (some_if b p)).mode
-works_mode mode measurements p true = refl
-works_mode mode measurements p false = refl
+-- the measurements that angles infer
+pub inferred_loaded : (planes angles to : List ℕ) → length angles ≡ angle_bytes * length planes → length planes ≤ length to → to ≡ zeros (length to)
+    → (u : ℕ) → get_or (inferred_into planes angles to) u 0 ≡ get_or (inferred_bytes planes angles) u 0
+unfolding inferred_into
+inferred_loaded planes angles to s h z u =
+    let size : length (inferred_bytes planes angles) ≡ length planes = inferred_length planes angles in
+    rw (eq-eqb (length angles) (angle_bytes * length planes) s, le-leb (length planes) (length to) h)
+    (ap (λ (k : ℕ). get_or (inferred_bytes planes angles ++ drop k to) u 0) (sym size) ∙ front_loaded (inferred_bytes planes angles) to (omega (arith, size)) z u)
 
-pub flow_loaded : (g : FlowFile) (layers sets : List ℕ) (entries : NodeSet) → ((u : ℕ) → get_or layers u 0 ≡ get_or g.layers u 0)
+pub flow_is_loaded : (g : FlowFile) (layers sets : List ℕ) (entries : List ℕ) → ((u : ℕ) → get_or layers u 0 ≡ get_or g.layers u 0)
     → ((u : ℕ) → member entries u ≡ entry_in g.sets u) → ((u v : ℕ) → set_at sets u v ≡ set_in g.sets u v) → flow_in layers entries sets ≡ flow_of g
-flow_loaded g layers sets entries l e s = make (fun_ext l) (fun_ext e) (fun_ext (λ u. fun_ext (λ v. s u v)))
+flow_is_loaded g layers sets entries l e s = make (fun_ext l) (fun_ext e) (fun_ext (λ u. fun_ext (λ v. s u v)))
   where
     make : {l l' : ℕ → ℕ} {e e' : ℕ → Bool} {s s' : ℕ → ℕ → Bool} → l ≡ l' → e ≡ e' → s ≡ s'
         → ◌≡◌ {A = Flow} (record { layer = l; entry = e; set = s }) (record { layer = l'; entry = e'; set = s' })

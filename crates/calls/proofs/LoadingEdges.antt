@@ -1,31 +1,30 @@
 -- For `load_graph`: edges as a table of sets: those put in so far, and those of the rest.
-use Prim.Native.Nat.{ℕ, ◌+◌, ◌*◌, ◌-◌, ◌/◌, ◌%◌, ◌^◌, ◌<◌, ◌≤◌}
+use Prim.Native.Nat.{ℕ, ◌+◌, ◌*◌, ◌/◌, ◌%◌, ◌^◌, ◌<◌, ◌≤◌}
 use mathlib.Core.Path.{◌≡◌, refl, sym, ap, ap₂, ◌∙◌}
 use mathlib.Core.Bool.{Bool, true, false, cond, ◌&&◌, ◌||◌}
 use mathlib.Core.Logic.{◌⊎◌, inl, inr}
-use mathlib.Core.List.{List, ◌∷◌}
+use mathlib.Core.List.{List, [], ◌∷◌, ◌++◌}
 use native.Mathlib.Omega.{arith}
 use native.Mathlib.Decide.{ℕ_discrete}
 use borrow.Author.Tests.{le-leb, lt-leb, lt-ltb, ltb-true, eq-eqb}
 use lib.Bits.{bit_or}
 use lib.Dec.{eqb, ltb, eqb→eq}
-use lib.ListN.{length, get_or, drop, set}
+use lib.ListN.{length, get_or, set}
 use lib.Seq.{get_or-set_same, get_or-set_other}
 use Rattle.nodes.specs.Bit.{bit}
 use Rattle.nodes.specs.NodeSet.{member, words_of, word_bits, capacity}
 use Rattle.nodes.specs.Lists.{zeros, all}
 use Rattle.nodes.specs.SetTable.{set_words, set_at, put_set}
-use Rattle.nodes.specs.declared.utils.NodeSet.{NodeSet}
 use Rattle.nodes.proofs.Logic.{is_false, and_l, and_r, and_all, and_none, or_false, eqb_comm, eqb_yes, eqb_no, le_or_lt, lt_or_ge}
 use Rattle.nodes.proofs.Bit.{bit-or, bit-pow}
 use Rattle.nodes.proofs.SetTable.{set_in, set_past, put_each, put_out, zeros_empty}
 use Rattle.records.specs.JobFile.{has_edge}
 use Rattle.calls.specs.Loaded.{has_set}
-use Rattle.records.proofs.Records.{all_more}
-use Rattle.records.proofs.ReadingLoops.{rest_none, rest_cons, rest_two}
+use Rattle.records.proofs.Records.{all_more, all_left, all_right, below_at}
+use Rattle.records.proofs.ReadingLoops.{pair_of}
 
 -- ---- a table to which the members of s are added at u, where it has room
-module _ (ws : List ℕ) (u : ℕ) (s : NodeSet) (more : ℕ → Bool) (e : member s ≡ (λ w. set_at ws u w || more w)) (v w : ℕ) where
+module _ (ws : List ℕ) (u : ℕ) (s : List ℕ) (more : ℕ → Bool) (e : member s ≡ (λ w. set_at ws u w || more w)) (v w : ℕ) where
   pub put_union : set_at (put_set ws u (words_of s)) v w ≡ set_at ws v w || ((eqb v u && more w) && has_set ws u)
   put_union = by (le_or_lt (set_words * u + set_words) (length ws)) (ℕ_discrete v u)
     where
@@ -74,24 +73,27 @@ module _ (ws : List ℕ) (a b : ℕ) (fits : set_words * a + set_words ≤ lengt
 pub cleared : (ws : List ℕ) (n : ℕ) → ws ≡ zeros n → (u v : ℕ) → set_at ws u v ≡ false
 cleared ws n e u v = ap (λ (l : List ℕ). set_at l u v) e ∙ ap (λ (f : ℕ → Bool). f v) (zeros_empty n u)
 
--- ---- edges
-module _ (l : List ℕ) (i : ℕ) (u v : ℕ) where
-  pub has_edge_end : length l - i < 2 → has_edge (drop i l) u v ≡ false
-  unfolding has_edge
-  has_edge_end h = by (ℕ_discrete (length l - i) 1)
-    where
-      by : Dec (length l - i ≡ 1) → has_edge (drop i l) u v ≡ false
-      by (yes e) = ap (λ (t : List ℕ). has_edge t u v) (rest_cons l i (omega arith) ∙ ap (λ (t : List ℕ). get_or l i 0 ∷ t) (rest_none l (i + 1) (omega arith)))
-      by (no e) = ap (λ (t : List ℕ). has_edge t u v) (rest_none l i (omega arith))
+-- ---- edges, two nodes at a time
+pub has_edge_end : (s : List ℕ) (u v : ℕ) → length s < 2 → has_edge s u v ≡ false
+unfolding has_edge
+has_edge_end [] u v h = refl
+has_edge_end (a ∷ []) u v h = refl
+has_edge_end (a ∷ b ∷ s) u v h = absurd (omega arith)
 
-  pub has_edge_more : i + 2 ≤ length l → (m : Bool)
-      → m || has_edge (drop i l) u v ≡ ((m || (eqb u (get_or l i 0) && eqb v (get_or l (i + 1) 0))) || (eqb u (get_or l (i + 1) 0) && eqb v (get_or l i 0))) || has_edge (drop (i + 2) l) u v
+module _ (s e r : List ℕ) (q : s ≡ e ++ r) (two : length e ≡ 2) where
+  pub both_below : all (λ v. ltb v capacity) s ≡ true → (get_or e 0 0 < capacity) × (get_or e 1 0 < capacity) × (all (λ v. ltb v capacity) r ≡ true)
+  both_below h =
+      let front : all (λ v. ltb v capacity) e ≡ true = all_left (λ v. ltb v capacity) e r (sym (ap (all (λ v. ltb v capacity)) q) ∙ h) in
+      (below_at capacity e 0 front (omega arith), below_at capacity e 1 front (omega arith), all_right (λ v. ltb v capacity) e r (sym (ap (all (λ v. ltb v capacity)) q) ∙ h))
+
+  pub has_edge_more : (u v : ℕ) (m : Bool)
+      → m || has_edge s u v ≡ ((m || (eqb u (get_or e 0 0) && eqb v (get_or e 1 0))) || (eqb u (get_or e 1 0) && eqb v (get_or e 0 0))) || has_edge r u v
   unfolding has_edge
-  has_edge_more h m =
-      let a = get_or l i 0 in
-      let b = get_or l (i + 1) 0 in
-      ap (λ (t : List ℕ). m || has_edge t u v) (rest_two l i h)
-      ∙ rw (eqb_comm u a, eqb_comm v b, eqb_comm u b, eqb_comm v a) (swap m (eqb a u && eqb b v) (eqb a v) (eqb b u) (has_edge (drop (i + 2) l) u v))
+  has_edge_more u v m =
+      let a = get_or e 0 0 in
+      let b = get_or e 1 0 in
+      ap (λ (t : List ℕ). m || has_edge t u v) (q ∙ ap (λ (x : List ℕ). x ++ r) (pair_of e two))
+      ∙ rw (eqb_comm u a, eqb_comm v b, eqb_comm u b, eqb_comm v a) (swap m (eqb a u && eqb b v) (eqb a v) (eqb b u) (has_edge r u v))
     where
       swap : (m x p q z : Bool) → m || (x || p && q || z) ≡ ((m || x) || (q && p)) || z
       swap true x p q z = refl

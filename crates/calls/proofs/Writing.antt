@@ -11,7 +11,7 @@ use Rattle.nodes.specs.Row.{count, members}
 use Rattle.nodes.specs.NodeSet.{highest, capacity}
 use Rattle.nodes.specs.Lists.{has}
 use Rattle.nodes.proofs.Members.{members_ext, members_past}
-use Rattle.answers.specs.Answer.{Refusal, gives, refuses, refusal}
+use Rattle.answers.specs.Answer.{gives, refuses, refusal}
 use Rattle.records.specs.JobFile.{nodes_below, has_edge}
 use Rattle.records.specs.Encoding.{job_bytes}
 use Rattle.records.specs.JobLists.{JobLists, once, edges_once, lists_ask, given_once, pairs_among, job_with}
@@ -23,10 +23,6 @@ use Rattle.demands.specs.Calls.{owner, Outcome, put, written_job, write_job_asks
 
 -- ---- the call, by what is answered
 module _ (l : JobLists) (out : List ℕ) where
-  pub write_refused : (r : Refusal) → lists_ask l ≡ refuses r → ◌≡◌ {A = Outcome} (record { answer = refuses r; work = []; out = out }) (write_job_call owner l out)
-  unfolding write_job_asks write_job_call
-  write_refused r e = rw e
-
   pub write_twice : lists_ask l ≡ gives true → given_once l ≡ false → ◌≡◌ {A = Outcome} (record { answer = refuses (refusal 21); work = []; out = out }) (write_job_call owner l out)
   unfolding write_job_asks write_job_call
   write_twice e f = rw (e, f)

@@ -1,48 +1,53 @@
 -- What the calls' code works with and answers: job and flow as they were loaded, and the first refusal.
-use Rattle.std.specs.Prelude.{ℕ, ◌+◌, ◌*◌, ◌/◌, ◌%◌, ◌≤◌, ◌<◌, ◌≡◌, Bool, true, false, cond, ◌&&◌, List, [], ◌∷◌, ◌++◌, eqb, leb, ltb, length, get_or, set, take, drop, Result, Ok, Err}
+use Rattle.std.specs.Prelude.{ℕ, ◌+◌, ◌*◌, ◌/◌, ◌%◌, ◌≡◌, Bool, true, false, cond, ◌&&◌, List, [], ◌∷◌, eqb, leb, ltb, length, get_or, set, Result, Ok, Err}
 use Rattle.std.proofs.Math.Option.{Option, none, some}
-use Rattle.nodes.specs.Options.{is_some}
 use Rattle.nodes.specs.Bit.{bit, ◌⊕◌}
 use Rattle.nodes.specs.Row.{parity, any_below, lowest, members}
 use Rattle.nodes.specs.NodeSet.{word_bits, member, highest, capacity}
-use Rattle.nodes.specs.SetTable.{set_at, set_words, raised}
-use Rattle.nodes.specs.declared.utils.NodeSet.{NodeSet}
+use Rattle.nodes.specs.SetTable.{set_at, set_words, table_words, raised}
 use Rattle.flows.specs.Job.{Job}
 use Rattle.flows.specs.Conditions.{member_excused, odd_excused, y_asked}
+use Rattle.flows.specs.Numbers.{mode_number}
 use Rattle.finder.specs.Searches.{job_in}
-use Rattle.answers.specs.Answer.{Refusal, Answer, gives, refuses, ◌>>◌}
-use Rattle.records.specs.JobFile.{mode_pauli}
-use Rattle.records.specs.FlowFile.{SetEntry, FlowFile, Signals, Flow, entries_of, listed, all_entries, entry_below, entries_rise, entry_bytes, nothing_left, one_member}
+use Rattle.answers.specs.Answer.{Refusal, Answer, gives, ◌>>◌}
+use Rattle.records.specs.JobFile.{JobFile, mode_pauli, has_edge, working_of}
+use Rattle.records.specs.FlowFile.{SetEntry, FlowFile, Signals, Flow, entries_of, listed, all_entries, entry_below, entries_rise, nothing_left, one_member, layer_width, sets_asks, read_flow}
+use Rattle.records.specs.Records.{all_yes, each_asks}
+use Rattle.records.specs.Encoding.{IsBytes, IsValidJob}
 use Rattle.records.specs.BitRows.{byte_bits, row_width, with_digit}
 use Rattle.records.specs.SignalLists.{signal_list, put_entry}
-use Rattle.records.specs.Views.{IsInFile, job_at, flow_at, flow_places}
-use Rattle.records.specs.declared.common.Place.{Place}
-use Rattle.records.specs.declared.common.JobPlaces.{JobPlaces}
-use Rattle.records.specs.declared.common.FlowPlaces.{FlowPlaces}
-use Rattle.demands.specs.Calls.{Both, read_both, matching}
+use Rattle.records.specs.Views.{job_held, flow_held}
+use Rattle.records.specs.declared.job_file.JobFile as JobRead
+use Rattle.records.specs.declared.flow_file.FlowFile as FlowRead
+use Rattle.demands.specs.Calls.{Both, matching}
 use Rattle.answers.specs.declared.Refusal as Code
-use Rattle.calls.specs.declared.load.Loaded.{Loaded}
+use Rattle.calls.specs.declared.job.Job.{Job as JobLoaded}
+use Rattle.calls.specs.declared.job.Flow.{Flow as FlowLoaded}
 use Rattle.calls.specs.declared.pflow.Excused.{Excused}
 
--- the job that was loaded: its graph and its measurements to work with lie in buffers
-abbrev pub job_loaded : Loaded → (graph measured : List ℕ) → Job
-job_loaded l graph measured = job_in l.n graph l.inputs l.outputs measured
+-- what lies in the buffers, where the job's graph and its measurements to work with were loaded
+pub record IsLoaded (f : JobFile) (graph measured : List ℕ) : Type 0 where
+  pub valid : IsValidJob f
+  pub table : length graph ≡ table_words
+  pub edges : (u v : ℕ) → set_at graph u v ≡ has_edge f.edges u v
+  pub bytes : length measured ≡ capacity
+  pub measurements : (u : ℕ) → get_or measured u 0 ≡ get_or (working_of f).measurements u 0
+
+-- the job that was loaded
+abbrev pub job_loaded : JobLoaded → Job
+job_loaded j = job_in j.n j.graph.now j.inputs j.outputs j.measured.now
 
 -- the words of set u lie in the table
 abbrev pub has_set : List ℕ → ℕ → Bool
 has_set table u = leb (set_words * u + set_words) (length table)
 
 -- the flow that the arguments hold
-abbrev pub flow_in : (layers : List ℕ) (entries : NodeSet) (sets : List ℕ) → Flow
+abbrev pub flow_in : (layers : List ℕ) (entries : List ℕ) (sets : List ℕ) → Flow
 flow_in layers entries sets = record { layer = λ u. get_or layers u 0; entry = member entries; set = set_at sets }
 
--- stands for a set that the questions at hand do not look at
-abbrev pub no_nodes : NodeSet
-no_nodes = record { low = 0; high = 0 }
-
--- all that is asked of the measurements
-abbrev pub measured_job : ℕ → List ℕ → Job
-measured_job n measured = job_in n [] no_nodes no_nodes measured
+-- the flow that was loaded
+abbrev pub flow_loaded : FlowLoaded → Flow
+flow_loaded f = flow_in f.layers.now f.entries f.sets.now
 
 -- the nodes below n that a set can have
 abbrev pub within : ℕ → ℕ → Bool
@@ -53,27 +58,31 @@ unfoldable pub first_in : (ℕ → Bool) → (ℕ → Refusal) → Option Refusa
 first_in s r = cond (any_below capacity s) (some (r (lowest capacity s))) none
 
 -- the nodes that the mode excuses, and the Y nodes of question 19
-pub record IsExcusedBy (n mode : ℕ) (measured : List ℕ) (e : Excused) : Type 0 where
-  pub members : member e.members ≡ (λ v. within n v && member_excused (measured_job n measured) (eqb mode mode_pauli) v)
-  pub odds : member e.odds ≡ (λ v. within n v && odd_excused (measured_job n measured) (eqb mode mode_pauli) v)
-  pub ys : member e.ys ≡ (λ v. within n v && y_asked (measured_job n measured) (eqb mode mode_pauli) v)
+pub record IsExcusedBy (j : JobLoaded) (e : Excused) : Type 0 where
+  pub members : member e.members ≡ (λ v. within j.n v && member_excused (job_loaded j) (eqb (mode_number j.mode) mode_pauli) v)
+  pub odds : member e.odds ≡ (λ v. within j.n v && odd_excused (job_loaded j) (eqb (mode_number j.mode) mode_pauli) v)
+  pub ys : member e.ys ≡ (λ v. within j.n v && y_asked (job_loaded j) (eqb (mode_number j.mode) mode_pauli) v)
 
 -- ---- a job and the flow file behind it
-abbrev pub both_at : List ℕ → JobPlaces × FlowPlaces → Both
-both_at s p = record { job = job_at s p.0; flow = flow_at s p.1 }
+abbrev pub both_held : JobRead.JobFile × FlowRead.FlowFile → Both
+both_held p = record { job = job_held p.0; flow = flow_held p.1 }
 
 -- is nothing left (8), has each causal entry one member (9)?
 unfoldable pub whole_asks : (mode : ℕ) → FlowFile → Answer Bool
 whole_asks mode g = nothing_left g.after >> one_member mode g.sets
 
--- both were read, from these places
-pub record IsReadAs (s : List ℕ) (job : JobPlaces) (flow : FlowPlaces) : Type 0 where
-  pub reads : read_both s ≡ gives (record { job = job_at s job; flow = flow_at s flow })
-  pub placed : flow ≡ flow_places s job.end
+-- both were read: the flow from what is left behind the job
+pub record IsRead (job : JobRead.JobFile) (flow : FlowRead.FlowFile) : Type 0 where
+  pub valid : IsValidJob (job_held job)
+  pub bytes : IsBytes job.after.now
+  pub layer_bytes : IsBytes flow.layers.now
+  pub reads : read_flow job.n job.after.now ≡ gives (flow_held flow)
+  pub layers : all_yes (each_asks (layer_width flow.wide) job.n flow.layers.now) ≡ true
+  pub sets : all_yes (sets_asks job.n flow.sets.now) ≡ true
 
-abbrev pub IsBothPlaced : List ℕ → Result (JobPlaces × FlowPlaces) Code.Refusal → Type 0
-IsBothPlaced s (Ok p) = IsReadAs s p.0 p.1
-IsBothPlaced s (Err q) = Unit
+abbrev pub IsBothRead : Result (JobRead.JobFile × FlowRead.FlowFile) Code.Refusal → Type 0
+IsBothRead (Ok p) = IsRead p.0 p.1
+IsBothRead (Err q) = Unit
 
 -- ---- signal lists
 -- the set, or Odd of it
@@ -90,7 +99,6 @@ stored_match n edge set stored = matching (list_for n edge false set, list_for n
 
 -- entries of nodes below n, that ascend
 pub record IsEntriesFor (n : ℕ) (p : List ℕ) : Type 0 where
-  pub framed : is_some (entries_of p) ≡ true
   pub below : all_entries (entry_below n) (listed (entries_of p)) ≡ true
   pub rise : entries_rise 0 (listed (entries_of p)) ≡ true
 
@@ -114,19 +122,6 @@ digits_from base word = raised base (members word_bits (bit word))
 -- the bytes of the longest list
 abbrev pub most_list : ℕ
 most_list = row_width capacity * capacity
-
--- ---- an entry among others
--- the entries from `at` on are those of node u and above
-pub record IsFromNode (p : List ℕ) (u at : ℕ) : Type 0 where
-  pub inside : at ≤ length p
-  pub framed : is_some (entries_of (drop at p)) ≡ true
-  pub above : at < length p → u ≤ get_or p at 0
-  pub split : (e : SetEntry) → e.node ≡ u → entry_bytes (put_entry e (listed (entries_of p))) ≡ take at p ++ entry_bytes (put_entry e (listed (entries_of (drop at p))))
-
--- there lies the entry of node u, or there it would
-pub record IsEntryPlace (p : List ℕ) (u : ℕ) (place : Place) : Type 0 where
-  pub inside : IsInFile p place
-  pub split : (e : SetEntry) → e.node ≡ u → entry_bytes (put_entry e (listed (entries_of p))) ≡ take place.start p ++ (entry_bytes (e ∷ []) ++ drop place.end p)
 
 -- a flow with the entry, and with these lists
 abbrev pub edited_with : FlowFile → SetEntry → Option Signals → FlowFile

@@ -3,10 +3,11 @@ ghost use Rattle.std.specs.Prelude.{◌≡◌, true, not, ◌||◌, ◌≤◌, e
 ghost use Rattle.nodes.specs.NodeSet.{member, capacity};
 ghost use Rattle.nodes.specs.SetTable.{table_words};
 ghost use Rattle.nodes.specs.Lists.{zeros};
-ghost use Rattle.finder.specs.Searches.{planes_given};
-ghost use Rattle.answers.specs.Answer.{gives};
-ghost use Rattle.records.specs.JobFile.{read_job, mode_planes, mode_pauli};
-ghost use Rattle.records.specs.Views.{job_at};
+ghost use Rattle.flows.specs.Numbers.{mode_number};
+ghost use Rattle.finder.specs.Searches.{with_paulis, planes_given};
+ghost use Rattle.records.specs.JobFile.{mode_planes, mode_pauli};
+ghost use Rattle.records.specs.Encoding.{IsValidJob};
+ghost use Rattle.records.specs.Views.{job_held};
 ghost use Rattle.records.specs.Splice.{put_front, put_answer};
 ghost use Rattle.records.specs.Writing.{flow_bytes};
 ghost use Rattle.solver.specs.Solver.{work_bytes};
@@ -15,93 +16,94 @@ ghost use Rattle.demands.specs.Roles.{finding, called};
 ghost use Rattle.calls.specs.Loaded.{job_loaded};
 ghost use Rattle.calls.specs.Replies.{reply_of, records_for};
 
-use crate::load::{Loaded, load_job};
-use crate::{answered, write_bare};
+use crate::job::Job;
+use crate::load::{load_graph, load_measured};
+use crate::write_bare;
 use answers::Refusal;
 use finder::search;
-use finder::search::Search;
+use finder::search::{Rule, Search};
+use flows::mode::Mode;
 use nodes::utils::{CAPACITY, NodeSet, TABLE_WORDS};
-use records::common::{JobPlaces, KIND_NO_FLOW, MODE_PAULI, MODE_PLANES};
-use records::reader::read_job;
+use records::common::KIND_NO_FLOW;
+use records::job_file::{JobFile, read_job};
 use records::writer::write_flow;
 use solver::gf2_linalg::WORK_BYTES;
 
 // The flow file of a finished search: an entry for each node that is no output.
 fn write_found(
-    n: usize,
-    outputs: NodeSet,
+    job: &Job<'_>,
     layers: &[u16],
     sets: &[u64],
     out: &mut [u8],
 ) -> Result<usize, Refusal>
-    requires { n ≤ length layers.now }
-    ensures result_value { reply_of result ≡ put_answer (records_for n (member outputs) layers.now sets.now) out.old }
-    ensures out_after { out.new ≡ put_front (records_for n (member outputs) layers.now sets.now) out.old }
+    requires { job.now.n ≤ length layers.now }
+    ensures result_value { reply_of result ≡ put_answer (records_for job.now.n (member job.now.outputs) layers.now sets.now) out.old }
+    ensures out_after { out.new ≡ put_front (records_for job.now.n (member job.now.outputs) layers.now sets.now) out.old }
 {
-    let nodes = NodeSet::below(n).difference(outputs);
-    answered(write_flow(out, &layers[0..n], sets, nodes))
+    let nodes = NodeSet::below(job.n).difference(job.outputs);
+    write_flow(out, &layers[0..job.n], sets, nodes)
+}
+
+fn rule_of(mode: Mode) -> Rule
+    ensures { with_paulis result ≡ not (eqb (mode_number mode) mode_planes) }
+{
+    match mode {
+        Mode::Planes => Rule::Planes,
+        Mode::Causal | Mode::Pauli => Rule::Paulis,
+    }
 }
 
 // The search on a job that was loaded, mode 2 by planes and mode 3 by Paulis, and what is written of it.
-fn find_loaded(
-    job: Loaded,
-    graph: &[u64],
-    measured: &[u8],
-    work: &mut [u8],
-    out: &mut [u8],
-) -> Result<usize, Refusal>
-    requires n_le_capacity { (job.n ≤ capacity) × (length graph.now ≡ table_words) × (job.n ≤ length measured.now) × (length work.old ≡ work_bytes) }
-    requires measured_value { (not (eqb job.mode mode_planes) || planes_given (job_loaded job graph.now measured.now)) ≡ true }
-    ensures { record { answer = reply_of result; work = work.new; out = out.new } ≡ put (zeros work_bytes) (flow_bytes (job_loaded job graph.now measured.now) (progress_by_mode job.mode (job_loaded job graph.now measured.now))) out.old }
+fn find_loaded(job: &Job<'_>, work: &mut [u8], out: &mut [u8]) -> Result<usize, Refusal>
+    requires work_fits { length work.old ≡ work_bytes }
+    requires measured_value { (not (eqb (mode_number job.now.mode) mode_planes) || planes_given (job_loaded job.now)) ≡ true }
+    ensures { record { answer = reply_of result; work = work.new; out = out.new } ≡ put (zeros work_bytes) (flow_bytes (job_loaded job.now) (progress_by_mode (mode_number job.now.mode) (job_loaded job.now))) out.old }
 {
-    let n = job.n;
-    let outputs = job.outputs;
     let mut layers = [0u16; CAPACITY];
     let mut sets = [0u64; TABLE_WORDS];
     // No job is refused here: the questions before the search see to the arguments.
     match search::find(
-        job.mode != MODE_PLANES,
-        graph,
-        n,
+        rule_of(job.mode),
+        job.graph,
+        job.n,
         job.inputs,
-        outputs,
-        measured,
+        job.outputs,
+        job.measured,
         work,
         &mut layers,
         &mut sets,
     )? {
-        Search::Flow => write_found(n, outputs, &layers, &sets, out),
+        Search::Flow => write_found(job, &layers, &sets, out),
         Search::NoFlow => write_bare(out, KIND_NO_FLOW),
     }
 }
 
 // The search on a job that passed all questions before it.
-fn find_job(file: &[u8], job: JobPlaces, work: &mut [u8], out: &mut [u8]) -> Result<usize, Refusal>
-    requires { (read_job file.now ≡ gives (job_at file.now job)) × (length work.old ≡ work_bytes) }
-    ensures { record { answer = reply_of result; work = work.new; out = out.new } ≡ put (zeros work_bytes) (found_bytes (job_at file.now job)) out.old }
+fn find_job(job: &JobFile<'_>, work: &mut [u8], out: &mut [u8]) -> Result<usize, Refusal>
+    requires { IsValidJob (job_held job.now) × (length work.old ≡ work_bytes) }
+    ensures { record { answer = reply_of result; work = work.new; out = out.new } ≡ put (zeros work_bytes) (found_bytes (job_held job.now)) out.old }
 {
     let mut graph = [0u64; TABLE_WORDS];
     let mut measured = [0u8; CAPACITY];
-    let loaded = load_job(file, job, &mut graph, &mut measured);
-    find_loaded(loaded, &graph, &measured, work, out)
+    load_graph(job.edges, &mut graph);
+    load_measured(job, &mut measured);
+    find_loaded(&Job::over(job, &graph, &measured), work, out)
 }
 
 // Is the mode 2 or 3? Asked of the file's own mode: whether there is a search is decided before one knows what to work with.
-fn has_search(mode: u8) -> bool
-    ensures { result ≡ (eqb mode mode_planes || eqb mode mode_pauli) }
+fn has_search(mode: Mode) -> bool
+    ensures { result ≡ (eqb (mode_number mode) mode_planes || eqb (mode_number mode) mode_pauli) }
 {
-    if mode == MODE_PLANES {
-        return true;
-    }
-    mode == MODE_PAULI
+    matches!(mode, Mode::Planes | Mode::Pauli)
 }
 
-// Is nothing left (8)? Is the mode 2 or 3 (10)? Is the work buffer right (11)?
-fn find_read(file: &[u8], job: JobPlaces, work: &mut [u8], out: &mut [u8]) -> Result<usize, Refusal>
-    requires { (read_job file.now ≡ gives (job_at file.now job)) × (job.end ≤ length file.now) }
-    ensures { record { answer = reply_of result; work = work.new; out = out.new } ≡ find_call file.now work.old out.old }
+// Is nothing left (8)? Is the mode 2 or 3 (10)? Is the work buffer right (11)? Open to every role.
+#[tactic(auto, using(crate::proofs::Finding::find_goes), unfolding(demands::specs::Calls::find_call, demands::specs::Calls::find_asks))]
+pub fn find(role: u64, file: &[u8], work: &mut [u8], out: &mut [u8]) -> Result<usize, Refusal>
+    ensures { record { answer = reply_of result; work = work.new; out = out.new } ≡ called role (finding work.old out.old) file.now }
 {
-    if job.end != file.len() {
+    let job = read_job(file)?;
+    if !job.after.is_empty() {
         return Err(Refusal::BytesLeft);
     }
     if !has_search(job.mode) {
@@ -110,14 +112,5 @@ fn find_read(file: &[u8], job: JobPlaces, work: &mut [u8], out: &mut [u8]) -> Re
     if work.len() != WORK_BYTES {
         return Err(Refusal::WrongShape);
     }
-    find_job(file, job, work, out)
-}
-
-// Open to every role.
-#[tactic(auto, unfolding(demands::specs::Calls::find_call, demands::specs::Calls::find_asks))]
-pub fn find(role: u64, file: &[u8], work: &mut [u8], out: &mut [u8]) -> Result<usize, Refusal>
-    ensures { record { answer = reply_of result; work = work.new; out = out.new } ≡ called role (finding work.old out.old) file.now }
-{
-    let job = read_job(file)?;
-    find_read(file, job, work, out)
+    find_job(&job, work, out)
 }

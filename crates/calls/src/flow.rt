@@ -1,29 +1,31 @@
 // Checking a causal flow, mode 1 of document 01.
-ghost use Rattle.std.specs.Prelude.{◌≡◌, ◌≤◌, ◌<◌, []};
+ghost use Rattle.std.specs.Prelude.{◌≡◌, ◌<◌};
 ghost use Rattle.nodes.specs.NodeSet.{capacity};
-ghost use Rattle.finder.specs.Searches.{job_in};
 ghost use Rattle.records.specs.JobFile.{mode_causal};
-ghost use Rattle.verdicts.specs.Verdict.{each, causal_ask, definition_ask, check_definition};
+ghost use Rattle.verdicts.specs.Verdict.{each, causal_ask, definition_ask};
 ghost use Rattle.answers.specs.Refusals.{asked_of};
-ghost use Rattle.calls.specs.Loaded.{flow_in, no_nodes};
+ghost use Rattle.calls.specs.Loaded.{job_loaded, flow_loaded};
 
-use crate::validate::{check_measured, in_order, layer_at, not_later};
+use crate::job::{Flow, Job};
+use crate::validate::in_order;
 use answers::Refusal;
 use nodes::utils::{NodeSet, set_at};
 
+// A node goes into a refusal by a cast: it lies below capacity, so it fits the byte, and usize has no From to u8.
+
 // Node i with f(i) = k: is f(i) later, are its neighbours other than i later, are the two adjacent (18)?
-fn check_pair(n: usize, graph: &[u64], layers: &[u16], i: usize, k: usize) -> Result<(), Refusal>
-    requires { (n ≤ capacity) × (i < capacity) × (k < capacity) }
-    ensures { asked_of result ≡ causal_ask (job_in n graph.now no_nodes no_nodes []) (flow_in layers.now no_nodes []) i k }
+fn check_pair(job: &Job<'_>, flow: &Flow<'_>, i: usize, k: usize) -> Result<(), Refusal>
+    requires { (i < capacity) × (k < capacity) }
+    ensures { asked_of result ≡ causal_ask (job_loaded job.now) (flow_loaded flow.now) i k }
 {
-    if layer_at(layers, k) >= layer_at(layers, i) {
+    if flow.layer_of(k) >= flow.layer_of(i) {
         return Err(Refusal::InconsistentFlowOrder {
             node: i as u8,
             other: k as u8,
         });
     }
-    let around = set_at(graph, k);
-    in_order(i, around.intersection(not_later(n, layers, i)))?;
+    let around = set_at(job.graph, k);
+    in_order(i, around.intersection(flow.not_later(job, i)))?;
     if !around.has(i) {
         return Err(Refusal::InconsistentFlowOrder {
             node: i as u8,
@@ -34,59 +36,26 @@ fn check_pair(n: usize, graph: &[u64], layers: &[u16], i: usize, k: usize) -> Re
 }
 
 // Node i, where it is no output, with each member of its set: there is one, by question 9.
-fn check_node(
-    n: usize,
-    graph: &[u64],
-    outputs: NodeSet,
-    layers: &[u16],
-    sets: &[u64],
-    i: usize,
-) -> Result<(), Refusal>
-    requires { (n ≤ capacity) × (i < capacity) }
-    ensures { asked_of result ≡ definition_ask (job_in n graph.now no_nodes outputs []) (flow_in layers.now no_nodes sets.now) mode_causal i }
+fn check_node(job: &Job<'_>, flow: &Flow<'_>, i: usize) -> Result<(), Refusal>
+    requires { i < capacity }
+    ensures { asked_of result ≡ definition_ask (job_loaded job.now) (flow_loaded flow.now) mode_causal i }
 {
-    if outputs.has(i) {
+    if job.outputs.has(i) {
         return Ok(());
     }
-    let mut s = set_at(sets, i).intersection(NodeSet::below(n));
-    while !s.is_empty() {
-        check_pair(n, graph, layers, i, s.lowest())?;
-        s = s.without_lowest();
+    let s = flow.set_of(i).intersection(NodeSet::below(job.n));
+    for k in s.iter() {
+        check_pair(job, flow, i, k)?;
     }
     Ok(())
 }
 
 #[tactic(auto, using(crate::proofs::Asking::each_step, crate::proofs::Asking::each_end))]
-fn check_nodes(
-    n: usize,
-    graph: &[u64],
-    outputs: NodeSet,
-    layers: &[u16],
-    sets: &[u64],
-) -> Result<(), Refusal>
-    requires { n ≤ capacity }
-    ensures { asked_of result ≡ each n (definition_ask (job_in n graph.now no_nodes outputs []) (flow_in layers.now no_nodes sets.now) mode_causal) }
+pub(crate) fn check_nodes(job: &Job<'_>, flow: &Flow<'_>) -> Result<(), Refusal>
+    ensures { asked_of result ≡ each job.now.n (definition_ask (job_loaded job.now) (flow_loaded flow.now) mode_causal) }
 {
-    for i in 0..n {
-        check_node(n, graph, outputs, layers, sets, i)?;
+    for i in 0..job.n {
+        check_node(job, flow, i)?;
     }
     Ok(())
-}
-
-// Has each entry a measurement (17)? Then node by node.
-#[tactic(auto, unfolding(verdicts::specs::Verdict::node_ask, verdicts::specs::Verdict::causal_ask))]
-pub(crate) fn check_definition(
-    n: usize,
-    graph: &[u64],
-    outputs: NodeSet,
-    measured: &[u8],
-    layers: &[u16],
-    entries: NodeSet,
-    sets: &[u64],
-) -> Result<(), Refusal>
-    requires { n ≤ capacity }
-    ensures { asked_of result ≡ check_definition (job_in n graph.now no_nodes outputs measured.now) (flow_in layers.now entries sets.now) mode_causal }
-{
-    check_measured(n, measured, entries)?;
-    check_nodes(n, graph, outputs, layers, sets)
 }

@@ -5,6 +5,7 @@ mod both; // both.rt: reading a job and the flow file behind it
 pub mod edit; // edit.rt: one node's set edited
 pub mod find; // find.rt: the finder, from a job file to a flow file
 mod flow; // flow.rt: checking a causal flow
+mod job; // job.rt: job and flow as searches and verifiers work on them
 mod load; // load.rt: what the records hold, for every call
 mod pflow; // pflow.rt: checking a generalized flow or a Pauli flow
 pub mod readout; // readout.rt: the angles of a job, read out
@@ -15,31 +16,21 @@ pub mod write; // write.rt: the job writers, from lists to a job file
 
 ghost use Rattle.std.specs.Prelude.{◌≡◌, []};
 ghost use Rattle.records.specs.Records.{written};
-ghost use Rattle.records.specs.Splice.{put_front, put_answer, put_of};
+ghost use Rattle.records.specs.Splice.{put_front, put_answer};
 ghost use Rattle.calls.specs.Replies.{reply_of};
 
 use answers::Refusal;
-use records::writer::{Put, write_record};
+use records::writer::write_record;
 
-// Every entry carries the role of its caller: 0 is the owner, any other number an operator.
+// Every entry carries the role of its caller: 0 is the owner, any other number an operator. No enum: a caller in C may hand over any number.
 pub const OWNER: u64 = 0;
 
 pub const OPERATOR: u64 = 1;
-
-// How many bytes were written; does the result fit the lent buffer (20)?
-fn answered(put: Put) -> Result<usize, Refusal>
-    ensures { reply_of result ≡ put_of put }
-{
-    match put {
-        Put::Bytes(k) => Ok(k),
-        Put::TooLong => Err(Refusal::ResultTooLong),
-    }
-}
 
 // A record that is its kind alone.
 fn write_bare(out: &mut [u8], kind: u16) -> Result<usize, Refusal>
     ensures result_value { reply_of result ≡ put_answer (written kind []) out.old }
     ensures out_after { out.new ≡ put_front (written kind []) out.old }
 {
-    answered(write_record(out, kind, b""))
+    write_record(out, kind, b"")
 }

@@ -8,26 +8,31 @@ ghost use Rattle.records.specs.FlowFile.{entries_of, listed, set_in};
 ghost use Rattle.records.specs.BitRows.{byte_bits, row_width, with_column};
 ghost use Rattle.records.specs.SignalLists.{edited_list, with_signals};
 ghost use Rattle.records.specs.Encoding.{flow_file_bytes};
-ghost use Rattle.records.specs.Views.{bytes_at, job_at, flow_at};
+ghost use Rattle.records.specs.Views.{job_held, flow_held};
 ghost use Rattle.demands.specs.Calls.{put};
 ghost use Rattle.demands.specs.Roles.{adding_lists, called};
-ghost use Rattle.calls.specs.Loaded.{flipped_by, list_for, stored_match, set_bit, set_bits, digits_from, odd_among, IsEntriesFor, IsReadAs};
+ghost use Rattle.calls.specs.Loaded.{flipped_by, list_for, stored_match, set_bit, set_bits, digits_from, odd_among, IsEntriesFor, IsRead};
 ghost use Rattle.calls.specs.Replies.{reply_of};
 
-use crate::answered;
 use crate::both::read_both;
-use crate::load::load_job;
+use crate::job::Job;
+use crate::load::load_graph;
 use answers::Refusal;
-use nodes::utils::{CAPACITY, NodeSet, TABLE_WORDS, WORD_BITS, set_at};
-use records::common::{ENTRY_HEAD_BYTES, FlowPlaces, JobPlaces, Place, number, payload};
-use records::signals::{BYTE_BITS, row_width, same_bytes, write_signals};
+use nodes::utils::{CAPACITY, NodeSet, SET_WORDS, TABLE_WORDS, set_at};
+use records::bit_rows::{BYTE_BITS, row_width};
+use records::common::HEAD_BYTES;
+use records::entries::Entries;
+use records::flow_file::FlowFile;
+use records::job_file::JobFile;
+use records::signals::{same_bytes, write_signals};
 
 // The bytes of the longest list.
 pub(crate) const MOST_LIST: usize = CAPACITY / BYTE_BITS * CAPACITY;
 
-// ---- Bits and columns of a list.
+// ---- Bits and columns of a list. A list stays a parameter beside n: the contracts name what the lent buffer holds at the end, and a struct
+// around it would owe in each method that it is still the same buffer.
 
-// The mask of bit i within its byte.
+// The mask of bit i within its byte; std has no method for it.
 fn byte_mask(i: usize) -> u8
     ensures { result ≡ 2 ^ (i % byte_bits) }
 {
@@ -41,12 +46,8 @@ pub(crate) fn clear_column(list: &mut [u8], n: usize, i: usize)
 {
     let width = row_width(n);
     let keep = 255 - byte_mask(i);
-    let mut at = i / BYTE_BITS;
-    let mut j = 0;
-    while j < n {
-        list[at] &= keep;
-        at += width;
-        j += 1;
+    for j in 0..n {
+        list[width * j + i / BYTE_BITS] &= keep;
     }
 }
 
@@ -70,28 +71,16 @@ fn set_other(list: &mut [u8], width: usize, j: usize, i: usize)
     set_bit(list, width, j, i);
 }
 
-// Bit i becomes 1 in each row whose digit the word has; the word begins with row `base`.
-fn add_in_word(list: &mut [u8], width: usize, base: usize, word: u64, i: usize)
-    requires base_le_capacity { base ≤ capacity }
-    requires by_index { (j : ℕ) → T (has (digits_from base word) j) → width * j + i / byte_bits < length list.old }
-    ensures { list.new ≡ set_bits width i (digits_from base word) list.old }
-{
-    let mut left = word;
-    while left != 0 {
-        set_bit(list, width, base + u64::trailing_zeros(left) as usize, i);
-        left &= left - 1;
-    }
-}
-
 // In a list of n rows whose bit i is 0 in each row it becomes 1 in the rows of s.
-fn add_column(list: &mut [u8], n: usize, i: usize, s: NodeSet)
+fn add_column(list: &mut [u8], n: usize, i: usize, s: NodeSet<SET_WORDS>)
     requires n_le_capacity { (n ≤ capacity) × (i < n) × ((j : ℕ) → T (member s j) → j < n) }
     requires list_value { with_column n i (λ j. false) list.old ≡ list.old }
     ensures { list.new ≡ with_column n i (member s) list.old }
 {
     let width = row_width(n);
-    add_in_word(list, width, 0, s.low, i);
-    add_in_word(list, width, WORD_BITS, s.high, i);
+    for j in s.iter() {
+        set_bit(list, width, j, i);
+    }
 }
 
 // Bit i, 0 in each row, becomes 1 in the rows of the members other than i.
@@ -101,22 +90,18 @@ fn add_members(list: &mut [u8], n: usize, i: usize, members: &[u8])
     ensures { list.new ≡ edited_list n i (has members.now) list.old }
 {
     let width = row_width(n);
-    let mut k = 0;
-    while k < members.len() {
-        set_other(list, width, number(members[k]), i);
-        k += 1;
+    for &k in members {
+        set_other(list, width, usize::from(k), i);
     }
 }
 
 // The nodes with an odd number of neighbours in the list.
-fn odd_of_members(graph: &[u64], members: &[u8]) -> NodeSet
+fn odd_of_members(graph: &[u64], members: &[u8]) -> NodeSet<SET_WORDS>
     ensures { member result ≡ (λ v. odd_among (λ k. set_at graph.now k v) members.now) }
 {
     let mut odd = NodeSet::empty();
-    let mut k = 0;
-    while k < members.len() {
-        odd = odd.xor(set_at(graph, number(members[k])));
-        k += 1;
+    for &k in members {
+        odd = odd.xor(set_at(graph, usize::from(k)));
     }
     odd
 }
@@ -150,59 +135,48 @@ fn add_entries(rows: &mut [u8], odds: &mut [u8], n: usize, graph: &[u64], sets: 
     ensures rows_after { rows.new ≡ list_for n (set_at graph.now) false (set_in (listed (entries_of sets.now))) }
     ensures odds_after { odds.new ≡ list_for n (set_at graph.now) true (set_in (listed (entries_of sets.now))) }
 {
-    let mut at = 0;
-    while at < sets.len() {
-        let i = number(sets[at]);
-        let start = at + ENTRY_HEAD_BYTES;
-        let end = start + number(sets[at + 1]);
-        add_entry(rows, odds, n, graph, i, &sets[start..end]);
-        at = end;
+    for e in Entries::of(sets) {
+        add_entry(rows, odds, n, graph, usize::from(e.node), e.members);
     }
 }
 
 // Are the stored lists, where there are any, those of the flow (22)?
-pub(crate) fn lists_match(file: &[u8], flow: FlowPlaces, n: usize, graph: &[u64]) -> bool
-    requires { (n ≤ capacity) × IsEntriesFor n (bytes_at flow.sets file.now) }
-    ensures { result ≡ stored_match n (set_at graph.now) (set_in (flow_at file.now flow).sets) (flow_at file.now flow).signals }
+pub(crate) fn lists_match(flow: &FlowFile<'_>, job: &Job<'_>) -> bool
+    requires { IsEntriesFor job.now.n (flow.now.sets.now) }
+    ensures { result ≡ stored_match job.now.n (set_at job.now.graph.now) (set_in (flow_held flow.now).sets) (flow_held flow.now).signals }
 {
-    if !flow.signals {
+    let Some(stored) = flow.signals else {
         return true;
-    }
-    let sets = flow.sets;
-    let entries = payload(file, sets);
+    };
+    let n = job.n;
     let size = row_width(n) * n;
     let mut rows = [0u8; MOST_LIST];
     let mut odds = [0u8; MOST_LIST];
-    add_entries(&mut rows[..size], &mut odds[..size], n, graph, entries);
-    let first = flow.rows;
-    if !same_bytes(&rows[..size], payload(file, first)) {
-        return false;
-    }
-    let second = flow.odds;
-    same_bytes(&odds[..size], payload(file, second))
+    add_entries(
+        &mut rows[..size],
+        &mut odds[..size],
+        n,
+        job.graph,
+        flow.sets,
+    );
+    same_bytes(&rows[..size], stored.rows) && same_bytes(&odds[..size], stored.odds)
 }
 
 // ---- Adding: the flow file with both lists, anew where they stand.
 
-fn add_read(file: &[u8], job: JobPlaces, flow: FlowPlaces, out: &mut [u8]) -> Result<usize, Refusal>
-    requires { IsReadAs file.now job flow }
-    ensures { record { answer = reply_of result; work = []; out = out.new } ≡ put [] (flow_file_bytes (with_signals (job_of (job_at file.now job)) (flow_at file.now flow))) out.old }
+fn add_read(job: &JobFile<'_>, flow: &FlowFile<'_>, out: &mut [u8]) -> Result<usize, Refusal>
+    requires { IsRead job.now flow.now }
+    ensures { record { answer = reply_of result; work = []; out = out.new } ≡ put [] (flow_file_bytes (with_signals (job_of (job_held job.now)) (flow_held flow.now))) out.old }
 {
     let n = job.n;
     let mut graph = [0u64; TABLE_WORDS];
-    let mut measured = [0u8; CAPACITY];
-    load_job(file, job, &mut graph, &mut measured);
-    let sets = flow.sets;
-    let entries = payload(file, sets);
+    load_graph(job.edges, &mut graph);
     let size = row_width(n) * n;
     let mut rows = [0u8; MOST_LIST];
     let mut odds = [0u8; MOST_LIST];
-    add_entries(&mut rows[..size], &mut odds[..size], n, &graph, entries);
-    let kept = Place {
-        start: job.end,
-        end: sets.end,
-    };
-    answered(write_signals(out, file, kept, &rows[..size], &odds[..size]))
+    add_entries(&mut rows[..size], &mut odds[..size], n, &graph, flow.sets);
+    let kept = &job.after[..2 * HEAD_BYTES + flow.layers.len() + flow.sets.len()];
+    write_signals(out, kept, &rows[..size], &odds[..size])
 }
 
 // A job and the flow file behind it: the flow file with its signal lists goes to the lent buffer; a refusal leaves it untouched. Open to
@@ -212,5 +186,5 @@ pub fn add_signals(role: u64, file: &[u8], out: &mut [u8]) -> Result<usize, Refu
     ensures { record { answer = reply_of result; work = []; out = out.new } ≡ called role (adding_lists out.old) file.now }
 {
     let (job, flow) = read_both(file)?;
-    add_read(file, job, flow, out)
+    add_read(&job, &flow, out)
 }

@@ -3,138 +3,98 @@ ghost use Rattle.std.specs.Prelude.{◌≡◌, true, []};
 ghost use Rattle.std.proofs.Math.Option.{none, some};
 ghost use Rattle.answers.specs.Answer.{gives};
 ghost use Rattle.records.specs.JobLists.{given, lists_ask};
-ghost use Rattle.records.specs.Views.{some_if};
+ghost use Rattle.records.specs.Views.{given_held};
 ghost use Rattle.demands.specs.Calls.{owner, write_job_call};
 ghost use Rattle.demands.specs.Roles.{writing, called};
 ghost use Rattle.calls.specs.Replies.{reply_of};
 
+use crate::OWNER;
 use crate::load::load_graph;
-use crate::{OWNER, answered};
 use answers::Refusal;
 use nodes::utils::{NodeSet, TABLE_WORDS};
-use records::lists::ask_lists;
-use records::reader::set_of;
+use records::common::set_of;
+use records::lists::{JobLists, ask_lists};
 use records::writer;
 use records::writer::edges_len;
 
 // After the questions of each list: a loop or an edge twice leaves fewer edges in the graph than the list has, a node twice fewer
 // nodes in its set (21).
-fn write_asked(
-    n: usize,
-    mode: usize,
-    edges: &[u8],
-    inputs: &[u8],
-    outputs: &[u8],
-    measurements: &[u8],
-    angled: bool,
-    angles: &[u8],
-    out: &mut [u8],
-) -> Result<usize, Refusal>
-    requires { lists_ask (given n mode edges.now inputs.now outputs.now measurements.now (some_if angled angles.now)) ≡ gives true }
-    ensures { record { answer = reply_of result; work = []; out = out.new } ≡ write_job_call owner (given n mode edges.now inputs.now outputs.now measurements.now (some_if angled angles.now)) out.old }
+fn write_asked(job: &JobLists<'_>, out: &mut [u8]) -> Result<usize, Refusal>
+    requires { lists_ask (given_held job.now) ≡ gives true }
+    ensures { record { answer = reply_of result; work = []; out = out.new } ≡ write_job_call owner (given_held job.now) out.old }
 {
-    let nodes = NodeSet::below(n);
+    let nodes = NodeSet::below(job.n);
     let mut graph = [0u64; TABLE_WORDS];
-    load_graph(edges, &mut graph);
-    if edges_len(&graph, nodes) != edges.len() {
+    load_graph(job.edges, &mut graph);
+    if edges_len(&graph, nodes) != job.edges.len() {
         return Err(Refusal::GivenTwice);
     }
-    let ins = set_of(inputs);
-    if ins.count() != inputs.len() {
+    let ins = set_of(job.inputs);
+    if ins.count() != job.inputs.len() {
         return Err(Refusal::GivenTwice);
     }
-    let outs = set_of(outputs);
-    if outs.count() != outputs.len() {
+    let outs = set_of(job.outputs);
+    if outs.count() != job.outputs.len() {
         return Err(Refusal::GivenTwice);
     }
-    answered(writer::write_job(
+    // ask_lists has seen to it that both fit a byte: n and the mode are what an editor hands over, any numbers.
+    writer::write_job(
         out,
-        n as u8,
-        mode as u8,
+        job.n as u8,
+        job.mode as u8,
         &graph,
         nodes,
         ins,
         outs,
-        measurements,
-        angled,
-        angles,
-    ))
+        job.measurements,
+        job.angles,
+    )
 }
 
 // The angles count where they are given.
 #[tactic(auto, unfolding(demands::specs::Calls::write_job_call, demands::specs::Calls::write_job_asks))]
-fn write_lists(
-    n: usize,
-    mode: usize,
-    edges: &[u8],
-    inputs: &[u8],
-    outputs: &[u8],
-    measurements: &[u8],
-    angled: bool,
-    angles: &[u8],
-    out: &mut [u8],
-) -> Result<usize, Refusal>
-    ensures { record { answer = reply_of result; work = []; out = out.new } ≡ write_job_call owner (given n mode edges.now inputs.now outputs.now measurements.now (some_if angled angles.now)) out.old }
+fn write_lists(job: &JobLists<'_>, out: &mut [u8]) -> Result<usize, Refusal>
+    ensures { record { answer = reply_of result; work = []; out = out.new } ≡ write_job_call owner (given_held job.now) out.old }
 {
-    ask_lists(
-        n,
-        mode,
-        edges,
-        inputs,
-        outputs,
-        measurements,
-        angled,
-        angles,
-    )?;
-    write_asked(
-        n,
-        mode,
-        edges,
-        inputs,
-        outputs,
-        measurements,
-        angled,
-        angles,
-        out,
-    )
+    ask_lists(job)?;
+    write_asked(job, out)
 }
 
 // Without angles it is open to every role.
-pub fn write_job(
+pub fn write_job<'a>(
     role: u64,
     n: usize,
     mode: usize,
-    edges: &[u8],
-    inputs: &[u8],
-    outputs: &[u8],
-    measurements: &[u8],
+    edges: &'a [u8],
+    inputs: &'a [u8],
+    outputs: &'a [u8],
+    measurements: &'a [u8],
     out: &mut [u8],
 ) -> Result<usize, Refusal>
     ensures { record { answer = reply_of result; work = []; out = out.new } ≡ called role (writing out.old) (given n mode edges.now inputs.now outputs.now measurements.now none) }
 {
-    write_lists(
+    let job = JobLists {
         n,
         mode,
         edges,
         inputs,
         outputs,
         measurements,
-        false,
-        b"",
-        out,
-    )
+        angles: None,
+    };
+    write_lists(&job, out)
 }
 
 // With an angle for each node, 8 bytes each; in mode 2 only. Is it the owner who writes them (24)?
-pub fn write_job_angles(
+pub fn write_job_angles<'a>(
     role: u64,
     n: usize,
     mode: usize,
-    edges: &[u8],
-    inputs: &[u8],
-    outputs: &[u8],
-    measurements: &[u8],
-    angles: &[u8],
+    edges: &'a [u8],
+    inputs: &'a [u8],
+    outputs: &'a [u8],
+    measurements: &'a [u8],
+    angles: &'a [u8],
     out: &mut [u8],
 ) -> Result<usize, Refusal>
     ensures { record { answer = reply_of result; work = []; out = out.new } ≡ called role (writing out.old) (given n mode edges.now inputs.now outputs.now measurements.now (some angles.now)) }
@@ -142,15 +102,14 @@ pub fn write_job_angles(
     if role != OWNER {
         return Err(Refusal::NotTheOwner);
     }
-    write_lists(
+    let job = JobLists {
         n,
         mode,
         edges,
         inputs,
         outputs,
         measurements,
-        true,
-        angles,
-        out,
-    )
+        angles: Some(angles),
+    };
+    write_lists(&job, out)
 }

@@ -1,46 +1,61 @@
--- The bytes of a buffer, compared one after another.
+-- A buffer that begins with the result, and the bytes behind it.
 use Prim.Native.Nat.{ℕ, zero, suc, ◌+◌, ◌<◌, ◌≤◌}
-use mathlib.Core.Path.{◌≡◌, refl, sym, ap, ◌∙◌}
+use mathlib.Core.Path.{◌≡◌, refl, sym, ap, ap₂, ◌∙◌}
 use mathlib.Core.Bool.{Bool, true, false, ◌&&◌}
-use mathlib.Core.Logic.{◌⊎◌, inl, inr}
-use mathlib.Core.List.{List, [], ◌∷◌}
+use mathlib.Core.Logic.{◌≢◌}
+use mathlib.Core.List.{List, [], ◌∷◌, ◌++◌}
 use native.Mathlib.Omega.{arith}
-use native.Mathlib.Nat.{not-suc-le-zero, le_of_suc-le-suc, eq-or-lt_of_le}
-use borrow.Author.Tests.{le-leb, lt-leb}
-use lib.Dec.{T}
-use lib.ListN.{length, get_or}
+use native.Mathlib.Nat.{not-suc-le-zero, le_of_suc-le-suc}
+use borrow.Author.Tests.{le-leb}
+use lib.Dec.{T, eqb, leb, eqb→eq, eqb_refl, leb→le}
+use lib.ListN.{length, get_or, drop}
+use Rattle.std.specs.List.{list_all}
+use Rattle.std.proofs.Math.ListN.{get_or-append, get_or-eq_default}
+use Rattle.std.proofs.lemmas.List.{get_or_default, get_or-append-add, length-append}
 use Rattle.nodes.specs.Row.{all_below}
-use Rattle.nodes.proofs.Logic.{is_true, is_false, from_false}
-use Rattle.nodes.proofs.Row.{all_in, all_out}
+use Rattle.nodes.proofs.Logic.{is_true, is_false, and_l, and_r}
+use Rattle.nodes.proofs.Row.{all_in, all_out, all_ext, all_split}
 use Rattle.compare.specs.Buffers.{holds_at, holds_only}
 
--- within the list no default counts
-pub any_default : (l : List ℕ) (i d e : ℕ) → i < length l → get_or l i d ≡ get_or l i e
-any_default [] i d e h = absurd (not-suc-le-zero h)
-any_default (x ∷ l) zero d e h = refl
-any_default (x ∷ l) (suc i) d e h = any_default l i d e (le_of_suc-le-suc h)
+and_true : (b : Bool) → b && true ≡ b
+and_true true = refl
+and_true false = refl
 
-pub one_more : (f : ℕ → Bool) (i : ℕ) → ((k : ℕ) → k < i → T (f k)) → T (f i) → (k : ℕ) → k < i + 1 → T (f k)
-one_more f i h t k l = by (eq-or-lt_of_le (le k i l))
+one : (k : ℕ) → 1 + k ≡ suc k
+one k = omega arith
+
+-- a test of each element, by index and by the list
+all_at : (test : ℕ → Bool) (xs : List ℕ) → all_below (length xs) (λ k. test (get_or xs k 0)) ≡ list_all test xs
+unfolding all_below
+all_at test [] = refl
+all_at test (x ∷ xs) = let s = λ (k : ℕ). test (get_or (x ∷ xs) k 0) in
+    sym (ap (λ (n : ℕ). all_below n s) (one (length xs)))
+    ∙ all_split 1 (length xs) s
+    ∙ ap₂ ◌&&◌ (and_true (test x)) (all_ext (length xs) (λ k. s (1 + k)) (λ k. test (get_or xs k 0)) (λ k l. ap s (one k)) ∙ all_at test xs)
+
+module _ (p rest : List ℕ) (fill : ℕ) where
+  within : (k : ℕ) → k < length p → T (holds_at (p ++ rest) p fill k)
+  within k l = rw (get_or-append p rest 0 k l, get_or_default p k 0 fill l) (eqb_refl (get_or p k fill))
+
+  past : (k : ℕ) → k < length rest → holds_at (p ++ rest) p fill (length p + k) ≡ eqb (get_or rest k 0) fill
+  past k l = ap₂ eqb (get_or-append-add p rest k 0) (get_or-eq_default p fill (omega arith))
+
+  -- behind the result each byte is compared with the fill
+  pub held : list_all (λ b. eqb b fill) rest ≡ holds_only (p ++ rest) p fill
+  held = let f = holds_at (p ++ rest) p fill in
+      sym (ap (λ (b : Bool). b && all_below (length (p ++ rest)) f) (le-leb (length p) (length (p ++ rest)) (omega (arith, length-append p rest)))
+      ∙ ap (λ (n : ℕ). all_below n f) (length-append p rest)
+      ∙ all_split (length p) (length rest) f
+      ∙ ap₂ ◌&&◌ (is_true (all_below (length p) f) (all_in (length p) f within)) (all_ext (length rest) (λ k. f (length p + k)) (λ k. eqb (get_or rest k 0) fill) past)
+      ∙ all_at (λ b. eqb b fill) rest)
+
+prefix : (p s : List ℕ) (fill : ℕ) → length p ≤ length s → ((k : ℕ) → k < length p → get_or s k 0 ≡ get_or p k fill) → s ≡ p ++ drop (length p) s
+prefix [] s fill h e = refl
+prefix (x ∷ p) [] fill h e = absurd (not-suc-le-zero h)
+prefix (x ∷ p) (y ∷ s) fill h e = ap₂ ◌∷◌ (e zero (omega arith)) (prefix p s fill (le_of_suc-le-suc h) (λ k l. e (suc k) (omega arith)))
+
+pub not_held : (p s : List ℕ) (fill : ℕ) → ((rest : List ℕ) → s ≢ p ++ rest) → false ≡ holds_only s p fill
+not_held p s fill other = sym (is_false (holds_only s p fill) (λ t. by t (leb→le (length p) (length s) (and_l (leb (length p) (length s)) _ t))))
   where
-    le : (k i : ℕ) → k < i + 1 → k ≤ i
-    le k i l = omega arith
-
-    by : (k ≡ i) ⊎ (k < i) → T (f k)
-    by (inl e) = rw e t
-    by (inr m) = h k m
-
-module _ (buffer result : List ℕ) (fill : ℕ) where
-  pub too_short : length buffer < length result → false ≡ holds_only buffer result fill
-  too_short h = sym (ap (λ (b : Bool). b && all_below (length buffer) (holds_at buffer result fill)) (lt-leb (length result) (length buffer) h))
-
-  module _ (room : length result ≤ length buffer) where
-    pub not_held : (i : ℕ) → i < length buffer → holds_at buffer result fill i ≡ false → false ≡ holds_only buffer result fill
-    not_held i l e =
-        sym (ap (λ (b : Bool). b && all_below (length buffer) (holds_at buffer result fill)) (le-leb (length result) (length buffer) room)
-        ∙ is_false (all_below (length buffer) (holds_at buffer result fill)) (λ t. from_false (holds_at buffer result fill i) e (all_out (length buffer) (holds_at buffer result fill) t i l)))
-
-    pub all_held : ((k : ℕ) → k < length buffer → T (holds_at buffer result fill k)) → true ≡ holds_only buffer result fill
-    all_held h =
-        sym (ap (λ (b : Bool). b && all_below (length buffer) (holds_at buffer result fill)) (le-leb (length result) (length buffer) room)
-        ∙ is_true (all_below (length buffer) (holds_at buffer result fill)) (all_in (length buffer) (holds_at buffer result fill) h))
+    by : T (holds_only s p fill) → length p ≤ length s → ⊥
+    by t room = other (drop (length p) s) (prefix p s fill room (λ k l. eqb→eq _ _ (all_out (length s) (holds_at s p fill) (and_r (leb (length p) (length s)) _ t) k (omega arith))))

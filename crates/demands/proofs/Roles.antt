@@ -12,16 +12,15 @@ use lib.ListN.{length, length-append, take, get_or}
 use lib.Dec.{eqb}
 use lib.Ieee.{Float}
 use lib.Seq.{take-append-add}
+use Rattle.std.specs.Prelude.{Some, None}
 use Rattle.nodes.specs.Lists.{has, zeros}
 use Rattle.nodes.proofs.Logic.{or_all}
 use Rattle.nodes.proofs.Lists.{length-list_of, get_or-list_of, is_list_of}
 use Rattle.solver.specs.Solver.{work_bytes}
 use Rattle.flows.specs.Job.{Job, plane_xy, plane_yz, plane_xz}
 use Rattle.answers.specs.Answer.{Answer, gives, refuses, asks, ◌>>=◌, ◌>>◌}
-use Rattle.angles.specs.Angle.{is_whole, is_half, inferred_in, inferred_byte, read_bits}
+use Rattle.angles.specs.Angle.{Angle, is_whole, is_half, inferred_in, inferred_byte, read_bits}
 use Rattle.angles.specs.AngleRecord.{angle_bytes, bits_at, inferred_from, inferred_bytes}
-use Rattle.angles.specs.declared.Angle.{Angle}
-use Rattle.angles.specs.declared.Angle.TheVariants.{Value, NotANumber}
 use Rattle.records.specs.Records.{head_bytes, written, kind_angles, kind_accepted}
 use Rattle.records.specs.JobFile.{JobFile, mode_pauli, read_job, has_edge, job_of}
 use Rattle.records.specs.JobLists.{without_angles}
@@ -212,7 +211,7 @@ keeps_plane p = by (eqb p plane_xy) refl (eqb p plane_yz) refl (eqb p plane_xz) 
     by false e false f true g = sym (eqb-true p plane_xz g)
     by false e false f false g = refl
 
-ordinary_keeps : (p : ℕ) (x : Float) → special (Value x) ≡ special NotANumber → inferred_from p (Value x) ≡ p
+ordinary_keeps : (p : ℕ) (x : Float) → special (Some x) ≡ special None → inferred_from p (Some x) ≡ p
 unfolding inferred_byte inferred_in
 ordinary_keeps p x e =
     let whole : is_whole x ≡ false = ap (λ (s : Bool × Bool). s.0) e in
@@ -221,13 +220,13 @@ ordinary_keeps p x e =
 
 same_inferred : (p : ℕ) (a b : Angle) → special a ≡ special b → inferred_from p a ≡ inferred_from p b
 unfolding inferred_byte inferred_in
-same_inferred p (Value x) (Value y) e =
+same_inferred p (Some x) (Some y) e =
     let whole : is_whole x ≡ is_whole y = ap (λ (s : Bool × Bool). s.0) e in
     let half : is_half x ≡ is_half y = ap (λ (s : Bool × Bool). s.1) e in
     rw (whole, half)
-same_inferred p (Value x) NotANumber e = ordinary_keeps p x e
-same_inferred p NotANumber (Value y) e = sym (ordinary_keeps p y (sym e))
-same_inferred p NotANumber NotANumber e = refl
+same_inferred p (Some x) None e = ordinary_keeps p x e
+same_inferred p None (Some y) e = sym (ordinary_keeps p y (sym e))
+same_inferred p None None e = refl
 
 pub only_special_show : OnlySpecialShow
 unfolding inferred_bytes

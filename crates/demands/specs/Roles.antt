@@ -1,12 +1,10 @@
 -- Request 2026-07: all calls that take or write a job, in one list, each with its role; and as propositions what an operator may not see.
-use Rattle.std.specs.Prelude.{ℕ, ◌<◌, ◌≡◌, Bool, true, false, List, [], ◌++◌, ◌≢◌, ◌⊎◌, length}
+use Rattle.std.specs.Prelude.{ℕ, ◌<◌, ◌≡◌, Bool, true, false, List, [], ◌++◌, ◌≢◌, ◌⊎◌, length, Some, None}
 use Rattle.std.proofs.Math.Option.{some}
 use Rattle.nodes.specs.Options.{is_some}
 use Rattle.answers.specs.Answer.{refuses, refusal}
-use Rattle.angles.specs.Angle.{is_whole, is_half, read_bits}
+use Rattle.angles.specs.Angle.{Angle, is_whole, is_half, read_bits}
 use Rattle.angles.specs.AngleRecord.{bits_at, inferred_bytes}
-use Rattle.angles.specs.declared.Angle.{Angle}
-use Rattle.angles.specs.declared.Angle.TheVariants.{Value, NotANumber}
 use Rattle.records.specs.JobFile.{JobFile}
 use Rattle.records.specs.JobLists.{JobLists, given, job_with}
 use Rattle.demands.specs.Calls.{owner, Outcome, find_call, verify_call, write_job_call, read_angles_call, add_signals_call, edit_set_call}
@@ -135,8 +133,8 @@ Secrecy = (role : ℕ) → role ≢ owner → (c : Call) (one other : Source c) 
 
 -- ---- what does show: whether an angle is 0 or 1, and whether it is 0.5 or 1.5
 abbrev pub special : Angle → Bool × Bool
-special (Value x) = (is_whole x, is_half x)
-special NotANumber = (false, false)
+special (Some x) = (is_whole x, is_half x)
+special None = (false, false)
 
 -- Nothing else: angles of the same kind, node for node, infer the same measurements.
 abbrev pub OnlySpecialShow : Type 0

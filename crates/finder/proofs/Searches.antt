@@ -14,7 +14,6 @@ use Rattle.nodes.specs.Row.{any_below, all_below}
 use Rattle.nodes.specs.NodeSet.{member, capacity, highest, word_bits}
 use Rattle.nodes.specs.Lists.{zeros}
 use Rattle.nodes.specs.SetTable.{table_words, set_words, set_at}
-use Rattle.nodes.specs.declared.utils.NodeSet.{NodeSet}
 use Rattle.nodes.proofs.Logic.{is_true, from_true, beq_eq, dec, and_l, and_r, and_in, and_none, and_all, or_false, not_in, not_out, eqb_no, eqb_yes, lt_or_ge}
 use Rattle.answers.specs.Answer.{Answer, gives}
 use Rattle.nodes.proofs.Row.{any_in, any_out, all_in, all_out, all_ext, ltb_yes, ltb_no}
@@ -38,7 +37,7 @@ all_more n s t a = rw (add-one n) (and_in (s n) (all_below n s) a t)
 
 -- ---- the start
 -- the outputs below n, no layer and no set
-pub start_cut : (n : ℕ) → n ≤ capacity → (outputs solved : NodeSet) (layers sets : List ℕ) (a b : ℕ)
+pub start_cut : (n : ℕ) → n ≤ capacity → (outputs solved : List ℕ) (layers sets : List ℕ) (a b : ℕ)
     → member solved ≡ (λ u. member outputs u && (ltb u n && leb u highest)) → layers ≡ zeros a → sets ≡ zeros b
     → progress_in solved layers sets ≡ cut_to n (start (member outputs))
 start_cut n h outputs solved layers sets a b e f g = progress_eq (progress_in solved layers sets) (cut_to n (start (member outputs))) (λ u. solved' u (lt_or_ge u n)) layer' set'
@@ -58,10 +57,10 @@ start_cut n h outputs solved layers sets a b e f g = progress_eq (progress_in so
     set' u = ap (λ (l : List ℕ). set_at l u) g ∙ zeros_empty b u ∙ fun_ext (λ v. sym (and_none (ltb u n)))
 
 -- ---- the end
-pub layers_left : (n : ℕ) (solved : NodeSet) (layers sets : List ℕ) (p : Progress) → length layers ≡ capacity → progress_in solved layers sets ≡ cut_to n p → layers ≡ layers_of n p
+pub layers_left : (n : ℕ) (solved : List ℕ) (layers sets : List ℕ) (p : Progress) → length layers ≡ capacity → progress_in solved layers sets ≡ cut_to n p → layers ≡ layers_of n p
 layers_left n solved layers sets p h e = is_list_of layers capacity (λ u. cond (ltb u n) (p.layer u) 0) h (λ u l. ap (λ (q : Progress). q.layer u) e)
 
-pub sets_left : (n : ℕ) (solved : NodeSet) (layers sets : List ℕ) (p : Progress) → length sets ≡ table_words → IsWords sets → progress_in solved layers sets ≡ cut_to n p → sets ≡ set_table n p
+pub sets_left : (n : ℕ) (solved : List ℕ) (layers sets : List ℕ) (p : Progress) → length sets ≡ table_words → IsWords sets → progress_in solved layers sets ≡ cut_to n p → sets ≡ set_table n p
 sets_left n solved layers sets p h w e = is_list_of sets table_words word h (λ i l. digits_is word_bits (get_or sets i 0) (digit i) (w i) (λ t m. place i t l m))
   where
     digit : ℕ → ℕ → Bool
@@ -91,7 +90,7 @@ all_solved n s h = beq_eq (not (any_below capacity unsolved)) (all_below n s) (�
     off : T (all_below n s) → (u : ℕ) × (u < capacity) × T (unsolved u) → ⊥
     off t (u, l, q) = not_out (s u) (and_r (ltb u n && leb u highest) (not (s u)) q) (all_out n s t u (ltb→lt u n (and_l (ltb u n) (leb u highest) (and_l (ltb u n && leb u highest) (not (s u)) q))))
 
-pub answer_left : (n : ℕ) (solved : NodeSet) (layers sets : List ℕ) (p : Progress) → progress_in solved layers sets ≡ cut_to n p → answer_of n (member solved) ≡ answer_of n p.solved
+pub answer_left : (n : ℕ) (solved : List ℕ) (layers sets : List ℕ) (p : Progress) → progress_in solved layers sets ≡ cut_to n p → answer_of n (member solved) ≡ answer_of n p.solved
 answer_left n solved layers sets p e = ap gives (all_ext n (member solved) p.solved (λ u l. ap (λ (q : Progress). q.solved u) e ∙ ap (λ (b : Bool). b && p.solved u) (ltb_yes u n l)))
 
 -- ---- the sizes that are asked for
@@ -118,7 +117,7 @@ module _ (n : ℕ) (graph measured work layers sets : List ℕ) where
       }
 
 -- ---- what a call answers
-module _ (pauli : Bool) (n : ℕ) (graph : List ℕ) (inputs outputs : NodeSet) (measured work layers sets : List ℕ) where
+module _ (pauli : Bool) (n : ℕ) (graph : List ℕ) (inputs outputs : List ℕ) (measured work layers sets : List ℕ) where
   abbrev given : Bool
   given = sizes_fit n graph measured work layers sets && (pauli || planes_given (job_in n graph inputs outputs measured))
 
@@ -138,7 +137,7 @@ pub outcome_eq : (n : ℕ) (p : Progress) (answer : Answer Bool) (work layers se
 outcome_eq n p answer work layers sets a b c d = rw (a, b, c, d)
 
 -- a search that has come as far as p
-pub call_left : (n : ℕ) (p : Progress) (solved : NodeSet) (answer : Answer Bool) (work layers sets : List ℕ) → progress_in solved layers sets ≡ cut_to n p → answer ≡ answer_of n (member solved) → work ≡ zeros work_bytes
+pub call_left : (n : ℕ) (p : Progress) (solved : List ℕ) (answer : Answer Bool) (work layers sets : List ℕ) → progress_in solved layers sets ≡ cut_to n p → answer ≡ answer_of n (member solved) → work ≡ zeros work_bytes
     → length layers ≡ capacity → length sets ≡ table_words → IsWords sets → ◌≡◌ {A = SearchOutcome} (record { answer = answer; work = work; layers = layers; sets = sets }) (searched n p)
 call_left n p solved answer work layers sets e a b hl hs w =
     outcome_eq n p answer work layers sets (a ∙ answer_left n solved layers sets p e) b (layers_left n solved layers sets p hl e) (sets_left n solved layers sets p hs w e)

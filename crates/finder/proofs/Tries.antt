@@ -18,7 +18,6 @@ use Rattle.nodes.specs.Bit.{◌⊕◌}
 use Rattle.nodes.specs.Row.{count, any_below}
 use Rattle.nodes.specs.NodeSet.{capacity, member}
 use Rattle.nodes.specs.SetTable.{set_at, table_words}
-use Rattle.nodes.specs.declared.utils.NodeSet.{NodeSet}
 use Rattle.nodes.proofs.Logic.{is_true, is_false, dec, and_l, and_r, and_none, and_all, or_l, or_r, or_out, ⊕_none, eqb_no, eqb_yes, lt_or_ge, and_in, or_false, beq_eq}
 use Rattle.nodes.proofs.Row.{ltb_yes, ltb_no, any_in, any_out}
 use Rattle.nodes.proofs.NodeSet.{member-lt}
@@ -27,9 +26,8 @@ use Rattle.solver.specs.Asked.{asking, asked_side}
 use Rattle.solver.specs.WorkMatrix.{entry_of}
 use Rattle.solver.specs.Solver.{row_bytes, most_rows}
 use Rattle.solver.specs.Basis.{Form, answer_from}
-use Rattle.solver.specs.BasisCalls.{form_of, form_fits, named_entry, named_system, IsBasisFormed, FormAfter, TablesSolve, solution_of}
+use Rattle.solver.specs.BasisCalls.{Echelon, form_of, form_fits, named_entry, named_system, IsBasisFormed, FormAfter, TablesSolve, solution_of}
 use Rattle.std.specs.Prelude as Rust
-use Rattle.solver.specs.declared.column_basis.Echelon.{Echelon}
 use Rattle.solver.proofs.System.{solve_ext, solve_past}
 use Rattle.solver.proofs.Asked.{IsLike, HasLike, IsIdle, solve_by_rows}
 use Rattle.solver.proofs.BasisTables.{rest_entry, fits_last}
@@ -44,7 +42,7 @@ use Rattle.finder.specs.WorkMatrix.{context_of, HasRowsApart, row_bit, IsLaidOut
 use Rattle.finder.specs.declared.matrix.Context as Code
 
 -- ---- the rows of the matrix that are laid out, and those that are left out because no column reaches them
-module _ (transposed work : List ℕ) (s : Code.Context) (upper reached : NodeSet) (up : member upper ≡ (λ v. member s.upper v && member reached v)) (reach : Reaches transposed s reached)
+module _ (transposed work : List ℕ) (s : Code.Context) (upper reached : List ℕ) (up : member upper ≡ (λ v. member s.upper v && member reached v)) (reach : Reaches transposed s reached)
     (above : IsLaidOut (member upper) (row_bit transposed (member s.columns) false) work)
     (below : IsLaidOut (member s.lower) (row_bit transposed (member s.columns) true) (drop (count capacity (member upper) * row_bytes) work)) where
   entry_at : (v k : ℕ) → k < capacity → T (member s.columns k) → named_entry work (member upper) (member s.lower) v k ≡ (round_system transposed s).entry v k
@@ -283,12 +281,12 @@ pub answer_same : (f : Form) {b c r q : ℕ → Bool} {x y : Bool} → b ≡ c �
 answer_same f {b = b} {c = c} {r = r} {q = q} {x = x} {y = y} d e h =
     ap (λ (z : ℕ → Bool). answer_from capacity f z r x) d ∙ ap₂ (λ (z : ℕ → Bool) (w : Bool). answer_from capacity f c z w) e h
 
-pub form_ready : (r : Rust.Result Echelon Refusal) (e : Echelon) (matrix : List ℕ) (upper lower column : ℕ → Bool) (k₀ r₀ p₀ kernel reduced preimage : List ℕ) → r ≡ Rust.Ok e
-    → FormAfter r matrix upper lower column k₀ r₀ p₀ kernel reduced preimage → IsBasisFormed matrix upper lower column kernel reduced preimage e
-form_ready r e matrix upper lower column k₀ r₀ p₀ kernel reduced preimage h a = subst (λ (x : Rust.Result Echelon Refusal). FormAfter x matrix upper lower column k₀ r₀ p₀ kernel reduced preimage) h a
+pub form_ready : {A : Type 0} (r : Rust.Result A Refusal) (x : A) (matrix : List ℕ) (upper lower column : ℕ → Bool) (e₀ : Echelon) (k₀ r₀ p₀ : List ℕ) (e : Echelon) (kernel reduced preimage : List ℕ) → r ≡ Rust.Ok x
+    → FormAfter r matrix upper lower column e₀ k₀ r₀ p₀ e kernel reduced preimage → IsBasisFormed matrix upper lower column kernel reduced preimage e
+form_ready {A = A} r x matrix upper lower column e₀ k₀ r₀ p₀ e kernel reduced preimage h a = subst (λ (y : Rust.Result A Refusal). FormAfter y matrix upper lower column e₀ k₀ r₀ p₀ e kernel reduced preimage) h a
 
 -- the solver never refuses a round
-pub form_refused : (r : Rust.Result Echelon Refusal) (matrix : List ℕ) (upper lower : ℕ → Bool) (kernel reduced preimage : List ℕ) (x : Refusal) → r ≡ Rust.Err x → given (λ e. true) r ≡ asks 11 (form_fits matrix upper lower kernel reduced preimage)
+pub form_refused : {A : Type 0} (r : Rust.Result A Refusal) (matrix : List ℕ) (upper lower : ℕ → Bool) (kernel reduced preimage : List ℕ) (x : Refusal) → r ≡ Rust.Err x → given (λ e. true) r ≡ asks 11 (form_fits matrix upper lower kernel reduced preimage)
     → (count capacity upper + count capacity lower) * row_bytes ≤ length matrix → length kernel ≡ table_words → length reduced ≡ table_words → length preimage ≡ table_words → ⊥
 form_refused r matrix upper lower kernel reduced preimage x e f a b c d =
     never (ap (given (λ e. true)) (sym e) ∙ f ∙ ap (asks 11) (sym (fits_last matrix upper lower kernel reduced preimage a b c) ∙ ap (λ (x : ℕ). eqb x table_words) d ∙ eqb_yes table_words))
@@ -309,21 +307,14 @@ side_in g u b odd near r a t n e =
 pub side_out : (g : List ℕ) (u b : ℕ) (odd : ℕ → Bool) → odd ≡ (λ v. eqb v u && in_odd b) → in_set b ≡ false → odd ≡ side_bit g u b
 side_out g u b odd a t = a ∙ fun_ext (λ v. sym (ap (λ (x : Bool). (eqb v u && in_odd b) ⊕ (x && set_at g u v)) t ∙ ⊕_none (eqb v u && in_odd b)))
 
--- two sets meet where one is a node alone
-pub meets_one : (s alone : ℕ → Bool) (u : ℕ) → u < capacity → alone ≡ (λ v. eqb v u) → any_below capacity (λ v. s v && alone v) ≡ s u
-meets_one s alone u h e =
-    beq_eq (any_below capacity (λ v. s v && alone v)) (s u)
-    (λ t. let (v, l, q) = any_out capacity (λ v. s v && alone v) t in subst (λ (x : ℕ). T (s x)) (eqb→eq v u (subst (λ (f : ℕ → Bool). T (f v)) e (and_r (s v) (alone v) q))) (and_l (s v) (alone v) q))
-    (λ t. any_in capacity (λ v. s v && alone v) u h (and_in (s u) (alone u) t (subst T (sym (ap (λ (f : ℕ → Bool). f u) e ∙ eqb_yes u)) tt)))
-
 -- u joins the set where its branch has it
-pub own_in : (f : Rust.Option NodeSet) (s r : NodeSet) (u b : ℕ) (alone : ℕ → Bool) → f ≡ Rust.Some s → in_set b ≡ true → alone ≡ (λ v. eqb v u) → member r ≡ (λ k. member s k || alone k)
+pub own_in : (f : Rust.Option (List ℕ)) (s r : List ℕ) (u b : ℕ) → f ≡ Rust.Some s → in_set b ≡ true → member r ≡ (λ k. member s k || eqb k u)
     → some (member r) ≡ with_node (in_set b) u (solution_of f)
-own_in f s r u b alone e i h w =
-    ap some (w ∙ ap {B = ℕ → Bool} (λ (g : ℕ → Bool) (k : ℕ). member s k || g k) h) ∙ ap (λ (c : Bool). some (λ k. member s k || c && eqb k u)) (sym i)
-    ∙ ap (λ (q : Rust.Option NodeSet). with_node (in_set b) u (solution_of q)) (sym e)
+own_in f s r u b e i w =
+    ap some w ∙ ap (λ (c : Bool). some (λ k. member s k || c && eqb k u)) (sym i)
+    ∙ ap (λ (q : Rust.Option (List ℕ)). with_node (in_set b) u (solution_of q)) (sym e)
 
-pub own_out : (f : Rust.Option NodeSet) (s : NodeSet) (u b : ℕ) → f ≡ Rust.Some s → in_set b ≡ false → some (member s) ≡ with_node (in_set b) u (solution_of f)
+pub own_out : (f : Rust.Option (List ℕ)) (s : List ℕ) (u b : ℕ) → f ≡ Rust.Some s → in_set b ≡ false → some (member s) ≡ with_node (in_set b) u (solution_of f)
 own_out f s u b e i =
     ap some (fun_ext (λ k. sym (or_false (member s k)))) ∙ ap (λ (c : Bool). some (λ k. member s k || c && eqb k u)) (sym i)
-    ∙ ap (λ (q : Rust.Option NodeSet). with_node (in_set b) u (solution_of q)) (sym e)
+    ∙ ap (λ (q : Rust.Option (List ℕ)). with_node (in_set b) u (solution_of q)) (sym e)

@@ -16,7 +16,7 @@ use Rattle.nodes.proofs.Count.{IsWithin, count-le, grows}
 use Rattle.nodes.proofs.Remove.{removed}
 use Rattle.nodes.specs.Options.{is_some}
 use Rattle.flows.specs.Search.{Progress, no_node, or_none, start, solved_now, round, solves_some, rounds, first_round, search_from}
-use Rattle.finder.specs.Visits.{cut_to, placed, visited, progress_in}
+use Rattle.finder.specs.Visits.{unsolved, cut_to, placed, visited, progress_in}
 use Rattle.flows.proofs.Search.{fresh_open, rounds_step, rounds_idle, rounds_enough}
 use Rattle.flows.proofs.Progress.{SameProgress, progress_sym, progress_trans, round_agree, rounds_agree}
 use mathlib.Core.List.{List}
@@ -24,7 +24,6 @@ use native.Mathlib.Decide.{ℕ_discrete}
 use lib.ListN.{length, get_or, set}
 use lib.Seq.{get_or-set_same, get_or-set_other}
 use Rattle.nodes.specs.SetTable.{table_words, set_words, set_at, put_set}
-use Rattle.nodes.specs.declared.utils.NodeSet.{NodeSet}
 use Rattle.nodes.proofs.SetTable.{put_same, put_other}
 
 pub progress_eq : (p q : Progress) → ((u : ℕ) → p.solved u ≡ q.solved u) → ((u : ℕ) → p.layer u ≡ q.layer u) → ((u : ℕ) → p.set u ≡ q.set u) → p ≡ q
@@ -34,7 +33,7 @@ progress_eq p q a b c =
     ∙ ap {B = Progress} (λ (f : ℕ → ℕ → Bool). record { solved = q.solved; layer = q.layer; set = f }) (fun_ext c)
 
 -- ---- a node is placed
-module _ (solved : NodeSet) (layers sets : List ℕ) (u r : ℕ) where
+module _ (solved : List ℕ) (layers sets : List ℕ) (u r : ℕ) where
   pub place_none : progress_in solved layers sets ≡ placed u r none (progress_in solved layers sets)
   place_none =
       progress_eq (progress_in solved layers sets) (placed u r none (progress_in solved layers sets))
@@ -42,7 +41,7 @@ module _ (solved : NodeSet) (layers sets : List ℕ) (u r : ℕ) where
       (λ v. sym (ap (λ (b : Bool). cond b r (get_or layers v 0)) (and_none (eqb v u))))
       (λ v. sym (ap (λ (b : Bool). cond b (λ (k : ℕ). false) (set_at sets v)) (and_none (eqb v u))))
 
-  module _ (h : u < capacity) (hl : length layers ≡ capacity) (hs : length sets ≡ table_words) (s next : NodeSet) (after : List ℕ)
+  module _ (h : u < capacity) (hl : length layers ≡ capacity) (hs : length sets ≡ table_words) (s next : List ℕ) (after : List ℕ)
       (e : member next ≡ (λ v. member solved v || eqb v u)) (f : after ≡ put_set sets u (words_of s)) where
     solved_place : (v : ℕ) → member next v ≡ member solved v || (eqb v u && true)
     solved_place v = ap (λ (g : ℕ → Bool). g v) e ∙ ap (λ (b : Bool). member solved v || b) (sym (and_all (eqb v u)))
@@ -325,6 +324,10 @@ module _ (try : (ℕ → Bool) → ℕ → Option (ℕ → Bool)) (n : ℕ)
   }
 
 -- a node of a part that leaves out `plain` where it is no pivot, and is not in it, is one of these
+-- the unsolved nodes that are visited: not those in `plain` whose row is no pivot
+abbrev pub picked : (n : ℕ) (solved plain pivots : ℕ → Bool) → ℕ → Bool
+picked n solved plain pivots u = unsolved n solved u && not (plain u && not (pivots u))
+
 pub passed_plain : (all plain pivots part : ℕ → Bool) → part ≡ (λ u. all u && not (plain u && not (pivots u))) → (u : ℕ) → T (all u) → (T (part u) → ⊥) → {o : Option (ℕ → Bool)}
     → (T (plain u) → (T (pivots u) → ⊥) → o ≡ none) → o ≡ none
 passed_plain all plain pivots part e u t f {o = o} h = by (dec (plain u && not (pivots u)))

@@ -16,7 +16,6 @@ use lib.Seq.{get_or-set_same, get_or-set_other, take_all, get_or-take, drop_at, 
 use Rattle.nodes.specs.Bit.{bit, ◌⊕◌}
 use Rattle.nodes.specs.Row.{any_below, count, lowest, members}
 use Rattle.nodes.specs.NodeSet.{word_bits, capacity, member_of, member, words_of}
-use Rattle.nodes.specs.declared.utils.NodeSet.{NodeSet}
 use Rattle.nodes.specs.SetTable.{set_at, table_words, add_sets}
 use Rattle.nodes.proofs.Logic.{is_true, is_false, from_false, and_l, and_r, and_none, and_all, or_l, or_r, or_false, or_all, ⊕_none, eqb_no, eqb_yes, lt_or_ge, not_out}
 use Rattle.nodes.proofs.Count.{rank_lt, rank_inj}
@@ -79,7 +78,7 @@ putting_end at word i left before after e p = record {
     at_end j (inr h) = inr (omega arith)
 
 -- ---- the two words of a row
-pub row_put : (row at next : ℕ) (s : NodeSet) (before middle after : List ℕ) → at ≡ row * row_bytes → next ≡ at + 8 → WordPut at s.low before middle → WordPut next s.high middle after
+pub row_put : (row at next : ℕ) (s : List ℕ) (before middle after : List ℕ) → at ≡ row * row_bytes → next ≡ at + 8 → WordPut at (get_or s 0 0) before middle → WordPut next (get_or s 1 0) middle after
     → RowPut row (member s) before after
 unfolding entry_of
 row_put row at next s before middle after e f a b = record {
@@ -91,13 +90,13 @@ row_put row at next s before middle after e f a b = record {
     by : (k : ℕ) → k < most_columns → (k < word_bits) ⊎ (word_bits ≤ k) → bit (get_or after (row * row_bytes + k / 8) 0) (k % 8) ≡ member s k
     by k h (inl l) =
         let z : row * row_bytes + k / 8 ≡ at + k / 8 = omega arith in
-        ap (λ (x : ℕ). bit (get_or after x 0) (k % 8)) z ∙ ap (λ (x : ℕ). bit x (k % 8)) (b.others (at + k / 8) (inl (omega arith))) ∙ a.digits k l ∙ sym (member_head s.low (s.high ∷ []) k l)
+        ap (λ (x : ℕ). bit (get_or after x 0) (k % 8)) z ∙ ap (λ (x : ℕ). bit x (k % 8)) (b.others (at + k / 8) (inl (omega arith))) ∙ a.digits k l ∙ sym (member_head (get_or s 0 0) (get_or s 1 0 ∷ []) k l)
     by k h (inr l) =
         let z : row * row_bytes + k / 8 ≡ next + (k - word_bits) / 8 = omega arith in
         let q : k % 8 ≡ (k - word_bits) % 8 = omega arith in
         let w : k ≡ word_bits + (k - word_bits) = omega arith in
         ap₂ (λ (x y : ℕ). bit (get_or after x 0) y) z q ∙ b.digits (k - word_bits) (omega arith)
-        ∙ sym (ap (member_of (words_of s)) w ∙ member_tail s.low (s.high ∷ []) (k - word_bits) ∙ member_head s.high [] (k - word_bits) (omega arith))
+        ∙ sym (ap (member_of (words_of s)) w ∙ member_tail (get_or s 0 0) (get_or s 1 0 ∷ []) (k - word_bits) ∙ member_head (get_or s 1 0) [] (k - word_bits) (omega arith))
 
     more : (i : ℕ) → i ≢ row → row ≤ i → row + 1 ≤ i
     more i d l = omega (arith, lt_of_le_of_ne l (λ z. d (sym z)))
@@ -176,7 +175,7 @@ transposed_start g support transposed e z f = record {
 }
 
 -- on the way: of the new nodes those that are not left are known
-pub record IsGrowing (g : List ℕ) (known new left : ℕ → Bool) (reached : NodeSet) (transposed : List ℕ) : Type 0 where
+pub record IsGrowing (g : List ℕ) (known new left : ℕ → Bool) (reached : List ℕ) (transposed : List ℕ) : Type 0 where
   pub size : length transposed ≡ table_words
   pub rows : (v k : ℕ) → set_at transposed v k ≡ (known k || (new k && not (left k))) && set_at g k v
   pub reach : (v k : ℕ) → T (set_at transposed v k) → T (member reached v)
@@ -198,8 +197,8 @@ growing_start g support columns new transposed t e = record {
     none false = refl
 
 -- the neighbours of the least that is left
-pub growing_step : (g : List ℕ) (known new left next : ℕ → Bool) (near one reached reached' : NodeSet) (p : ℕ) (transposed transposed' : List ℕ) → T (any_below capacity left) → p ≡ lowest capacity left
-    → member near ≡ set_at g p → member one ≡ (λ u. left u && eqb u (lowest capacity left)) → next ≡ removed left (lowest capacity left)
+pub growing_step : (g : List ℕ) (known new left next : ℕ → Bool) (near one reached reached' : List ℕ) (p : ℕ) (transposed transposed' : List ℕ) → T (any_below capacity left) → p ≡ lowest capacity left
+    → member near ≡ set_at g p → member one ≡ (λ u. eqb u p) → next ≡ removed left (lowest capacity left)
     → transposed' ≡ add_sets transposed (members capacity (member near)) (words_of one) → member reached' ≡ (λ u. member reached u || member near u)
     → IsGrowing g known new left reached transposed → IsGrowing g known new next reached' transposed'
 growing_step g known new left next near one reached reached' p transposed transposed' t z n o e a r w = record {
@@ -214,7 +213,7 @@ growing_step g known new left next near one reached reached' p transposed transp
     here = subst (λ (x : ℕ). T (left x)) (sym z) (lowest_member capacity left t)
 
     alone : member one ≡ (λ u. eqb u p)
-    alone = least_one capacity left (member one) t o ∙ ap {B = ℕ → Bool} (λ (x u : ℕ). eqb u x) (sym z)
+    alone = o
 
     added : (v k : ℕ) → set_at transposed' v k ≡ set_at transposed v k ⊕ set_at g p v && eqb k p
     added v k =

@@ -6,7 +6,6 @@ use Rattle.nodes.specs.Row.{all_below}
 use Rattle.nodes.specs.NodeSet.{member, capacity, word_bits}
 use Rattle.nodes.specs.Lists.{list_of, zeros}
 use Rattle.nodes.specs.SetTable.{table_words, set_words, set_at}
-use Rattle.nodes.specs.declared.utils.NodeSet.{NodeSet}
 use Rattle.solver.specs.Solver.{work_bytes}
 use Rattle.flows.specs.Job.{Job, plane_xy, plane_yz, plane_xz, pauli_y, is_x_or_y, is_y_or_z}
 use Rattle.flows.specs.Search.{Progress, round}
@@ -14,12 +13,14 @@ use Rattle.flows.specs.Tries.{try_at}
 use Rattle.flows.specs.Planes as Planes
 use Rattle.flows.specs.Paulis as Paulis
 use Rattle.finder.specs.Visits.{cut_to}
-use Rattle.finder.specs.declared.kinds.Kinds.{Kinds}
+use Rattle.finder.specs.declared.job.Kinds.{Kinds}
+use Rattle.finder.specs.declared.job.Rule.{Rule}
+use Rattle.finder.specs.declared.job.Rule.TheVariants.{Planes as PlanesRule, Paulis as PaulisRule}
 use Rattle.finder.specs.declared.search.Search.{Search}
 use Rattle.finder.specs.declared.search.Search.TheVariants.{Flow, NoFlow}
 
 -- the job that the arguments hold: the graph as a table of the nodes' neighbours
-abbrev pub job_in : (n : ℕ) (graph : List ℕ) (inputs outputs : NodeSet) (measured : List ℕ) → Job
+abbrev pub job_in : (n : ℕ) (graph : List ℕ) (inputs outputs : List ℕ) (measured : List ℕ) → Job
 job_in n graph inputs outputs measured = record {
   nodes = n;
   edge = set_at graph;
@@ -45,6 +46,11 @@ layers_of n p = list_of capacity (λ u. cond (ltb u n) (p.layer u) 0)
 -- the words of the sets of the nodes below n, and none past them
 abbrev pub set_table : ℕ → Progress → List ℕ
 set_table n p = list_of table_words (λ i. digits word_bits (λ t. ltb (i / set_words) n && p.set (i / set_words) (word_bits * (i % set_words) + t)))
+
+-- whether nodes may be measured in Paulis too
+abbrev pub with_paulis : Rule → Bool
+with_paulis PlanesRule = false
+with_paulis PaulisRule = true
 
 -- how far the search of the mode comes
 abbrev pub progress_at : Bool → Job → Progress
@@ -82,7 +88,7 @@ abbrev pub refused : (work layers sets : List ℕ) → SearchOutcome
 refused work layers sets = record { answer = refuses (refusal 11); work = work; layers = layers; sets = sets }
 
 -- a call of a search, for Paulis or for planes
-unfoldable pub search_call : (pauli : Bool) (n : ℕ) (graph : List ℕ) (inputs outputs : NodeSet) (measured work layers sets : List ℕ) → SearchOutcome
+unfoldable pub search_call : (pauli : Bool) (n : ℕ) (graph : List ℕ) (inputs outputs : List ℕ) (measured work layers sets : List ℕ) → SearchOutcome
 search_call pauli n graph inputs outputs measured work layers sets =
     let j = job_in n graph inputs outputs measured in
     let fits = sizes_fit n graph measured work layers sets && (pauli || planes_given j) in
@@ -98,6 +104,6 @@ pub record IsKindsOf (pauli : Bool) (n : ℕ) (measured : List ℕ) (k : Kinds) 
   pub plain : member k.plain ≡ (λ u. ltb u n && eqb (get_or measured u 0) plane_xy)
 
 -- round r, where the nodes `later` are later than all of it, has made q of p, of the nodes below n; for any outputs, since no try asks for them
-abbrev pub IsAdvanced : (pauli : Bool) (n : ℕ) (graph : List ℕ) (inputs : NodeSet) (measured : List ℕ) (later : ℕ → Bool) (r : ℕ) (p q : Progress) → Type 0
+abbrev pub IsAdvanced : (pauli : Bool) (n : ℕ) (graph : List ℕ) (inputs : List ℕ) (measured : List ℕ) (later : ℕ → Bool) (r : ℕ) (p q : Progress) → Type 0
 IsAdvanced pauli n graph inputs measured later r p q =
-    (outputs : NodeSet) → q ≡ cut_to n (round (try_at (job_in n graph inputs outputs measured) pauli later) r p)
+    (outputs : List ℕ) → q ≡ cut_to n (round (try_at (job_in n graph inputs outputs measured) pauli later) r p)

@@ -4,10 +4,8 @@ use Rattle.std.proofs.Math.Option.{Option, none}
 use Rattle.nodes.specs.Bit.{◌⊕◌}
 use Rattle.nodes.specs.NodeSet.{member, capacity}
 use Rattle.nodes.specs.SetTable.{set_at, table_words}
-use Rattle.nodes.specs.declared.utils.NodeSet.{NodeSet}
 use Rattle.solver.specs.System.{System}
-use Rattle.solver.specs.BasisCalls.{TablesSolve}
-use Rattle.solver.specs.declared.column_basis.Echelon.{Echelon}
+use Rattle.solver.specs.BasisCalls.{Echelon, TablesSolve}
 use Rattle.flows.specs.Job.{Job}
 use Rattle.flows.specs.Branch.{Context, branches, in_set, in_odd, try_branch, first_solvable}
 use Rattle.flows.specs.Round.{for_node, has_row}
@@ -55,17 +53,12 @@ pub record IsReady (n : ℕ) (g : List ℕ) (s : Code.Context) (e : Echelon) (ke
   pub apart : HasRowsApart s
   pub seeing : Sees g (member s.columns) transposed
 
--- u is a node, the one of `alone`, and if it is a column, it has a row
-pub record IsTrying (n : ℕ) (s : Code.Context) (u : ℕ) (alone : NodeSet) : Type 0 where
+-- u is a node, and if it is a column, it has a row
+pub record IsTrying (n : ℕ) (s : Code.Context) (u : ℕ) : Type 0 where
   pub node : u < n
-  pub alone' : member alone ≡ (λ v. eqb v u)
   pub covered : T (member s.columns u) → T (has_row (context_of s) u)
 
 -- ---- the branches of a measurement
--- the second branch of a row of the table, where 0 is no branch
-abbrev pub try_listed : (n : ℕ) (graph : List ℕ) → Context → (u b : ℕ) → Option (ℕ → Bool)
-try_listed n graph c u b = let tried = try_branch (graph_job n graph) c u b in cond (eqb b 0) none tried
-
 -- the first solvable branch of a measurement
 abbrev pub try_in : (n : ℕ) (graph : List ℕ) → Context → (u m : ℕ) → Option (ℕ → Bool)
 try_in n graph c u m = first_solvable (graph_job n graph) c u (branches m)

@@ -4,7 +4,6 @@ use Rattle.std.proofs.Math.Option.{Option}
 use Rattle.nodes.specs.NodeSet.{member, capacity, highest}
 use Rattle.nodes.specs.SetTable.{table_words, set_at}
 use Rattle.nodes.specs.Options.{is_some}
-use Rattle.nodes.specs.declared.utils.NodeSet.{NodeSet}
 use Rattle.solver.specs.Solver.{work_bytes}
 use Rattle.flows.specs.Job.{plane_xy}
 use Rattle.flows.specs.Round.{has_row}
@@ -25,11 +24,11 @@ abbrev pub unsolved : ℕ → (ℕ → Bool) → ℕ → Bool
 unsolved n solved u = (ltb u n && leb u highest) && not (solved u)
 
 -- nodes that are measured in XY
-abbrev pub IsPlain : (measured : List ℕ) → NodeSet → Type 0
+abbrev pub IsPlain : (measured : List ℕ) → List ℕ → Type 0
 IsPlain measured plain = (u : ℕ) → T (member plain u) → get_or measured u 0 ≡ plane_xy
 
 -- what a round asks of its context: an unsolved node that is a column has a row, and one of `plain` an upper row
-pub record IsRoundContext (n : ℕ) (measured : List ℕ) (solved : NodeSet) (s : Code.Context) (plain : NodeSet) : Type 0 where
+pub record IsRoundContext (n : ℕ) (measured : List ℕ) (solved : List ℕ) (s : Code.Context) (plain : List ℕ) : Type 0 where
   pub within : IsWithin n s
   pub apart : HasRowsApart s
   pub covered : (u : ℕ) → u < n → (T (member solved u) → ⊥) → T (member s.columns u) → T (has_row (context_of s) u)
@@ -37,7 +36,7 @@ pub record IsRoundContext (n : ℕ) (measured : List ℕ) (solved : NodeSet) (s 
   pub plain_measured : IsPlain measured plain
 
 -- how far a search has come: the solved nodes as a set, layers and sets in the lent buffers
-abbrev pub progress_in : NodeSet → (layers sets : List ℕ) → Progress
+abbrev pub progress_in : List ℕ → (layers sets : List ℕ) → Progress
 progress_in solved layers sets = record { solved = member solved; layer = λ u. get_or layers u 0; set = set_at sets }
 
 -- the nodes below n alone

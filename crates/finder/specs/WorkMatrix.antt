@@ -4,7 +4,6 @@ use Rattle.nodes.specs.Bit.{bit, ◌⊕◌}
 use Rattle.nodes.specs.Row.{count}
 use Rattle.nodes.specs.NodeSet.{member, capacity, word_bits}
 use Rattle.nodes.specs.SetTable.{set_at, table_words}
-use Rattle.nodes.specs.declared.utils.NodeSet.{NodeSet}
 use Rattle.solver.specs.WorkMatrix.{entry_of}
 use Rattle.solver.specs.Solver.{row_bytes, most_columns}
 use Rattle.flows.specs.Branch.{Context}
@@ -64,5 +63,5 @@ abbrev pub Sees : (g : List ℕ) (columns : ℕ → Bool) (transposed : List ℕ
 Sees g columns transposed = (v k : ℕ) → T (columns k) → set_at transposed v k ≡ set_at g k v
 
 -- a row at which a column has a bit is one of `rows`
-abbrev pub Reaches : (transposed : List ℕ) → Code.Context → NodeSet → Type 0
+abbrev pub Reaches : (transposed : List ℕ) → Code.Context → List ℕ → Type 0
 Reaches transposed s rows = (v k : ℕ) → T (member s.columns k) → T (set_at transposed v k) → T (member rows v)

@@ -1,190 +1,119 @@
 // The tries of a node in an open round: the equations of a branch have a right side of their own, and at most one row more.
-ghost use Rattle.std.specs.Prelude.{◌≡◌, not, ◌&&◌, ◌<◌, eqb};
-ghost use Rattle.nodes.specs.Row.{any_below};
+ghost use Rattle.std.specs.Prelude.{◌≡◌, map, not, ◌&&◌, ◌<◌, eqb};
 ghost use Rattle.nodes.specs.NodeSet.{member, capacity};
 ghost use Rattle.solver.specs.BasisCalls.{solution_of};
-ghost use Rattle.flows.specs.Branch.{in_set, in_odd, with_node, try_branch};
+ghost use Rattle.flows.specs.Branch.{branches, in_set, in_odd, with_node, try_branch};
+ghost use Rattle.flows.specs.Numbers.{branch_number};
 ghost use Rattle.flows.specs.Round.{for_node, has_row};
 ghost use Rattle.finder.specs.WorkMatrix.{context_of};
 ghost use Rattle.finder.specs.Tries.{graph_job, side_bit, asked_columns, IsReady, IsTrying, try_for};
 
 use crate::matrix::Context;
-use flows::{PAULI_Z, PLANE_XY, PLANE_XZ, PLANE_YZ};
-use nodes::utils::{NodeSet, set_at};
-use solver::column_basis::{Echelon, answer};
+use flows::measurement::{Branch, Measurement};
+use nodes::utils::{NodeSet, SET_WORDS, set_at};
+use solver::column_basis::BasisView;
 
-// No branch has this number.
-const NO_BRANCH: u8 = 0;
-
-// The branches that each measurement tries, in order: a row for each of XY, YZ, XZ, X, Y, Z.
-const BRANCHES: [[u8; 2]; 6] = [
-    [PLANE_XY, NO_BRANCH],
-    [PLANE_YZ, NO_BRANCH],
-    [PLANE_XZ, NO_BRANCH],
-    [PLANE_XY, PLANE_XZ],
-    [PLANE_XY, PLANE_YZ],
-    [PLANE_YZ, PLANE_XZ],
-];
-
-// In branches YZ and XZ the node is a member of its own set.
-fn in_set(b: u8) -> bool
-    ensures { result ≡ in_set b }
+// The branches of a measurement by its number; 0 and numbers above 6 have none.
+fn branches(number: u8) -> &'static [Branch]
+    ensures { map branch_number result.now ≡ branches number }
 {
-    if b == PLANE_YZ {
-        return true;
+    match Measurement::try_from(number) {
+        Ok(measurement) => measurement.branches(),
+        Err(_) => &[],
     }
-    b == PLANE_XZ
-}
-
-// In branches XY and XZ the node is in Odd of its set.
-fn in_odd(b: u8) -> bool
-    ensures { result ≡ in_odd b }
-{
-    if b == PLANE_XY {
-        return true;
-    }
-    b == PLANE_XZ
 }
 
 // ---- a try
 // Odd of the set of u has u in branches XY and XZ.
-fn odd_of(u: usize, alone: NodeSet, b: u8) -> NodeSet
-    requires { member alone ≡ (λ v. eqb v u) }
-    ensures { member result ≡ (λ v. eqb v u && in_odd b) }
+fn odd_of(u: usize, b: Branch) -> NodeSet<SET_WORDS>
+    requires { u < capacity }
+    ensures { member result ≡ (λ v. eqb v u && in_odd (branch_number b)) }
 {
-    if in_odd(b) {
-        return alone;
+    let none = NodeSet::empty();
+    if b.in_odd() {
+        return none.with(u);
     }
-    NodeSet::empty()
+    none
 }
 
 // What the rows ask for, for u in branch b: where u is a member, it has its part already.
-fn side_of(graph: &[u64], u: usize, alone: NodeSet, b: u8) -> NodeSet
-    requires { member alone ≡ (λ v. eqb v u) }
-    ensures { member result ≡ side_bit graph.now u b }
+fn side_of(graph: &[u64], u: usize, b: Branch) -> NodeSet<SET_WORDS>
+    requires { u < capacity }
+    ensures { member result ≡ side_bit graph.now u (branch_number b) }
 {
-    let odd = odd_of(u, alone, b);
-    if in_set(b) {
+    let odd = odd_of(u, b);
+    if b.in_set() {
         return odd.xor(set_at(graph, u));
     }
     odd
 }
 
-// What is asked of the columns besides: where u has a row, that u is no member; else what the upper row of u asks.
-fn asked_columns(transposed: &[u64], s: Context, u: usize, alone: NodeSet, present: bool) -> NodeSet
-    requires { (member alone ≡ (λ v. eqb v u)) × (present ≡ has_row (context_of s) u) }
-    ensures { member result ≡ asked_columns transposed.now s u }
-{
-    if present {
-        return alone;
-    }
-    let columns = s.columns;
-    set_at(transposed, u).intersection(columns)
-}
-
-// Whether the sets have a common node.
-fn meet(s: NodeSet, t: NodeSet) -> bool
-    ensures { result ≡ any_below capacity (λ v. member s v && member t v) }
-{
-    !s.intersection(t).is_empty()
-}
-
-fn asked_odd(side: NodeSet, u: usize, alone: NodeSet, present: bool) -> bool
-    requires { (u < capacity) × (member alone ≡ (λ v. eqb v u)) }
+fn asked_odd(side: NodeSet<SET_WORDS>, u: usize, present: bool) -> bool
     ensures { result ≡ not present && member side u }
 {
-    if present {
-        return false;
-    }
-    meet(side, alone)
+    !present && side.has(u)
 }
 
 // The set of u: in branches YZ and XZ with u itself.
-fn with_node(f: Option<NodeSet>, u: usize, alone: NodeSet, b: u8) -> Option<NodeSet>
-    requires { member alone ≡ (λ v. eqb v u) }
-    ensures { solution_of result ≡ with_node (in_set b) u (solution_of f) }
+fn with_node(f: Option<NodeSet<SET_WORDS>>, u: usize, b: Branch) -> Option<NodeSet<SET_WORDS>>
+    requires { u < capacity }
+    ensures { solution_of result ≡ with_node (in_set (branch_number b)) u (solution_of f) }
 {
     let x = f?;
-    if in_set(b) {
-        return Some(x.union(alone));
+    if b.in_set() {
+        return Some(x.with(u));
     }
     Some(x)
 }
 
-// One try of u, the one member of `alone`, in branch b, in an open round.
-fn try_branch(
-    kernel: &[u64],
-    reduced: &[u64],
-    preimage: &[u64],
-    echelon: Echelon,
-    graph: &[u64],
-    transposed: &[u64],
-    n: usize,
-    s: Context,
-    u: usize,
-    alone: NodeSet,
-    b: u8,
-) -> Option<NodeSet>
-    requires { IsReady n graph.now s echelon kernel.now reduced.now preimage.now transposed.now × IsTrying n s u alone }
-    ensures { solution_of result ≡ try_branch (graph_job n graph.now) (for_node (context_of s) u) u b }
-{
-    let upper = s.upper;
-    let lower = s.lower;
-    let rows = upper.union(lower);
-    let side = side_of(graph, u, alone, b);
-    let present = meet(rows, alone);
-    let asked = asked_columns(transposed, s, u, alone, present);
-    let odd = asked_odd(side, u, alone, present);
-    let found = answer(
-        kernel,
-        reduced,
-        preimage,
-        echelon,
-        side.intersection(rows),
-        asked,
-        odd,
-    );
-    with_node(found, u, alone, b)
+// What a try meets in an open round: the graph, also by rows, the columns and rows of the round, and the basis of its equations.
+#[derive(Drop)]
+pub(crate) struct Round<'a> {
+    pub(crate) n: usize,
+    pub(crate) graph: &'a [u64],
+    pub(crate) transposed: &'a [u64],
+    pub(crate) context: Context,
+    pub(crate) basis: &'a BasisView<'a>,
+    ghost ready: { IsReady n graph.now context (record { pivots = basis.now.pivots; free = basis.now.free }) basis.now.kernel.now basis.now.reduced.now basis.now.preimage.now transposed.now },
 }
 
-// The branches of u's measurement m, by its row of the table, in order; the first that is solvable counts. 0 and numbers above 6 have
-// none. For u, u joins the upper rows and leaves the lower rows and the columns.
-pub(crate) fn try_for(
-    kernel: &[u64],
-    reduced: &[u64],
-    preimage: &[u64],
-    echelon: Echelon,
-    graph: &[u64],
-    transposed: &[u64],
-    n: usize,
-    s: Context,
-    u: usize,
-    alone: NodeSet,
-    m: u8,
-) -> Option<NodeSet>
-    requires { IsReady n graph.now s echelon kernel.now reduced.now preimage.now transposed.now × IsTrying n s u alone }
-    ensures { solution_of result ≡ try_for n graph.now (context_of s) u m }
-{
-    if m < PLANE_XY {
-        return None;
-    }
-    if m > PAULI_Z {
-        return None;
-    }
-    let row = BRANCHES[(m - PLANE_XY) as usize];
-    let mut b = row[0];
-    let mut later = row[1];
-    loop {
-        let t = try_branch(
-            kernel, reduced, preimage, echelon, graph, transposed, n, s, u, alone, b,
-        );
-        if let Some(x) = t {
-            return Some(x);
+impl Round<'_> {
+    // What is asked of the columns besides: where u has a row, that u is no member; else what the upper row of u asks.
+    fn asked_columns(&self, u: usize, present: bool) -> NodeSet<SET_WORDS>
+        requires { (u < capacity) × (present ≡ has_row (context_of self.now.context) u) }
+        ensures { member result ≡ asked_columns self.now.transposed.now self.now.context u }
+    {
+        if present {
+            return NodeSet::empty().with(u);
         }
-        if later == NO_BRANCH {
-            return None;
+        set_at(self.transposed, u).intersection(self.context.columns)
+    }
+
+    // One try of u in branch b.
+    fn try_branch(&self, u: usize, b: Branch) -> Option<NodeSet<SET_WORDS>>
+        requires { IsTrying self.now.n self.now.context u }
+        ensures { solution_of result ≡ try_branch (graph_job self.now.n self.now.graph.now) (for_node (context_of self.now.context) u) u (branch_number b) }
+    {
+        let rows = self.context.upper.union(self.context.lower);
+        let side = side_of(self.graph, u, b);
+        let present = rows.has(u);
+        let asked = self.asked_columns(u, present);
+        let odd = asked_odd(side, u, present);
+        let found = self.basis.answer(side.intersection(rows), asked, odd);
+        with_node(found, u, b)
+    }
+
+    // The branches of u's measurement m in order; the first that is solvable counts. For u, u joins the upper rows and leaves the lower
+    // rows and the columns.
+    pub(crate) fn try_for(&self, u: usize, m: u8) -> Option<NodeSet<SET_WORDS>>
+        requires { IsTrying self.now.n self.now.context u }
+        ensures { solution_of result ≡ try_for self.now.n self.now.graph.now (context_of self.now.context) u m }
+    {
+        for &b in branches(m) {
+            if let Some(s) = self.try_branch(u, b) {
+                return Some(s);
+            }
         }
-        b = later;
-        later = NO_BRANCH;
+        None
     }
 }

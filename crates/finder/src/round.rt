@@ -5,20 +5,20 @@ ghost use Rattle.nodes.specs.SetTable.{table_words};
 ghost use Rattle.solver.specs.Solver.{work_bytes};
 ghost use Rattle.solver.specs.BasisCalls.{TablesSolve, solution_of};
 ghost use Rattle.finder.specs.WorkMatrix.{context_of, HasRowsApart, Reaches, IsTransposed};
-ghost use Rattle.finder.specs.Tries.{round_system, TablesFit, IsReady, try_for};
+ghost use Rattle.finder.specs.Tries.{round_system, TablesFit, try_for};
 ghost use Rattle.finder.specs.Visits.{IsSized, IsRoundContext, unsolved, progress_in, cut_to, placed, visited};
-ghost use Rattle.finder.specs.Searches.{IsKindsOf, IsAdvanced};
+ghost use Rattle.finder.specs.Searches.{with_paulis, IsKindsOf, IsAdvanced};
 
-use crate::branch::try_for;
-use crate::kinds::{Kinds, context};
+use crate::branch::Round;
+use crate::job::{Job, Kinds};
 use crate::matrix::{Context, Support, fill, transpose};
-use nodes::utils::{NodeSet, put_set};
-use solver::column_basis::{Echelon, form};
+use nodes::utils::{NodeSet, SET_WORDS, put_set};
+use solver::column_basis::Basis;
 
 // How far a search has come, layers and sets aside: the solved nodes, and what is known of the graph by rows.
 #[derive(Clone, Copy)]
 pub(crate) struct State {
-    pub(crate) solved: NodeSet,
+    pub(crate) solved: NodeSet<SET_WORDS>,
     pub(crate) support: Support,
 }
 
@@ -27,18 +27,15 @@ pub(crate) struct State {
 fn open_round(
     work: &mut [u8],
     transposed: &[u64],
-    s: Context,
-    rows: NodeSet,
-    kernel: &mut [u64],
-    reduced: &mut [u64],
-    preimage: &mut [u64],
-) -> Echelon
-    requires { (length work.old ≡ work_bytes) × HasRowsApart s × TablesFit kernel.old reduced.old preimage.old × Reaches transposed.now s rows }
-    ensures tables_solve { TablesSolve (round_system transposed.now s) result kernel.new reduced.new preimage.new }
-    ensures work_len { (length work.new ≡ work_bytes) × TablesFit kernel.new reduced.new preimage.new }
+    s: &Context,
+    rows: NodeSet<SET_WORDS>,
+    basis: &mut Basis<'_>,
+)
+    requires { (length work.old ≡ work_bytes) × HasRowsApart s.now × TablesFit basis.old.kernel.now basis.old.reduced.now basis.old.preimage.now × Reaches transposed.now s.now rows }
+    ensures tables_solve { TablesSolve (round_system transposed.now s.now) (record { pivots = basis.new.pivots; free = basis.new.free }) basis.new.kernel.now basis.new.reduced.now basis.new.preimage.now }
+    ensures work_len { (length work.new ≡ work_bytes) × TablesFit basis.new.kernel.now basis.new.reduced.now basis.new.preimage.now }
 {
-    let all = s.upper;
-    let upper = all.intersection(rows);
+    let upper = s.upper.intersection(rows);
     let lower = s.lower;
     let columns = s.columns;
     let filled = Context {
@@ -46,29 +43,24 @@ fn open_round(
         upper,
         lower,
     };
-    fill(work, transposed, filled);
-    let formed = form(work, upper, lower, columns, kernel, reduced, preimage);
-    match formed {
-        Ok(e) => e,
+    fill(work, transposed, &filled);
+    match basis.form(work, upper, lower, columns) {
+        Ok(()) => {}
         // the equations fit, so this does not come about
-        Err(_) => Echelon {
-            pivots: NodeSet::empty(),
-            free: NodeSet::empty(),
-        },
+        Err(_) => {}
     }
 }
 
 // A node whose try gave a set is solved: it takes the round as layer, and its set.
 fn place(
-    solved: NodeSet,
+    solved: NodeSet<SET_WORDS>,
     u: usize,
-    alone: NodeSet,
     r: u16,
-    t: Option<NodeSet>,
+    t: Option<NodeSet<SET_WORDS>>,
     layers: &mut [u16],
     sets: &mut [u64],
-) -> NodeSet
-    requires { (u < capacity) × (member alone ≡ (λ v. eqb v u)) × (length layers.old ≡ capacity) × (length sets.old ≡ table_words) }
+) -> NodeSet<SET_WORDS>
+    requires { (u < capacity) × (length layers.old ≡ capacity) × (length sets.old ≡ table_words) }
     ensures sets_after { progress_in result layers.new sets.new ≡ placed u r (solution_of t) (progress_in solved layers.old sets.old) }
     ensures layers_len { (length layers.new ≡ capacity) × (length sets.new ≡ table_words) }
 {
@@ -76,100 +68,75 @@ fn place(
         Some(s) => {
             layers[u] = r;
             put_set(sets, u, s);
-            solved.union(alone)
+            solved.with(u)
         }
         None => solved,
     }
 }
 
-// Each unsolved node is visited, the least of those left at a time. All of them meet the sets of the round's start: the nodes
-// that are solved here are no columns before the next round. A node in XY has an answer only if its row is a pivot.
-fn visit(
-    kernel: &[u64],
-    reduced: &[u64],
-    preimage: &[u64],
-    echelon: Echelon,
-    graph: &[u64],
-    transposed: &[u64],
-    n: usize,
-    s: Context,
-    measured: &[u8],
-    plain: NodeSet,
-    solved: NodeSet,
-    r: u16,
-    layers: &mut [u16],
-    sets: &mut [u64],
-) -> NodeSet
-    requires { IsReady n graph.now s echelon kernel.now reduced.now preimage.now transposed.now × IsRoundContext n measured.now solved s plain × (n ≤ length measured.now) × (length layers.old ≡ capacity) × (length sets.old ≡ table_words) }
-    ensures sets_after { progress_in result layers.new sets.new ≡ visited (unsolved n (member solved)) (λ u. try_for n graph.now (context_of s) u (get_or measured.now u 0)) r (progress_in solved layers.old sets.old) }
-    ensures layers_len { (length layers.new ≡ capacity) × (length sets.new ≡ table_words) }
-{
-    let pivots = echelon.pivots;
-    let all = NodeSet::below(n).difference(solved);
-    let mut left = all.difference(plain.difference(pivots));
-    let mut q = solved;
-    while !left.is_empty() {
-        let u = left.lowest();
-        let alone = left.first();
-        let m = measured[u];
-        let t = try_for(
-            kernel, reduced, preimage, echelon, graph, transposed, n, s, u, alone, m,
-        );
-        q = place(q, u, alone, r, t, layers, sets);
-        left = left.without_lowest();
+impl Round<'_> {
+    // Each unsolved node is visited, in ascending order. All of them meet the sets of the round's start: the nodes that are solved here
+    // are no columns before the next round. A node in XY has an answer only if its row is a pivot.
+    fn visit(
+        &self,
+        measured: &[u8],
+        plain: NodeSet<SET_WORDS>,
+        solved: NodeSet<SET_WORDS>,
+        r: u16,
+        layers: &mut [u16],
+        sets: &mut [u64],
+    ) -> NodeSet<SET_WORDS>
+        requires { IsRoundContext self.now.n measured.now solved self.now.context plain × (self.now.n ≤ length measured.now) × (length layers.old ≡ capacity) × (length sets.old ≡ table_words) }
+        ensures sets_after { progress_in result layers.new sets.new ≡ visited (unsolved self.now.n (member solved)) (λ u. try_for self.now.n self.now.graph.now (context_of self.now.context) u (get_or measured.now u 0)) r (progress_in solved layers.old sets.old) }
+        ensures layers_len { (length layers.new ≡ capacity) × (length sets.new ≡ table_words) }
+    {
+        let all = NodeSet::below(self.n).difference(solved);
+        let left = all.difference(plain.difference(self.basis.pivots));
+        let mut q = solved;
+        for u in left.iter() {
+            let t = self.try_for(u, measured[u]);
+            q = place(q, u, r, t, layers, sets);
+        }
+        q
     }
-    q
 }
 
-// One round, with the nodes that are later than all of it, solved ones. Where nothing is unsolved it would solve nothing.
-pub(crate) fn advance(
-    pauli: bool,
-    graph: &[u64],
-    n: usize,
-    inputs: NodeSet,
-    measured: &[u8],
-    kinds: Kinds,
-    later: NodeSet,
-    state: State,
-    r: u16,
-    work: &mut [u8],
-    layers: &mut [u16],
-    sets: &mut [u64],
-    transposed: &mut [u64],
-    kernel: &mut [u64],
-    reduced: &mut [u64],
-    preimage: &mut [u64],
-) -> State
-    requires sized { IsSized n measured.now work.old layers.old sets.old × TablesFit kernel.old reduced.old preimage.old × IsTransposed graph.now state.support transposed.old }
-    requires kinds_of { IsKindsOf pauli n measured.now kinds × ((v : ℕ) → T (member later v) → T (member state.solved v)) × (progress_in state.solved layers.old sets.old ≡ cut_to n (progress_in state.solved layers.old sets.old)) }
-    ensures advanced { IsAdvanced pauli n graph.now inputs measured.now (member later) r (progress_in state.solved layers.old sets.old) (progress_in result.solved layers.new sets.new) }
-    ensures sized_2 { IsSized n measured.now work.new layers.new sets.new × TablesFit kernel.new reduced.new preimage.new × IsTransposed graph.now result.support transposed.new }
-{
-    let s = context(n, inputs, later, kinds);
-    let columns = s.columns;
-    let plain = kinds.plain;
-    let unsolved = NodeSet::below(n).difference(state.solved);
-    if unsolved.is_empty() {
-        return state;
+impl Job<'_> {
+    // One round, with the nodes that are later than all of it, solved ones. Where nothing is unsolved it would solve nothing. The buffers
+    // stand apart, since the contract of `find` says what each of them holds in the end.
+    pub(crate) fn advance(
+        &self,
+        kinds: &Kinds,
+        later: NodeSet<SET_WORDS>,
+        state: &State,
+        r: u16,
+        work: &mut [u8],
+        layers: &mut [u16],
+        sets: &mut [u64],
+        transposed: &mut [u64],
+        basis: &mut Basis<'_>,
+    ) -> State
+        requires sized { IsSized self.now.n self.now.measured.now work.old layers.old sets.old × TablesFit basis.old.kernel.now basis.old.reduced.now basis.old.preimage.now × IsTransposed self.now.graph.now state.now.support transposed.old }
+        requires kinds_of { IsKindsOf (with_paulis self.now.rule) self.now.n self.now.measured.now kinds.now × ((v : ℕ) → T (member later v) → T (member state.now.solved v)) × (progress_in state.now.solved layers.old sets.old ≡ cut_to self.now.n (progress_in state.now.solved layers.old sets.old)) }
+        ensures advanced { IsAdvanced (with_paulis self.now.rule) self.now.n self.now.graph.now self.now.inputs self.now.measured.now (member later) r (progress_in state.now.solved layers.old sets.old) (progress_in result.solved layers.new sets.new) }
+        ensures sized_2 { IsSized self.now.n self.now.measured.now work.new layers.new sets.new × TablesFit basis.new.kernel.now basis.new.reduced.now basis.new.preimage.now × IsTransposed self.now.graph.now result.support transposed.new }
+    {
+        let s = self.context(kinds, later);
+        let columns = s.columns;
+        let unsolved = NodeSet::below(self.n).difference(state.solved);
+        if unsolved.is_empty() {
+            return *state;
+        }
+        let support = transpose(self.graph, &state.support, columns, transposed);
+        open_round(work, transposed, &s, support.rows, basis);
+        let round = Round {
+            n: self.n,
+            graph: self.graph,
+            transposed,
+            context: s,
+            basis: &basis.view(),
+        };
+        let solved = round.visit(self.measured, kinds.plain, state.solved, r, layers, sets);
+        State { solved, support }
     }
-    let support = transpose(graph, state.support, columns, transposed);
-    let rows = support.rows;
-    let echelon = open_round(work, transposed, s, rows, kernel, reduced, preimage);
-    let solved = visit(
-        kernel,
-        reduced,
-        preimage,
-        echelon,
-        graph,
-        transposed,
-        n,
-        s,
-        measured,
-        plain,
-        state.solved,
-        r,
-        layers,
-        sets,
-    );
-    State { solved, support }
 }

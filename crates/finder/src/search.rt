@@ -9,41 +9,31 @@ ghost use Rattle.finder.specs.Tries.{TablesFit};
 ghost use Rattle.finder.specs.Visits.{IsSized, progress_in, cut_to};
 ghost use Rattle.answers.specs.Answer.{gives};
 ghost use Rattle.answers.specs.Refusals.{given};
-ghost use Rattle.finder.specs.Searches.{job_in, progress_at, is_flow, answer_of, search_call};
+ghost use Rattle.finder.specs.Searches.{with_paulis, job_in, progress_at, is_flow, answer_of, search_call};
 
-use crate::arguments::arguments_fit;
-use crate::kinds::kinds_of;
+use crate::job::Job;
+pub use crate::job::Rule;
 use crate::matrix::Support;
-use crate::round::{State, advance};
+use crate::round::State;
 use answers::Refusal;
-use nodes::utils::{NodeSet, TABLE_WORDS, clear_table};
+use nodes::utils::{NodeSet, SET_WORDS, TABLE_WORDS, clear_table};
+use solver::column_basis::Basis;
 use solver::gf2_linalg::clear;
 
-// What a search finds, for planes and for Paulis.
+/// What a search finds, for planes and for Paulis.
 #[derive(Clone, Copy, Debug, PartialEq, Eq)]
 pub enum Search {
     Flow,
     NoFlow,
 }
 
-// Every layer becomes 0.
-fn clear_layers(layers: &mut [u16])
-    ensures { layers.new ≡ zeros (length layers.old) }
-{
-    let mut i = 0;
-    while i < layers.len() {
-        layers[i] = 0;
-        i += 1;
-    }
-}
-
 // At the start the outputs are solved, with layer 0, no node has a set, and nothing is known of the graph by rows.
-fn begin(n: usize, outputs: NodeSet, layers: &mut [u16], sets: &mut [u64]) -> State
+fn begin(n: usize, outputs: NodeSet<SET_WORDS>, layers: &mut [u16], sets: &mut [u64]) -> State
     requires { (n ≤ capacity) × (length layers.old ≡ capacity) × (length sets.old ≡ table_words) }
     ensures sets_after { progress_in result.solved layers.new sets.new ≡ cut_to n (start (member outputs)) }
     ensures columns_value { (member result.support.columns ≡ (λ k. false)) × (length layers.new ≡ capacity) × (length sets.new ≡ table_words) }
 {
-    clear_layers(layers);
+    layers.fill(0);
     clear_table(sets);
     let solved = outputs.intersection(NodeSet::below(n));
     let none = NodeSet::empty();
@@ -54,51 +44,45 @@ fn begin(n: usize, outputs: NodeSet, layers: &mut [u16], sets: &mut [u64]) -> St
     State { solved, support }
 }
 
-// For Paulis rounds start at 0, where no node is later. From round 1 on the outputs and the solved nodes are. A round behind which
-// no more nodes are later ends the search; round 0 only where no node is an output or solved, and round 1 would find the same.
-fn rounds(
-    pauli: bool,
-    graph: &[u64],
-    n: usize,
-    inputs: NodeSet,
-    outputs: NodeSet,
-    measured: &[u8],
-    work: &mut [u8],
-    layers: &mut [u16],
-    sets: &mut [u64],
-    transposed: &mut [u64],
-    kernel: &mut [u64],
-    reduced: &mut [u64],
-    preimage: &mut [u64],
-) -> NodeSet
-    requires { IsSized n measured.now work.old layers.old sets.old × IsBlank transposed.old × TablesFit kernel.old reduced.old preimage.old }
-    ensures sets_after { progress_in result layers.new sets.new ≡ cut_to n (progress_at pauli (job_in n graph.now inputs outputs measured.now)) }
-    ensures sized { IsSized n measured.now work.new layers.new sets.new }
-{
-    let kinds = kinds_of(pauli, n, measured);
-    let mut state = begin(n, outputs, layers, sets);
-    let mut later = state.solved;
-    let mut r: u16 = 1;
-    if pauli {
-        later = NodeSet::empty();
-        r = 0;
-    }
-    loop {
-        state = advance(
-            pauli, graph, n, inputs, measured, kinds, later, state, r, work, layers, sets,
-            transposed, kernel, reduced, preimage,
-        );
-        let solved = state.solved;
-        if solved.same(later) {
-            return solved;
+impl Job<'_> {
+    // For Paulis rounds start at 0, where no node is later. From round 1 on the outputs and the solved nodes are. A round behind which
+    // no more nodes are later ends the search; round 0 only where no node is an output or solved, and round 1 would find the same.
+    fn rounds(
+        &self,
+        work: &mut [u8],
+        layers: &mut [u16],
+        sets: &mut [u64],
+        transposed: &mut [u64],
+        basis: &mut Basis<'_>,
+    ) -> NodeSet<SET_WORDS>
+        requires { IsSized self.now.n self.now.measured.now work.old layers.old sets.old × IsBlank transposed.old × TablesFit basis.old.kernel.now basis.old.reduced.now basis.old.preimage.now }
+        ensures sets_after { progress_in result layers.new sets.new ≡ cut_to self.now.n (progress_at (with_paulis self.now.rule) (job_in self.now.n self.now.graph.now self.now.inputs self.now.outputs self.now.measured.now)) }
+        ensures sized { IsSized self.now.n self.now.measured.now work.new layers.new sets.new }
+    {
+        let kinds = self.kinds();
+        let mut state = begin(self.n, self.outputs, layers, sets);
+        let mut later = state.solved;
+        let mut r: u16 = 1;
+        if self.rule.with_paulis() {
+            later = NodeSet::empty();
+            r = 0;
         }
-        later = solved;
-        r += 1;
+        loop {
+            state = self.advance(
+                &kinds, later, &state, r, work, layers, sets, transposed, basis,
+            );
+            let solved = state.solved;
+            if solved.same(later) {
+                return solved;
+            }
+            later = solved;
+            r += 1;
+        }
     }
 }
 
 // A node still unsolved at the end means no flow. The work matrix is left zero.
-fn conclude(n: usize, solved: NodeSet, work: &mut [u8]) -> Search
+fn conclude(n: usize, solved: NodeSet<SET_WORDS>, work: &mut [u8]) -> Search
     requires { n ≤ capacity }
     ensures result_value { gives (is_flow result) ≡ answer_of n (member solved) }
     ensures work_after { work.new ≡ zeros (length work.old) }
@@ -110,41 +94,42 @@ fn conclude(n: usize, solved: NodeSet, work: &mut [u8]) -> Search
     Search::NoFlow
 }
 
-// A layer and a set for each node that is solved, of a job whose nodes are measured in planes, or in planes or Paulis.
+/// A layer and a set for each node that is solved, of a job whose nodes are measured in planes, or in planes or Paulis.
 pub fn find(
-    pauli: bool,
+    rule: Rule,
     graph: &[u64],
     n: usize,
-    inputs: NodeSet,
-    outputs: NodeSet,
+    inputs: NodeSet<SET_WORDS>,
+    outputs: NodeSet<SET_WORDS>,
     measured: &[u8],
     work: &mut [u8],
     layers: &mut [u16],
     sets: &mut [u64],
 ) -> Result<Search, Refusal>
-    ensures { record { answer = given is_flow result; work = work.new; layers = layers.new; sets = sets.new } ≡ search_call pauli n graph.now inputs outputs measured.now work.old layers.old sets.old }
+    ensures { record { answer = given is_flow result; work = work.new; layers = layers.new; sets = sets.new } ≡ search_call (with_paulis rule) n graph.now inputs outputs measured.now work.old layers.old sets.old }
 {
-    if !arguments_fit(pauli, n, graph, outputs, measured, work, layers, sets) {
-        return Err(Refusal::WrongShape);
-    }
-    let mut transposed = [0u64; TABLE_WORDS];
-    let mut kernel = [0u64; TABLE_WORDS];
-    let mut reduced = [0u64; TABLE_WORDS];
-    let mut preimage = [0u64; TABLE_WORDS];
-    let solved = rounds(
-        pauli,
-        graph,
+    let job = Job {
+        rule,
         n,
+        graph,
         inputs,
         outputs,
         measured,
-        work,
-        layers,
-        sets,
-        &mut transposed,
-        &mut kernel,
-        &mut reduced,
-        &mut preimage,
-    );
+    };
+    if !job.fits(work, layers, sets) {
+        return Err(Refusal::WrongShape);
+    }
+    let mut transposed = [0; TABLE_WORDS];
+    let mut kernel = [0; TABLE_WORDS];
+    let mut reduced = [0; TABLE_WORDS];
+    let mut preimage = [0; TABLE_WORDS];
+    let mut basis = Basis {
+        kernel: &mut kernel,
+        reduced: &mut reduced,
+        preimage: &mut preimage,
+        pivots: NodeSet::empty(),
+        free: NodeSet::empty(),
+    };
+    let solved = job.rounds(work, layers, sets, &mut transposed, &mut basis);
     Ok(conclude(n, solved, work))
 }

@@ -1,107 +1,113 @@
-// From the places of payloads to the tables that are drawn. No function demands anything of what it reads.
-use crate::layout::least;
+// From payloads to the picture that they are of. No function demands anything of what it reads. The loader of crate calls is its own: it fills
+// tables that its callers lend, under clauses of theirs.
 use angles::infer_all;
-use nodes::utils::{NodeSet, put_set, set_at};
-use records::common::{
-    ENTRY_HEAD_BYTES, FlowPlaces, JobPlaces, MOST_NODES, Place, byte_at, number, payload,
-};
-use records::reader::{layer_of, set_of};
+use arrayvec::ArrayVec;
+use flows::measurement::Measurement;
+use nodes::utils::{NodeSet, SET_WORDS, TABLE_WORDS, odd_neighbors, put_set, set_at};
+use records::common::{MOST_NODES, byte_at, set_of};
+use records::entries::Entries;
+use records::flow_file::FlowFile;
+use records::job_file::JobFile;
 
-// More than any job with its flow has.
-pub(crate) const MOST_BYTES: usize = 65536;
-
-// What is drawn of a job and its flow, but for the tables: entries are the nodes that have a set.
-#[derive(Clone, Copy)]
-pub(crate) struct Known {
-    pub(crate) n: usize,
-    pub(crate) mode: u8,
-    pub(crate) angled: bool,
-    pub(crate) inputs: NodeSet,
-    pub(crate) outputs: NodeSet,
-    pub(crate) entries: NodeSet,
+// A node: what the job says of it, and its layer and set in the flow. An output is not measured.
+#[derive(Clone, Copy, Default)]
+pub(crate) struct Node {
+    pub(crate) input: bool,
+    pub(crate) output: bool,
+    pub(crate) measurement: Option<Measurement>,
+    pub(crate) layer: u16,
+    pub(crate) set: Option<NodeSet<SET_WORDS>>,
 }
 
-pub(crate) fn load_job(file: &[u8], job: JobPlaces, entries: NodeSet) -> Known {
-    let inputs = job.inputs;
-    let outputs = job.outputs;
-    Known {
-        n: job.n,
-        mode: job.mode,
-        angled: job.angled,
-        inputs: set_of(payload(file, inputs)),
-        outputs: set_of(payload(file, outputs)),
-        entries,
+// What is drawn of a job and its flow. The mode is its number in the file, which the caption shows.
+#[derive(Drop)]
+pub(crate) struct Picture {
+    pub(crate) mode: u8,
+    pub(crate) angled: bool,
+    pub(crate) nodes: ArrayVec<Node, MOST_NODES>,
+    graph: [u64; TABLE_WORDS],
+}
+
+impl Picture {
+    pub(crate) fn of(job: &JobFile<'_>, flow: &FlowFile<'_>) -> Picture {
+        Picture {
+            mode: u8::from(job.mode),
+            angled: job.angles.is_some(),
+            nodes: nodes_of(job, flow),
+            graph: graph_of(job.edges),
+        }
     }
+
+    // The nodes that have an edge to node v.
+    pub(crate) fn neighbors(&self, v: usize) -> NodeSet<SET_WORDS> {
+        set_at(&self.graph, v)
+    }
+
+    // The nodes that have an edge to an odd number of nodes of the set.
+    pub(crate) fn odd_of(&self, set: NodeSet<SET_WORDS>) -> NodeSet<SET_WORDS> {
+        odd_neighbors(&self.graph, set)
+    }
+}
+
+// No job has more nodes than there is room for.
+fn nodes_of(job: &JobFile<'_>, flow: &FlowFile<'_>) -> ArrayVec<Node, MOST_NODES> {
+    let inputs = set_of(job.inputs);
+    let outputs = set_of(job.outputs);
+    let measurements = measurements_of(job);
+    let mut nodes = ArrayVec::new();
+    for v in 0..job.n {
+        let _ = nodes.try_push(Node {
+            input: inputs.has(v),
+            output: outputs.has(v),
+            measurement: Measurement::try_from(byte_at(&measurements, v)).ok(),
+            layer: flow.layer_of(v),
+            set: None,
+        });
+    }
+    put_sets(nodes.as_mut_slice(), flow.sets);
+    nodes
+}
+
+// The measurements to work with: those of the file, or those that the angles infer. Nothing else here reads the angles.
+fn measurements_of(job: &JobFile<'_>) -> [u8; MOST_NODES] {
+    // `infer_all` fills what it is lent.
+    let mut measurements = [0u8; MOST_NODES];
+    match job.angles {
+        Some(angles) => infer_all(job.measurements, angles, &mut measurements),
+        None => copy(job.measurements, &mut measurements),
+    }
+    measurements
+}
+
+fn copy(from: &[u8], to: &mut [u8]) {
+    for (byte, &x) in to.iter_mut().zip(from) {
+        *byte = x;
+    }
+}
+
+// Each node that has an entry gets its set.
+fn put_sets(nodes: &mut [Node], sets: &[u8]) {
+    for entry in Entries::of(sets) {
+        if let Some(node) = nodes.get_mut(usize::from(entry.node)) {
+            node.set = Some(set_of(entry.members));
+        }
+    }
+}
+
+// Each edge joins both ways, in a table as `odd_neighbors` takes it.
+fn graph_of(edges: &[u8]) -> [u64; TABLE_WORDS] {
+    let mut graph = [0u64; TABLE_WORDS];
+    for edge in edges.chunks_exact(2) {
+        let a = usize::from(edge[0]);
+        let b = usize::from(edge[1]);
+        join(&mut graph, a, b);
+        join(&mut graph, b, a);
+    }
+    graph
 }
 
 // Node b becomes a neighbour of a.
 fn join(graph: &mut [u64], a: usize, b: usize) {
     let old = set_at(graph, a);
     put_set(graph, a, old.with(b));
-}
-
-// Each edge joins both ways.
-pub(crate) fn load_graph(edges: &[u8], graph: &mut [u64]) {
-    let mut i = 0;
-    while i + 1 < edges.len() {
-        let a = number(byte_at(edges, i));
-        let b = number(byte_at(edges, i + 1));
-        join(graph, a, b);
-        join(graph, b, a);
-        i += 2;
-    }
-}
-
-fn copy(bytes: &[u8], to: &mut [u8]) {
-    let mut i = 0;
-    while i < to.len() {
-        to[i] = byte_at(bytes, i);
-        i += 1;
-    }
-}
-
-// The measurements to work with: those of the file, or those that the angles infer. Nothing else here reads the angles.
-pub(crate) fn load_measured(file: &[u8], job: JobPlaces, to: &mut [u8]) {
-    let measurements = job.measurements;
-    let planes = payload(file, measurements);
-    if job.angled {
-        let angles = job.angles;
-        infer_all(planes, payload(file, angles), to);
-        return;
-    }
-    copy(planes, to);
-}
-
-pub(crate) fn load_layers(file: &[u8], flow: FlowPlaces, to: &mut [u16]) {
-    let mut i = 0;
-    while i < to.len() {
-        to[i] = layer_of(file, flow, i);
-        i += 1;
-    }
-}
-
-// The set of each entry; the answer is the nodes that have one.
-pub(crate) fn load_sets(bytes: &[u8], sets: &mut [u64]) -> NodeSet {
-    let mut entries = NodeSet::empty();
-    let len = least(bytes.len(), MOST_BYTES);
-    let mut start = 0;
-    while start < len {
-        let u = number(byte_at(bytes, start));
-        let members = start + ENTRY_HEAD_BYTES;
-        let end = members + number(byte_at(bytes, start + 1));
-        put_set(
-            sets,
-            u,
-            set_of(payload(
-                bytes,
-                Place {
-                    start: members,
-                    end,
-                },
-            )),
-        );
-        entries = entries.with(u);
-        start = end;
-    }
-    entries
 }

@@ -10,104 +10,69 @@ mod load; // load.rt: what the records hold
 use answers::{Refusal, RefusalRecord};
 use calls::OPERATOR;
 use calls::verify::verify;
-use draw::{draw_columns, draw_nodes};
-use layout::{find_columns, place_columns};
-use load::{Known, MOST_BYTES, load_graph, load_job, load_layers, load_measured, load_sets};
-use nodes::utils::TABLE_WORDS;
-use records::common::{FlowPlaces, HEAD_BYTES, JobPlaces, MOST_NODES, payload};
-use records::reader::{read_flow, read_job};
+use draw::Drawing;
+use layout::Layout;
+use load::Picture;
+use records::common::HEAD_BYTES;
+use records::flow_file::FlowFile;
+use records::job_file::read_job;
 use std::env::Env;
 use std::io;
-use std::io::{Stderr, Stdout};
-use streams::{Input, only_usage, output_failed, read_input, tell};
+use std::io::{Stderr, Write};
+use streams::{only_usage, output_failed, read_input, tell};
+
+// More than any job with its flow has.
+const MOST_BYTES: usize = 65536;
 
 // Is it a question of the verifier, asked of a flow that was read?
 fn is_verdict(q: Refusal) -> bool {
-    match q {
+    matches!(
+        q,
         Refusal::InvalidFlowCodomain { .. }
-        | Refusal::InvalidFlowDomain { .. }
-        | Refusal::ExcessiveNonZeroLayer { .. }
-        | Refusal::ExcessiveZeroLayer { .. }
-        | Refusal::InvalidMeasurementSpec { .. }
-        | Refusal::InconsistentFlowOrder { .. }
-        | Refusal::InconsistentFlowPlane { .. }
-        | Refusal::WrongSignals => true,
-        _ => false,
-    }
+            | Refusal::InvalidFlowDomain { .. }
+            | Refusal::ExcessiveNonZeroLayer { .. }
+            | Refusal::ExcessiveZeroLayer { .. }
+            | Refusal::InvalidMeasurementSpec { .. }
+            | Refusal::InconsistentFlowOrder { .. }
+            | Refusal::InconsistentFlowPlane { .. }
+            | Refusal::WrongSignals
+    )
 }
 
-// The columns are drawn, each node gets its place, and the rest is drawn.
-fn draw_loaded(
-    out: Stdout,
-    known: Known,
-    reply: Result<usize, Refusal>,
-    graph: &[u64],
-    measured: &[u8],
-    layers: &[u16],
-    sets: &[u64],
-) -> io::Result<()> {
-    let mut heads = [0u16; MOST_NODES];
-    let mut lefts = [0u16; MOST_NODES + 1];
-    let columns = find_columns(known, layers, &mut heads, &mut lefts);
-    draw_columns(out, known, columns, reply, layers, &heads, &lefts)?;
-    let mut xs = [0u16; MOST_NODES];
-    let mut rows = [0u16; MOST_NODES];
-    place_columns(
-        known, columns, graph, layers, &heads, &lefts, &mut xs, &mut rows,
-    );
-    draw_nodes(out, known, graph, measured, layers, sets, &xs, &rows)
-}
-
-fn draw_places(
-    out: Stdout,
-    file: &[u8],
-    job: JobPlaces,
-    flow: FlowPlaces,
-    reply: Result<usize, Refusal>,
-) -> io::Result<()> {
-    let edges = job.edges;
-    let mut graph = [0u64; TABLE_WORDS];
-    load_graph(payload(file, edges), &mut graph);
-    let mut measured = [0u8; MOST_NODES];
-    load_measured(file, job, &mut measured);
-    let mut layers = [0u16; MOST_NODES];
-    load_layers(file, flow, &mut layers);
-    let place = flow.sets;
-    let mut sets = [0u64; TABLE_WORDS];
-    let entries = load_sets(payload(file, place), &mut sets);
-    let known = load_job(file, job, entries);
-    draw_loaded(out, known, reply, &graph, &measured, &layers, &sets)
-}
-
-// What the verifier could read is read again for its places.
-fn draw_read(out: Stdout, file: &[u8], reply: Result<usize, Refusal>) -> io::Result<()> {
+// What the verifier could read is read again for its payloads.
+fn draw_read(out: &mut impl Write, file: &[u8], reply: Result<usize, Refusal>) -> io::Result<()> {
     let Ok(job) = read_job(file) else {
         return Ok(());
     };
-    let Ok(flow) = read_flow(file, job.end, job.n) else {
+    let Ok(flow) = FlowFile::read(job.after, job.n) else {
         return Ok(());
     };
-    draw_places(out, file, job, flow, reply)
+    let picture = Picture::of(&job, &flow);
+    let layout = Layout::of(&picture);
+    let drawing = Drawing {
+        picture: &picture,
+        layout: &layout,
+    };
+    drawing.write(out, reply)
 }
 
 // A write that fails ends it.
-fn draw_file(out: Stdout, err: Stderr, file: &[u8]) -> io::Result<()> {
+fn draw_file(out: &mut impl Write, err: Stderr, file: &[u8]) -> io::Result<()> {
+    // The verifier writes into a lent buffer.
     let mut verdict = [0u8; HEAD_BYTES];
     let reply = verify(OPERATOR, file, &mut verdict);
     match reply {
-        Ok(_) => draw_read(out, file, reply),
-        Err(q) => {
-            if is_verdict(q) {
-                return draw_read(out, file, reply);
-            }
+        Err(q) if !is_verdict(q) => {
             tell(err, RefusalRecord::from(q));
             Ok(())
         }
+        _ => draw_read(out, file, reply),
     }
 }
 
+// Each program has these lines: only its own `main` is given the runtime.
 fn main(rt: HostRuntime) {
-    let out = rt.stdout();
+    let mut out = rt.stdout();
     let err = rt.stderr();
     if only_usage(
         rt.arg(1, &mut []),
@@ -117,12 +82,12 @@ fn main(rt: HostRuntime) {
     ) {
         return;
     }
+    // Fixed memory: no input waits for an allocation.
     let mut input = [0u8; MOST_BYTES];
-    let read = read_input(rt.stdin(), err, &mut input);
-    let Input::Bytes(n) = read else {
+    let Some(n) = read_input(rt.stdin(), err, &mut input) else {
         return;
     };
-    if let Err(e) = draw_file(out, err, &input[..n]) {
+    if let Err(e) = draw_file(&mut out, err, &input[..n]) {
         output_failed(err, e);
     }
 }

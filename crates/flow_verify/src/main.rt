@@ -6,8 +6,20 @@ use answers::LINE_ROOM;
 use programs::output::{JUDGED_BYTES, MOST_OUTPUT};
 use programs::verify_program;
 use std::env::Env;
-use streams::{Input, only_usage, read_input, write_error, write_output};
+use std::io::{Stderr, Stdout};
+use streams::{only_usage, read_input, write_error, write_output};
 
+// What the verifier says of the file, on both streams; flow_find says why these lines stand in both.
+fn verify(out: Stdout, err: Stderr, file: &[u8]) {
+    // Lent, since what is proved of both streams is proved of lent bytes, with no heap.
+    let mut output = [0u8; MOST_OUTPUT];
+    let mut line = [0u8; LINE_ROOM];
+    let counts = verify_program(file, &mut output, &mut line);
+    write_output(out, err, &output[..counts.output]);
+    write_error(err, &line[..counts.error]);
+}
+
+// Each program has these lines: only its own `main` is given the runtime.
 fn main(rt: HostRuntime) {
     let out = rt.stdout();
     let err = rt.stderr();
@@ -19,16 +31,9 @@ fn main(rt: HostRuntime) {
     ) {
         return;
     }
+    // Fixed memory: no input waits for an allocation.
     let mut input = [0u8; JUDGED_BYTES];
-    let read = read_input(rt.stdin(), err, &mut input);
-    let Input::Bytes(n) = read else {
-        return;
-    };
-    let mut output = [0u8; MOST_OUTPUT];
-    let mut line = [0u8; LINE_ROOM];
-    let counts = verify_program(&input[..n], &mut output, &mut line);
-    let k = counts.output;
-    write_output(out, err, &output[..k]);
-    let j = counts.error;
-    write_error(err, &line[..j]);
+    if let Some(n) = read_input(rt.stdin(), err, &mut input) {
+        verify(out, err, &input[..n]);
+    }
 }

@@ -5,7 +5,7 @@
 use answers::RefusalRecord;
 use std::env::Env;
 use std::io::{Stderr, Stdout};
-use streams::{Input, only_usage, read_input, tell, write_output};
+use streams::{only_usage, read_input, tell, write_output};
 use texts::show::{TEXT_ROOM, show_text};
 
 // As much as the finder reads.
@@ -31,9 +31,7 @@ fn main(rt: HostRuntime) {
         return;
     }
     let mut input = [0u8; MOST_BYTES];
-    let read = read_input(rt.stdin(), err, &mut input);
-    let Input::Bytes(n) = read else {
-        return;
-    };
-    show(out, err, &input[..n]);
+    if let Some(n) = read_input(rt.stdin(), err, &mut input) {
+        show(out, err, &input[..n]);
+    }
 }

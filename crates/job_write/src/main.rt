@@ -5,45 +5,36 @@
 use answers::RefusalRecord;
 use std::env::Env;
 use std::io::{Stderr, Stdout};
-use streams::{Input, error_number, only_usage, read_input, tell, write_error, write_output};
-use texts::reader::{NO_WORD, OUT_OF_ORDER, TOO_MANY, WRONG_SHAPE};
+use streams::{error_number, only_usage, read_input, tell, write_error, write_output};
 use texts::show::TEXT_ROOM;
-use texts::{MOST_JOB, Told, write_text};
+use texts::{Fault, FaultyLine, MOST_JOB, TextError, write_text};
 
 // A text is shorter: no job is shown by half as many bytes.
 const MOST_TEXT: usize = 2 * TEXT_ROOM;
 
-fn tell_words(err: Stderr, kind: u8) {
-    match kind {
-        OUT_OF_ORDER => write_error(err, b"nodes and then mode come first, one number each\n"),
-        WRONG_SHAPE => write_error(err, b"edges are written as 0-1, all else as one number\n"),
-        NO_WORD => write_error(
-            err,
-            b"neither a name nor a number from 0 to 255 nor an edge\n",
-        ),
-        TOO_MANY => write_error(err, b"more numbers than any job has\n"),
-        _ => write_error(err, b"unknown fault\n"),
+fn words(fault: Fault) -> &'static [u8] {
+    match fault {
+        Fault::OutOfOrder => b"nodes and then mode come first, one number each\n",
+        Fault::WrongShape => b"edges are written as 0-1, all else as one number\n",
+        Fault::NoWord => b"neither a name nor a number from 0 to 255 nor an edge\n",
+        Fault::TooMany => b"more numbers than any job has\n",
     }
 }
 
 // The line that the fault stands in, from 1 on, and what it is.
-fn tell_fault(err: Stderr, before: usize, kind: u8) {
-    let mut line = MOST_TEXT;
-    if before < MOST_TEXT {
-        line = before + 1;
-    }
+fn tell_fault(err: Stderr, line: FaultyLine) {
     write_error(err, b"line ");
-    error_number(err, line);
+    error_number(err, line.before.min(MOST_TEXT - 1) + 1);
     write_error(err, b": ");
-    tell_words(err, kind);
+    write_error(err, words(line.fault));
 }
 
 fn write(out: Stdout, err: Stderr, text: &[u8]) {
     let mut file = [0u8; MOST_JOB];
     match write_text(text, &mut file) {
-        Told::Wrote(k) => write_output(out, err, &file[..k]),
-        Told::Refused(q) => tell(err, RefusalRecord::from(q)),
-        Told::Broken(before, kind) => tell_fault(err, before, kind),
+        Ok(k) => write_output(out, err, &file[..k]),
+        Err(TextError::Refused(q)) => tell(err, RefusalRecord::from(q)),
+        Err(TextError::Faulty(line)) => tell_fault(err, line),
     }
 }
 
@@ -59,13 +50,9 @@ fn main(rt: HostRuntime) {
         return;
     }
     let mut text = [0u8; MOST_TEXT];
-    let read = read_input(rt.stdin(), err, &mut text);
-    let Input::Bytes(n) = read else {
-        return;
-    };
-    if n == MOST_TEXT {
-        write_error(err, b"the text has 262144 bytes or more\n");
-        return;
+    match read_input(rt.stdin(), err, &mut text) {
+        Some(MOST_TEXT) => write_error(err, b"the text has 262144 bytes or more\n"),
+        Some(n) => write(out, err, &text[..n]),
+        None => {}
     }
-    write(out, err, &text[..n]);
 }

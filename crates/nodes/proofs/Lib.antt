@@ -1,7 +1,6 @@
 pub mod Logic
 pub mod Row
 pub mod Lists
-pub mod MaskTable
 pub mod Count
 pub mod Members
 pub mod Remove
@@ -9,5 +8,8 @@ pub mod Bit
 pub mod Digits
 pub mod NodeSet
 pub mod NodeSetCount
+pub mod NodeSetWords
+pub mod Left
 pub mod SetTable
 pub mod Walk
+pub mod MaskTable

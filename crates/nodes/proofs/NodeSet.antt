@@ -1,10 +1,10 @@
 -- What operations on words do to the members, for lists of words of any length.
 use Prim.Native.Nat.{ℕ, zero, suc, ◌+◌, ◌-◌, ◌*◌, ◌/◌, ◌%◌, ◌^◌, ◌≤◌, ◌<◌}
-use mathlib.Core.Path.{◌≡◌, refl, sym, ap, ap₂, ◌∙◌}
-use mathlib.Core.Bool.{Bool, false, not, ◌&&◌, ◌||◌}
+use mathlib.Core.Path.{◌≡◌, refl, sym, ap, ap₂, ◌∙◌, subst, fun_ext}
+use mathlib.Core.Bool.{Bool, false, cond, not, ◌&&◌, ◌||◌}
 use mathlib.Core.List.{List, [], ◌∷◌}
 use mathlib.Core.Logic.{◌≢◌, ◌⊎◌, inl, inr}
-use native.Mathlib.Nat.{mod-lt, zero-lt-suc}
+use native.Mathlib.Nat.{mod-lt, zero-lt-suc, not-suc-le-zero, le_of_suc-le-suc}
 use native.Mathlib.Decide.{ℕ_discrete}
 use native.Mathlib.Omega.{arith}
 use lib.Bits.{bit_and, bit_or, bit_xor}
@@ -13,8 +13,7 @@ use lib.ListN.{get_or, set, length, replicate, get_or-eq_default}
 use lib.Pow.{pow_pos, pow-lt}
 use lib.Seq.{get_or-set_same, get_or-set_other}
 use Rattle.nodes.specs.Bit.{◌⊕◌, bit}
-use Rattle.nodes.specs.NodeSet.{word_bits, capacity, member_of, words_of, member}
-use Rattle.nodes.specs.declared.utils.NodeSet.{NodeSet}
+use Rattle.nodes.specs.NodeSet.{word_bits, places, highest_of, capacity, member_of, words_from, member_in, member}
 use Rattle.nodes.proofs.Logic.{is_true, is_false, beq_eq, lt_or_ge, and_l, and_r, and_in, eqb_no, eqb_yes, and_none, and_all, or_false}
 use Rattle.nodes.specs.Row.{any_below}
 use Rattle.nodes.proofs.Row.{ltb_yes, ltb_no, any_in}
@@ -30,10 +29,6 @@ words_nil q = pow_pos word_bits
 pub words_cons : (w : ℕ) (ws : List ℕ) → w < 2 ^ word_bits → IsWords ws → IsWords (w ∷ ws)
 words_cons w ws h hs zero = h
 words_cons w ws h hs (suc q) = hs q
-
--- those of a set
-pub words_of_lem : (s : NodeSet) → s.low < 2 ^ word_bits → s.high < 2 ^ word_bits → IsWords (words_of s)
-words_of_lem s l h = words_cons s.low (s.high ∷ []) l (words_cons s.high [] h words_nil)
 
 pub words_tail : (w : ℕ) (ws : List ℕ) → IsWords (w ∷ ws) → IsWords ws
 words_tail w ws h q = h (suc q)
@@ -60,20 +55,49 @@ pub member_past : (ws : List ℕ) (v : ℕ) → length ws * word_bits ≤ v → 
 unfolding member_of
 member_past ws v h = ap (λ (x : ℕ). bit x (v % word_bits)) (get_or-eq_default ws 0 (omega arith)) ∙ bit_zero (v % word_bits)
 
-pub member-lt : (s : NodeSet) (v : ℕ) → T (member s v) → v < capacity
+-- ---- so many words of a list
+pub words_from_at : (n k : ℕ) (ws : List ℕ) (q : ℕ) → q < n → get_or (words_from k n ws) q 0 ≡ get_or ws (k + q) 0
+words_from_at zero k ws q h = absurd (not-suc-le-zero h)
+words_from_at (suc n) k ws zero h = let e : k ≡ k + 0 = omega arith in ap (λ (i : ℕ). get_or ws i 0) e
+words_from_at (suc n) k ws (suc q) h = let e : suc k + q ≡ k + suc q = omega arith in words_from_at n (suc k) ws q (le_of_suc-le-suc h) ∙ ap (λ (i : ℕ). get_or ws i 0) e
+
+pub length-words_from : (n k : ℕ) (ws : List ℕ) → length (words_from k n ws) ≡ n
+length-words_from zero k ws = refl
+length-words_from (suc n) k ws = ap suc (length-words_from n (suc k) ws)
+
+word_in : (words : ℕ) (ws : List ℕ) (q : ℕ) → q < words → get_or (words_from 0 words ws) q 0 ≡ get_or ws q 0
+word_in words ws q h = let e : 0 + q ≡ q = omega arith in words_from_at words 0 ws q h ∙ ap (λ (i : ℕ). get_or ws i 0) e
+
+word_out : (words : ℕ) (ws : List ℕ) (q : ℕ) → words ≤ q → get_or (words_from 0 words ws) q 0 ≡ 0
+word_out words ws q h = get_or-eq_default (words_from 0 words ws) 0 {n = q} (omega (arith, length-words_from words 0 ws))
+
+-- a set has no node past its words
+pub member_in_past : (words : ℕ) (s : List ℕ) (v : ℕ) → places words ≤ v → member_in words s v ≡ false
+member_in_past words s v h = member_past (words_from 0 words s) v (omega (arith, length-words_from words 0 s))
+
+-- its words are all that there is
+pub member_whole : (words : ℕ) (s : List ℕ) → length s ≡ words → member_in words s ≡ member_of s
+unfolding member_of
+member_whole words s e = fun_ext (λ v. ap (λ (x : ℕ). bit x (v % word_bits)) (by (v / word_bits) (lt_or_ge (v / word_bits) words)))
+  where
+    by : (q : ℕ) → (q < words) ⊎ (words ≤ q) → get_or (words_from 0 words s) q 0 ≡ get_or s q 0
+    by q (inl l) = word_in words s q l
+    by q (inr l) = word_out words s q l ∙ sym (get_or-eq_default s 0 {n = q} (omega arith))
+
+pub member-lt : (s : List ℕ) (v : ℕ) → T (member s v) → v < capacity
 member-lt s v t = by (lt_or_ge v capacity)
   where
     by : (v < capacity) ⊎ (capacity ≤ v) → v < capacity
     by (inl h) = h
-    by (inr h) = absurd (rw (member_past (words_of s) v h) at t)
+    by (inr h) = absurd (rw (member_in_past 2 s v h) at t)
 
 -- nothing is left
-pub none_left : (s : NodeSet) → (T (any_below capacity (member s)) → ⊥) → (u : ℕ) → member s u ≡ false
+pub none_left : (s : List ℕ) → (T (any_below capacity (member s)) → ⊥) → (u : ℕ) → member s u ≡ false
 none_left s f u = by (lt_or_ge u capacity)
   where
     by : (u < capacity) ⊎ (capacity ≤ u) → member s u ≡ false
     by (inl h) = is_false (member s u) (λ t. f (any_in capacity (member s) u h t))
-    by (inr h) = member_past (words_of s) u h
+    by (inr h) = member_in_past 2 s u h
 
 -- `w & mask(v) != 0`, for v's word w
 pub member_test : (ws : List ℕ) (v q : ℕ) → v / word_bits ≡ q → not (eqb (bit_and (get_or ws q 0) (2 ^ (v % word_bits))) 0) ≡ member_of ws v
@@ -133,39 +157,38 @@ member_cut_past ws v h u = by (ℕ_discrete u v)
     by (no n) = rw (eqb_no u v n) (sym (and_all (member_of ws u)))
 
 -- ---- word by word
-abbrev pub zip : (ℕ → ℕ → ℕ) → List ℕ → List ℕ → List ℕ
-zip op [] vs = []
-zip op (u ∷ us) [] = []
-zip op (u ∷ us) (v ∷ vs) = op u v ∷ zip op us vs
-
-get_or-zip : (op : ℕ → ℕ → ℕ) (us vs : List ℕ) (q : ℕ) → length us ≡ length vs → op 0 0 ≡ 0 → get_or (zip op us vs) q 0 ≡ op (get_or us q 0) (get_or vs q 0)
-get_or-zip op [] [] q e z = sym z
-get_or-zip op [] (v ∷ vs) q e z = absurd (omega arith)
-get_or-zip op (u ∷ us) [] q e z = absurd (omega arith)
-get_or-zip op (u ∷ us) (v ∷ vs) zero e z = refl
-get_or-zip op (u ∷ us) (v ∷ vs) (suc q) e z = get_or-zip op us vs q (omega arith) z
-
-module _ (us vs : List ℕ) (e : length us ≡ length vs) where
+module _ (words : ℕ) (r us vs : List ℕ) where
   -- an operation that acts on each digit apart, and leaves the word 0 where both are
-  member_zip : (op : ℕ → ℕ → ℕ) (on : Bool → Bool → Bool) → op 0 0 ≡ 0
-      → ((q k : ℕ) → k < word_bits → bit (op (get_or us q 0) (get_or vs q 0)) k ≡ on (bit (get_or us q 0) k) (bit (get_or vs q 0) k))
-      → (u : ℕ) → member_of (zip op us vs) u ≡ on (member_of us u) (member_of vs u)
+  member_merged : (op : ℕ → ℕ → ℕ) (on : Bool → Bool → Bool) → op 0 0 ≡ 0
+      → ((q : ℕ) → q < words → get_or r q 0 ≡ op (get_or us q 0) (get_or vs q 0))
+      → ((q k : ℕ) → q < words → k < word_bits → bit (op (get_or us q 0) (get_or vs q 0)) k ≡ on (bit (get_or us q 0) k) (bit (get_or vs q 0) k))
+      → on false false ≡ false → member_in words r ≡ (λ u. on (member_in words us u) (member_in words vs u))
   unfolding member_of
-  member_zip op on z f u = ap (λ (x : ℕ). bit x (u % word_bits)) (get_or-zip op us vs (u / word_bits) e z) ∙ f (u / word_bits) (u % word_bits) (in_word u)
+  member_merged op on z w o n = fun_ext (λ u. by (u / word_bits) (u % word_bits) (in_word u) (lt_or_ge (u / word_bits) words))
+    where
+      by : (q k : ℕ) → k < word_bits → (q < words) ⊎ (words ≤ q)
+          → bit (get_or (words_from 0 words r) q 0) k ≡ on (bit (get_or (words_from 0 words us) q 0) k) (bit (get_or (words_from 0 words vs) q 0) k)
+      by q k h (inl l) =
+          ap (λ (x : ℕ). bit x k) (word_in words r q l ∙ w q l) ∙ o q k l h
+          ∙ sym (ap₂ (λ (x y : ℕ). on (bit x k) (bit y k)) (word_in words us q l) (word_in words vs q l))
+      by q k h (inr l) =
+          ap (λ (x : ℕ). bit x k) (word_out words r q l) ∙ bit_zero k ∙ sym n
+          ∙ sym (ap₂ (λ (x y : ℕ). on (bit x k) (bit y k)) (word_out words us q l) (word_out words vs q l) ∙ ap₂ on (bit_zero k) (bit_zero k))
 
-  pub member_xor : (u : ℕ) → member_of (zip bit_xor us vs) u ≡ member_of us u ⊕ member_of vs u
-  member_xor = member_zip bit_xor ◌⊕◌ refl (λ q k l. bit-xor (get_or us q 0) (get_or vs q 0) k)
+  pub member_xor : ((q : ℕ) → q < words → get_or r q 0 ≡ bit_xor (get_or us q 0) (get_or vs q 0)) → member_in words r ≡ (λ u. member_in words us u ⊕ member_in words vs u)
+  member_xor w = member_merged bit_xor ◌⊕◌ refl w (λ q k l h. bit-xor (get_or us q 0) (get_or vs q 0) k) refl
 
-  pub member_or : (u : ℕ) → member_of (zip bit_or us vs) u ≡ (member_of us u || member_of vs u)
-  member_or = member_zip bit_or ◌||◌ refl (λ q k l. bit-or (get_or us q 0) (get_or vs q 0) k)
+  pub member_or : ((q : ℕ) → q < words → get_or r q 0 ≡ bit_or (get_or us q 0) (get_or vs q 0)) → member_in words r ≡ (λ u. member_in words us u || member_in words vs u)
+  member_or w = member_merged bit_or ◌||◌ refl w (λ q k l h. bit-or (get_or us q 0) (get_or vs q 0) k) refl
 
-  pub member_and : (u : ℕ) → member_of (zip bit_and us vs) u ≡ (member_of us u && member_of vs u)
-  member_and = member_zip bit_and ◌&&◌ refl (λ q k l. bit-and (get_or us q 0) (get_or vs q 0) k)
+  pub member_and : ((q : ℕ) → q < words → get_or r q 0 ≡ bit_and (get_or us q 0) (get_or vs q 0)) → member_in words r ≡ (λ u. member_in words us u && member_in words vs u)
+  member_and w = member_merged bit_and ◌&&◌ refl w (λ q k l h. bit-and (get_or us q 0) (get_or vs q 0) k) refl
 
-  pub member_minus : IsWords vs → (u : ℕ) → member_of (zip (λ a b. bit_and a (2 ^ word_bits - 1 - b)) us vs) u ≡ (member_of us u && not (member_of vs u))
-  member_minus h =
-      member_zip (λ a b. bit_and a (2 ^ word_bits - 1 - b)) (λ a b. a && not b) refl
-      (λ q k l. bit-and (get_or us q 0) (2 ^ word_bits - 1 - get_or vs q 0) k ∙ ap (λ (b : Bool). bit (get_or us q 0) k && b) (bit-not word_bits (get_or vs q 0) k (h q) l))
+  pub member_minus : ((q : ℕ) → q < words → get_or vs q 0 < 2 ^ word_bits) → ((q : ℕ) → q < words → get_or r q 0 ≡ bit_and (get_or us q 0) (2 ^ word_bits - 1 - get_or vs q 0))
+      → member_in words r ≡ (λ u. member_in words us u && not (member_in words vs u))
+  member_minus small w =
+      member_merged (λ a b. bit_and a (2 ^ word_bits - 1 - b)) (λ a b. a && not b) refl w
+      (λ q k l h. bit-and (get_or us q 0) (2 ^ word_bits - 1 - get_or vs q 0) k ∙ ap (λ (b : Bool). bit (get_or us q 0) k && b) (bit-not word_bits (get_or vs q 0) k (small q l) h)) refl
 
 -- ---- words with no digit, and words with the digits below n
 pub member_empty : (n u : ℕ) → member_of (replicate n 0) u ≡ false
@@ -177,24 +200,96 @@ member_empty n u = ap (λ (x : ℕ). bit x (u % word_bits)) (zeros n (u / word_b
     zeros (suc n) zero = refl
     zeros (suc n) (suc q) = zeros n q
 
+-- ---- one word after the other is written
 -- the words before that of n have all digits, and that of n those below it
-pub member_below : (n : ℕ) (w : ℕ) (ws : List ℕ) → n ≤ word_bits → w ≡ 2 ^ n - 1 → ((u : ℕ) → member_of ws u ≡ false) → (u : ℕ) → member_of (w ∷ ws) u ≡ ltb u n
-member_below n w ws h e f u = go (lt_or_ge u word_bits)
-  where
-    go : (u < word_bits) ⊎ (word_bits ≤ u) → member_of (w ∷ ws) u ≡ ltb u n
-    go (inl l) = member_head w ws u l ∙ ap (λ (x : ℕ). bit x u) e ∙ bit_below n u
-    go (inr l) = let p : u ≡ word_bits + (u - word_bits) = omega arith in ap (member_of (w ∷ ws)) p ∙ member_tail w ws (u - word_bits) ∙ f (u - word_bits) ∙ sym (ltb_no u n (omega arith))
+abbrev pub front_word : ℕ → ℕ → ℕ → ℕ
+front_word n front q = cond (ltb q (n / word_bits)) (2 ^ word_bits - 1) (cond (eqb q (n / word_bits)) front 0)
 
-pub member_below_tail : (n : ℕ) (w : ℕ) (ws : List ℕ) → w ≡ 2 ^ word_bits - 1 → ((u : ℕ) → member_of ws u ≡ ltb u n) → (u : ℕ) → member_of (w ∷ ws) u ≡ ltb u (word_bits + n)
-member_below_tail n w ws e f u = go (lt_or_ge u word_bits)
+-- the word of v alone has a digit
+abbrev pub only_word : ℕ → ℕ → ℕ → ℕ
+only_word v digit q = cond (eqb q (v / word_bits)) digit 0
+
+module _ (words : ℕ) (h : 0 < words) (r : List ℕ) where
+  -- no digit past the last word
+  past_words : (u : ℕ) → words ≤ u / word_bits → member_in words r u ≡ false
+  past_words u l = member_in_past words r u (omega arith)
+
+  pub member_front : (n front : ℕ) → front ≡ 2 ^ (n % word_bits) - 1 → ((q : ℕ) → q < words → get_or r q 0 ≡ front_word n front q) → member_in words r ≡ (λ u. ltb u n && leb u (highest_of words))
+  unfolding member_of
+  member_front n front f w = fun_ext (λ u. by u (lt_or_ge (u / word_bits) words))
+    where
+      inside : (u : ℕ) → (u / word_bits < n / word_bits) ⊎ (n / word_bits ≤ u / word_bits) → Dec (u / word_bits ≡ n / word_bits) → bit (front_word n front (u / word_bits)) (u % word_bits) ≡ ltb u n
+      inside u (inl l) d =
+          ap (λ (x : Bool). bit (cond x (2 ^ word_bits - 1) (cond (eqb (u / word_bits) (n / word_bits)) front 0)) (u % word_bits)) (ltb_yes (u / word_bits) (n / word_bits) l)
+          ∙ bit_below word_bits (u % word_bits) ∙ ltb_yes (u % word_bits) word_bits (in_word u) ∙ sym (ltb_yes u n (omega arith))
+      inside u (inr l) (yes p) =
+          ap (λ (x : Bool). bit (cond x (2 ^ word_bits - 1) (cond (eqb (u / word_bits) (n / word_bits)) front 0)) (u % word_bits)) (ltb_no (u / word_bits) (n / word_bits) l)
+          ∙ ap (λ (x : Bool). bit (cond x front 0) (u % word_bits)) (ap (λ (x : ℕ). eqb x (n / word_bits)) p ∙ eqb_yes (n / word_bits))
+          ∙ ap (λ (x : ℕ). bit x (u % word_bits)) f ∙ bit_below (n % word_bits) (u % word_bits) ∙ same (lt_or_ge u n)
+        where
+          same : (u < n) ⊎ (n ≤ u) → ltb (u % word_bits) (n % word_bits) ≡ ltb u n
+          same (inl a) = ltb_yes (u % word_bits) (n % word_bits) (omega arith) ∙ sym (ltb_yes u n a)
+          same (inr a) = ltb_no (u % word_bits) (n % word_bits) (omega arith) ∙ sym (ltb_no u n a)
+      inside u (inr l) (no p) =
+          ap (λ (x : Bool). bit (cond x (2 ^ word_bits - 1) (cond (eqb (u / word_bits) (n / word_bits)) front 0)) (u % word_bits)) (ltb_no (u / word_bits) (n / word_bits) l)
+          ∙ ap (λ (x : Bool). bit (cond x front 0) (u % word_bits)) (eqb_no (u / word_bits) (n / word_bits) p)
+          ∙ bit_zero (u % word_bits) ∙ sym (ltb_no u n (above p))
+        where
+          above : u / word_bits ≢ n / word_bits → n ≤ u
+          above p = le_of_not_lt (λ a. p (omega arith))
+            where
+              le_of_not_lt : (u < n → ⊥) → n ≤ u
+              le_of_not_lt f = elim (lt_or_ge u n) as (λ _. n ≤ u) [ inl a ↦ absurd (f a) | inr a ↦ a ]
+
+      by : (u : ℕ) → (u / word_bits < words) ⊎ (words ≤ u / word_bits) → member_in words r u ≡ (ltb u n && leb u (highest_of words))
+      by u (inl l) =
+          ap (λ (x : ℕ). bit x (u % word_bits)) (word_in words r (u / word_bits) l ∙ w (u / word_bits) l) ∙ inside u (lt_or_ge (u / word_bits) (n / word_bits)) (ℕ_discrete (u / word_bits) (n / word_bits))
+          ∙ sym (ap (λ (b : Bool). ltb u n && b) (is_true (leb u (highest_of words)) (le→leb u (highest_of words) (omega arith))) ∙ and_all (ltb u n))
+      by u (inr l) = past_words u l ∙ sym (ap (λ (b : Bool). ltb u n && b) (is_false (leb u (highest_of words)) (λ t. apart u l (leb→le u (highest_of words) t))) ∙ and_none (ltb u n))
+        where
+          apart : (u : ℕ) → words ≤ u / word_bits → u ≤ highest_of words → ⊥
+          apart u l m = omega arith
+
+  pub member_only : (v digit : ℕ) → digit ≡ 2 ^ (v % word_bits) → ((q : ℕ) → q < words → get_or r q 0 ≡ only_word v digit q) → member_in words r ≡ (λ u. eqb u v && leb v (highest_of words))
+  unfolding member_of
+  member_only v digit f w = fun_ext (λ u. by u (lt_or_ge (u / word_bits) words) (ℕ_discrete (u / word_bits) (v / word_bits)))
+    where
+      same_place : (u : ℕ) → u / word_bits ≡ v / word_bits → eqb (u % word_bits) (v % word_bits) ≡ eqb u v
+      same_place u p = at (ℕ_discrete u v)
+        where
+          at : Dec (u ≡ v) → eqb (u % word_bits) (v % word_bits) ≡ eqb u v
+          at (yes a) = rw (a, eqb_yes v, eqb_yes (v % word_bits))
+          at (no n) = eqb_no (u % word_bits) (v % word_bits) (λ a. n (omega arith)) ∙ sym (eqb_no u v n)
+
+      by : (u : ℕ) → (u / word_bits < words) ⊎ (words ≤ u / word_bits) → Dec (u / word_bits ≡ v / word_bits) → member_in words r u ≡ (eqb u v && leb v (highest_of words))
+      by u (inl l) (yes p) =
+          ap (λ (x : ℕ). bit x (u % word_bits)) (word_in words r (u / word_bits) l ∙ w (u / word_bits) l ∙ ap (λ (x : Bool). cond x digit 0) (ap (λ (x : ℕ). eqb x (v / word_bits)) p ∙ eqb_yes (v / word_bits)) ∙ f)
+          ∙ bit-pow (v % word_bits) (u % word_bits) ∙ same_place u p
+          ∙ sym (ap (λ (b : Bool). eqb u v && b) (is_true (leb v (highest_of words)) (le→leb v (highest_of words) (omega arith))) ∙ and_all (eqb u v))
+      by u (inl l) (no p) =
+          ap (λ (x : ℕ). bit x (u % word_bits)) (word_in words r (u / word_bits) l ∙ w (u / word_bits) l ∙ ap (λ (x : Bool). cond x digit 0) (eqb_no (u / word_bits) (v / word_bits) p)) ∙ bit_zero (u % word_bits)
+          ∙ sym (ap (λ (b : Bool). b && leb v (highest_of words)) (eqb_no u v (λ a. p (ap (λ (x : ℕ). x / word_bits) a))))
+      by u (inr l) d = past_words u l ∙ sym (at (ℕ_discrete u v))
+        where
+          apart : (u : ℕ) → words ≤ u / word_bits → u ≤ highest_of words → ⊥
+          apart u l m = omega arith
+
+          at : Dec (u ≡ v) → (eqb u v && leb v (highest_of words)) ≡ false
+          at (yes a) = ap (λ (b : Bool). eqb u v && b) (is_false (leb v (highest_of words)) (λ t. apart u l (subst (λ (x : ℕ). x ≤ highest_of words) (sym a) (leb→le v (highest_of words) t)))) ∙ and_none (eqb u v)
+          at (no n) = ap (λ (b : Bool). b && leb v (highest_of words)) (eqb_no u v n)
+
+-- v is taken out, which need not be a node that a set can have
+pub member_without : (words : ℕ) (h : 0 < words) (s : List ℕ) (v u : ℕ) → (member_in words s u && not (eqb u v && leb v (highest_of words))) ≡ (member_in words s u && not (eqb u v))
+member_without words h s v u = by (lt_or_ge v (places words))
   where
-    go : (u < word_bits) ⊎ (word_bits ≤ u) → member_of (w ∷ ws) u ≡ ltb u (word_bits + n)
-    go (inl l) = member_head w ws u l ∙ ap (λ (x : ℕ). bit x u) e ∙ bit_below word_bits u ∙ ltb_yes u word_bits l ∙ sym (ltb_yes u (word_bits + n) (omega arith))
-    go (inr l) = let p : u ≡ word_bits + (u - word_bits) = omega arith in ap (member_of (w ∷ ws)) p ∙ member_tail w ws (u - word_bits) ∙ f (u - word_bits) ∙ shift (lt_or_ge (u - word_bits) n)
-      where
-        shift : (u - word_bits < n) ⊎ (n ≤ u - word_bits) → ltb (u - word_bits) n ≡ ltb u (word_bits + n)
-        shift (inl g) = ltb_yes (u - word_bits) n g ∙ sym (ltb_yes u (word_bits + n) (omega arith))
-        shift (inr g) = ltb_no (u - word_bits) n g ∙ sym (ltb_no u (word_bits + n) (omega arith))
+    apart : v ≤ highest_of words → places words ≤ v → ⊥
+    apart a b = omega arith
+
+    by : (v < places words) ⊎ (places words ≤ v) → (member_in words s u && not (eqb u v && leb v (highest_of words))) ≡ (member_in words s u && not (eqb u v))
+    by (inl g) = ap (λ (b : Bool). member_in words s u && not b) (ap (λ (b : Bool). eqb u v && b) (is_true (leb v (highest_of words)) (le→leb v (highest_of words) (omega arith))) ∙ and_all (eqb u v))
+    by (inr g) =
+        ap (λ (b : Bool). member_in words s u && not b) (ap (λ (b : Bool). eqb u v && b) (is_false (leb v (highest_of words)) (λ t. apart (leb→le v (highest_of words) t) g)) ∙ and_none (eqb u v))
+        ∙ and_all (member_in words s u) ∙ member_cut_past (words_from 0 words s) v (omega (arith, length-words_from words 0 s)) u
 
 -- ---- up to the highest node h
 pub below_within : (u n h : ℕ) → n ≤ h + 1 → ltb u n ≡ (ltb u n && leb u h)

@@ -15,7 +15,6 @@ use lib.Seq.{get_or-set_same, get_or-set_other, length-take-le, take_at, drop_at
 use Rattle.nodes.specs.Bit.{◌⊕◌, bit}
 use Rattle.nodes.specs.Row.{parity, any_below, lowest, members, members_from}
 use Rattle.nodes.specs.NodeSet.{word_bits, capacity, member_of, member, words_of}
-use Rattle.nodes.specs.declared.utils.NodeSet.{NodeSet}
 use Rattle.nodes.specs.Lists.{zeros}
 use Rattle.nodes.specs.SetTable.{set_words, table_words, set_at, put_set, add_words, add_set, add_sets, raised}
 use Rattle.nodes.proofs.Lists.{zeros_at}
@@ -282,18 +281,18 @@ members_split m (suc n) s =
     by true = refl
     by false = refl
 
-pub members_words : (nodes : NodeSet) → members capacity (member nodes) ≡ raised 0 (members word_bits (bit nodes.low)) ++ raised word_bits (members word_bits (bit nodes.high))
+pub members_words : (nodes : List ℕ) → members capacity (member nodes) ≡ raised 0 (members word_bits (bit (get_or nodes 0 0))) ++ raised word_bits (members word_bits (bit (get_or nodes 1 0)))
 members_words nodes =
     members_split word_bits word_bits (member nodes)
     ∙ ap₂ (λ (l m : List ℕ). l ++ raised word_bits m)
-    (members_ext word_bits (member nodes) (bit nodes.low) (λ k h. member_head nodes.low (nodes.high ∷ []) k h) ∙ sym (raised_none (members word_bits (bit nodes.low))))
-    (members_ext word_bits (λ k. member nodes (word_bits + k)) (bit nodes.high) (λ k h. member_tail nodes.low (nodes.high ∷ []) k ∙ member_head nodes.high [] k h))
+    (members_ext word_bits (member nodes) (bit (get_or nodes 0 0)) (λ k h. member_head (get_or nodes 0 0) (get_or nodes 1 0 ∷ []) k h) ∙ sym (raised_none (members word_bits (bit (get_or nodes 0 0)))))
+    (members_ext word_bits (λ k. member nodes (word_bits + k)) (bit (get_or nodes 1 0)) (λ k h. member_tail (get_or nodes 0 0) (get_or nodes 1 0 ∷ []) k ∙ member_head (get_or nodes 1 0) [] k h))
 
 -- the node of the lowest digit, and then those of the others
 pub word_cons : (base w : ℕ) → w < 2 ^ word_bits → w ≢ 0 → raised base (members word_bits (bit w)) ≡ (base + lowest word_bits (bit w)) ∷ raised base (members word_bits (bit (bit_and w (w - 1))))
 unfolding raised
 word_cons base w h n =
-    ap (raised base) (members-cons word_bits (bit w) (word_some w [] h n)
+    ap (raised base) (members-cons word_bits (bit w) (word_some w h n)
     ∙ ap (λ (l : List ℕ). lowest word_bits (bit w) ∷ l) (members_ext word_bits (removed (bit w) (lowest word_bits (bit w))) (bit (bit_and w (w - 1))) (λ k l. sym (bit_drop word_bits w k h))))
 
 pub word_nil : (base : ℕ) → raised base (members word_bits (bit 0)) ≡ []
@@ -375,7 +374,7 @@ added_from (suc n) k s ws x e h l v i =
         ∙ ap (λ (b : Bool). set_at ws v i ⊕ b) (skip (leb k v && ltb v (k + suc n)) (eqb v k) (s v) (λ q t. f (subst (λ (z : ℕ). T (s z)) (eqb→eq v k q) t)))
 
 -- in a table with a set for each node
-pub added_sets : (ws : List ℕ) (nodes x : NodeSet) → length ws ≡ table_words → (v i : ℕ)
+pub added_sets : (ws : List ℕ) (nodes x : List ℕ) → length ws ≡ table_words → (v i : ℕ)
     → set_at (add_sets ws (members capacity (member nodes)) (words_of x)) v i ≡ set_at ws v i ⊕ member nodes v && member x i
 added_sets ws nodes x h v i =
     added_from capacity 0 (member nodes) ws (words_of x) refl h (omega arith) v i
@@ -392,25 +391,3 @@ zeros_empty n u = fun_ext (λ v. by v (lt_or_ge v capacity))
     by : (v : ℕ) → (v < capacity) ⊎ (capacity ≤ v) → set_at (zeros n) u v ≡ false
     by v (inl h) = set_in (zeros n) u v h ∙ ap (λ (x : ℕ). bit x (v % word_bits)) (zeros_at n (set_words * u + v / word_bits)) ∙ bit_zero (v % word_bits)
     by v (inr h) = set_past (zeros n) u v h
-
--- ---- the sum mod 2 of the sets of s, added up from the least of s on
-abbrev pub sum_of : List ℕ → (ℕ → Bool) → ℕ → Bool
-sum_of ws s v = parity capacity (λ k. set_at ws k v && s k)
-
--- nothing is left to add
-pub sum_none : (ws : List ℕ) (s : ℕ → Bool) → (T (any_below capacity s) → ⊥) → (v : ℕ) → sum_of ws s v ≡ false
-sum_none ws s f v =
-    parity_none capacity (λ k. set_at ws k v && s k)
-    (λ k l. ap (λ (b : Bool). set_at ws k v && b) (is_false (s k) (λ t. f (any_in capacity s k l t))) ∙ and_none (set_at ws k v))
-
--- the set of the least is added, and the least taken out
-pub sum_step : (ws : List ℕ) (s a t b : ℕ → Bool) → T (any_below capacity s)
-    → t ≡ removed s (lowest capacity s) → b ≡ (λ v. a v ⊕ set_at ws (lowest capacity s) v)
-    → (v : ℕ) → b v ⊕ sum_of ws t v ≡ a v ⊕ sum_of ws s v
-sum_step ws s a t b h e g v =
-    let low = lowest capacity s in
-    let rest = removed s low in
-    ap₂ (λ (x y : ℕ → Bool). x v ⊕ sum_of ws y v) g e ∙ ⊕_assoc (a v) (set_at ws low v) (sum_of ws rest v)
-    ∙ ap (λ (x : Bool). a v ⊕ x)
-    (ap (λ (x : Bool). set_at ws low v ⊕ x) (dot_comm capacity (λ k. set_at ws k v) rest)
-    ∙ sym (parity-lowest capacity s (λ k. set_at ws k v) h) ∙ dot_comm capacity s (λ k. set_at ws k v))

@@ -13,7 +13,7 @@ use Rattle.nodes.proofs.Count.{count_none, rank_lt}
 use Rattle.nodes.proofs.Members.{lowest_none, lowest_some, lowest_member}
 use Rattle.nodes.proofs.Remove.{removed, count_remove, count-lowest}
 use Rattle.nodes.specs.NodeSet.{member, capacity}
-use Rattle.nodes.specs.declared.utils.NodeSet.{NodeSet}
+use mathlib.Core.List.{List}
 use Rattle.nodes.proofs.Row.{any_in}
 use Rattle.nodes.proofs.NodeSet.{member-lt}
 
@@ -57,7 +57,7 @@ module _ (n : ℕ) (all left : ℕ → Bool) (i : ℕ) (walk : IsWalk all left i
           less d l = lt_of_le_of_ne l d
 
 -- ---- a loop over a set of nodes, where r is the code's test whether none is left
-module _ (left : NodeSet) (r : Bool) (e : r ≡ not (any_below capacity (member left))) where
+module _ (left : List ℕ) (r : Bool) (e : r ≡ not (any_below capacity (member left))) where
   pub left_none : not r ≡ false → (v : ℕ) → T (member left v) → ⊥
   left_none f v t = unless_out r (any_below capacity (member left)) e f (any_in capacity (member left) v (member-lt left v t) t)
 

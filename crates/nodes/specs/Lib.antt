@@ -1,6 +1,5 @@
 pub mod Bit
 pub mod Lists
-pub mod MaskTable
 pub mod NodeSet
 pub mod Options
 pub mod Row

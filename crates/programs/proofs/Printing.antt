@@ -59,7 +59,7 @@ refusal_length r = written-length kind_refusal (r.number ∷ r.a ∷ in_two_byte
 -- what is told, and how much is written, where so many bytes fit
 abbrev pub fitting : Refusal → Answer ℕ → Refusal
 fitting r (gives k) = r
-fitting r (refuses q) = refusal too_long
+fitting r (refuses q) = q
 
 abbrev pub fitted : Answer ℕ → ℕ
 fitted (gives k) = k

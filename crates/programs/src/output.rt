@@ -10,7 +10,7 @@ use calls::OPERATOR;
 use calls::find::find;
 use calls::verify::verify;
 use records::common::{HEAD_BYTES, KIND_REFUSAL, MOST_NODES, WIDE_LAYER_BYTES};
-use records::writer::{Put, write_record};
+use records::writer::write_record;
 use solver::gf2_linalg::WORK_BYTES;
 
 // Each judges the first 65,536 bytes.
@@ -65,15 +65,8 @@ fn write_refusal(out: &mut [u8], q: RefusalRecord) -> Output
 {
     let payload = [q.number, q.a, (q.b % 256) as u8, (q.b / 256) as u8];
     match write_record(out, KIND_REFUSAL, &payload) {
-        Put::Bytes(k) => refused(k, q),
-        Put::TooLong => refused(
-            0,
-            RefusalRecord {
-                number: TOO_LONG,
-                a: 0,
-                b: 0,
-            },
-        ),
+        Ok(k) => refused(k, q),
+        Err(short) => refused(0, RefusalRecord::from(short)),
     }
 }
 

@@ -7,12 +7,12 @@ use mathlib.Core.Option.{Option, none, some, some-injective, none-ne-some}
 use mathlib.Core.List.{List, [], ◌∷◌, ◌++◌, append-nil}
 use native.Mathlib.Omega.{arith}
 use native.Mathlib.Nat.{not-suc-le-zero, lt-suc_self, le_of_suc-le-suc}
-use borrow.Author.Tests.{leb-true, ltb-true, eqb-true, le-leb, lt-leb, lt-ltb, le-ltb, eq-eqb, ne_eqb}
+use borrow.Author.Tests.{leb-true, ltb-true, eqb-true, le-leb, lt-ltb, eq-eqb, ne_eqb}
 use lib.Dec.{T, eqb, ltb, leb, eqb→eq, eqb_refl}
 use lib.ListN.{length, get_or, take, drop, length-append, take-append-drop}
 use lib.Seq.{length-take-le, take-append_seam, drop-append_seam}
 use Rattle.nodes.specs.Options.{is_some}
-use Rattle.nodes.proofs.Logic.{and_out, and_all, is_false, from_false, and_none, and_l, and_r, or_l, or_r, or_out, or_false, eqb_yes}
+use Rattle.nodes.proofs.Logic.{and_out, and_all, is_false, from_false, and_l, and_r, or_l, or_r, or_out, or_false, eqb_yes}
 use Rattle.answers.specs.Answer.{gives, refuses, refusal, asks, ◌>>◌}
 use Rattle.records.specs.Records.{all_yes}
 use Rattle.nodes.specs.Lists.{has}
@@ -115,14 +115,6 @@ pub below_in : (n : ℕ) (e : SetEntry) → e.node < n → nodes_below n e.set �
 unfolding entry_below
 below_in n e h a = rw (lt-ltb e.node n h, a)
 
-pub node_not_below : (n : ℕ) (e : SetEntry) → n ≤ e.node → entry_below n e ≡ false
-unfolding entry_below
-node_not_below n e h = rw (le-ltb e.node n h)
-
-pub set_not_below : (n : ℕ) (e : SetEntry) → nodes_below n e.set ≡ false → entry_below n e ≡ false
-unfolding entry_below
-set_not_below n e a = rw a (and_none (ltb e.node n))
-
 pub each_none : (f : SetEntry → Bool) → all_entries f [] ≡ true
 unfolding all_entries
 each_none f = refl
@@ -149,14 +141,6 @@ module _ (low : ℕ) (e : SetEntry) (es : List SetEntry) where
   pub rise-cons : low ≤ e.node → rises 0 e.set ≡ true → entries_rise low (e ∷ es) ≡ entries_rise (e.node + 1) es
   unfolding entries_rise
   rise-cons h a = rw (le-leb low e.node h, a)
-
-  pub node_not_rising : e.node < low → entries_rise low (e ∷ es) ≡ false
-  unfolding entries_rise
-  node_not_rising h = rw (lt-leb low e.node h)
-
-  pub set_not_rising : rises 0 e.set ≡ false → entries_rise low (e ∷ es) ≡ false
-  unfolding entries_rise
-  set_not_rising a = rw (a, and_none (leb low e.node))
 
 -- ---- how many entries and bytes there can be
 pub entries_few : (low n : ℕ) (es : List SetEntry) → low ≤ n → all_entries (entry_below n) es ≡ true → entries_rise low es ≡ true → length es + low ≤ n

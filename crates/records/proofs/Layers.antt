@@ -1,7 +1,7 @@
 -- Numbers in two bytes each, and with them the layers of either kind: read back as they were written, and the only bytes that are read so.
 use Prim.Native.Nat.{ℕ, zero, suc, ◌+◌, ◌*◌, ◌/◌, ◌%◌, ◌<◌}
 use mathlib.Core.Path.{◌≡◌, refl, sym, ap₂, ◌∙◌}
-use mathlib.Core.Bool.{Bool, true, false, beq, false≢true}
+use mathlib.Core.Bool.{Bool, true, false, cond, beq, false≢true}
 use mathlib.Core.List.{List, [], ◌∷◌, ◌++◌}
 use native.Mathlib.Omega.{arith}
 use borrow.Author.Tests.{ltb-true, lt-ltb}
@@ -9,7 +9,7 @@ use lib.Dec.{ltb}
 use lib.ListN.{length, get_or}
 use Rattle.nodes.proofs.Logic.{and_out}
 use Rattle.nodes.specs.Lists.{all}
-use Rattle.records.specs.Records.{in_two_bytes, from_two_bytes}
+use Rattle.records.specs.Records.{all_yes, each_asks, in_two_bytes, from_two_bytes}
 use Rattle.records.specs.FlowFile.{layer_width, layer_bytes, layer_numbers}
 use Rattle.records.specs.Encoding.{IsBytes}
 use Rattle.records.proofs.Records.{all_more}
@@ -122,3 +122,8 @@ bytes_back false n p h e = refl
 pub numbers_small : (wide : Bool) (p : List ℕ) → IsBytes p → all fits_two_bytes (layer_numbers wide p) ≡ true
 numbers_small true p h = from_small p h
 numbers_small false p h = all_more (λ b. ltb b 256) fits_two_bytes p (λ x e. let l : x < 256 = ltb-true x 256 e in lt-ltb x 65536 (omega arith)) h
+
+-- of the questions of both kinds those of the kind that was read
+pub layers_asked : (wide : Bool) (n : ℕ) (p : List ℕ) → all_yes (cond wide (each_asks (layer_width true) n p) (each_asks (layer_width false) n p)) ≡ true → all_yes (each_asks (layer_width wide) n p) ≡ true
+layers_asked true n p e = e
+layers_asked false n p e = e

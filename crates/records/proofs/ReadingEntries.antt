@@ -1,23 +1,22 @@
--- For the questions of sets, and for those who load them: the entry that starts at a place, and those after it.
-use mathlib.Core.Path.{◌≡◌, refl, sym, ap, ◌∙◌}
-use mathlib.Core.Bool.{Bool, true, false, false≢true}
+-- The entry at the front of some bytes, from what the code tests; and what is asked of each entry, in std's word.
+use mathlib.Core.Path.{◌≡◌, refl, ap}
+use mathlib.Core.Bool.{Bool, false, cond, ◌&&◌}
 use mathlib.Core.Option.{Option, none, some}
 use mathlib.Core.List.{List, [], ◌∷◌}
 use Prim.Native.Nat.{ℕ, zero, suc, ◌+◌, ◌-◌, ◌<◌, ◌≤◌}
 use native.Mathlib.Nat.{not-suc-le-zero}
 use native.Mathlib.Omega.{arith}
-use native.Mathlib.Decide.{dec_le}
-use borrow.Author.Tests.{le-leb, lt-leb, eq-eqb, ne_eqb}
+use borrow.Author.Tests.{le-leb, lt-leb, ne_eqb}
 use lib.Dec.{eqb}
 use lib.ListN.{length, get_or, take, drop, length-drop}
-use lib.Seq.{drop-drop}
-use Rattle.nodes.specs.Options.{is_some}
-use Rattle.records.specs.JobFile.{nodes_below, rises}
-use Rattle.records.specs.FlowFile.{SetEntry, add_entry, entries_in, entries_of, all_entries, entry_below, entries_rise, listed}
-use Rattle.records.specs.Views.{between}
-use Rattle.records.proofs.FlowFile.{node_not_below, set_not_below, below_in, each_none, each_cons, rise_none, rise-cons, node_not_rising, set_not_rising}
-use Rattle.records.proofs.ReadingHead.{between-length}
-use Rattle.records.proofs.ReadingLoops.{rest_none, rest_cons, rest_two}
+use lib.Seq.{take_all}
+use Rattle.std.specs.List.{list_all}
+use Rattle.std.specs.Iterator.{YieldsFirstBy}
+use Rattle.std.proofs.lemmas.Iterator.{YieldsList}
+use Rattle.std.proofs.lemmas.Iterator.Consumers.{YieldsList-from_first}
+use Rattle.records.specs.FlowFile.{SetEntry, add_entry, entries_in, entries_of, listed, all_entries}
+use Rattle.records.specs.Views.{entry_held}
+use Rattle.records.specs.declared.entries.Entries.{Entries}
 
 -- fuel that suffices
 fuel : (k m : ℕ) (s : List ℕ) → length s < k → length s < m → entries_in k s ≡ entries_in m s
@@ -30,128 +29,43 @@ fuel (suc k) (suc m) (u ∷ c ∷ s) h g =
     let l : length (drop c s) ≤ length s = simp length-drop (omega arith) in
     rw (fuel k m (drop c s) (omega arith) (omega arith)) refl
 
-module _ (p : List ℕ) (i : ℕ) where
-  pub entries_end : length p ≤ i → entries_of (drop i p) ≡ some []
-  unfolding entries_in
-  entries_end h = ap entries_of (rest_none p i h)
+-- where no entry is at the front
+abbrev pub no_entry : List ℕ → Option (List SetEntry)
+no_entry p = cond (eqb (length p) 0) (some []) none
 
-  pub entries_short : i < length p → length p - i < 2 → entries_of (drop i p) ≡ none
-  unfolding entries_in
-  entries_short h g = ap entries_of (rest_cons p i h ∙ ap (λ (t : List ℕ). get_or p i 0 ∷ t) (rest_none p (i + 1) (omega arith)))
+pub entries_short : (p : List ℕ) → length p < 2 → entries_of p ≡ no_entry p
+unfolding entries_in
+entries_short [] h = refl
+entries_short (u ∷ []) h = refl
+entries_short (u ∷ c ∷ s) h = absurd (omega arith)
 
-  pub entries_cut : i + 2 ≤ length p → length p < i + 2 + get_or p (i + 1) 0 → entries_of (drop i p) ≡ none
-  unfolding entries_in
-  entries_cut h g =
-      let l : length (drop (i + 2) p) < get_or p (i + 1) 0 = simp length-drop (omega arith) in
-      ap entries_of (rest_two p i h) ∙ rw (lt-leb (get_or p (i + 1) 0) (length (drop (i + 2) p)) l)
+pub entries_cut : (p : List ℕ) → 2 ≤ length p → length p < 2 + get_or p 1 0 → entries_of p ≡ no_entry p
+unfolding entries_in
+entries_cut [] h g = absurd (omega arith)
+entries_cut (u ∷ []) h g = absurd (omega arith)
+entries_cut (u ∷ c ∷ s) h g =
+    let some_bytes : eqb (length (u ∷ c ∷ s)) 0 ≡ false = ne_eqb (length (u ∷ c ∷ s)) 0 (λ e. omega arith) in
+    rw (lt-leb c (length s) (omega arith), some_bytes) refl
 
-  pub entries_more : (j : ℕ) → j ≡ i + 2 + get_or p (i + 1) 0 → j ≤ length p
-      → entries_of (drop i p) ≡ add_entry (record { node = get_or p i 0; set = between (i + 2) j p }) (entries_of (drop j p))
-  unfolding entries_in
-  entries_more j e g =
-      let l : get_or p (i + 1) 0 ≤ length (drop (i + 2) p) = simp length-drop (omega arith) in
-      let d : j - (i + 2) ≡ get_or p (i + 1) 0 = omega arith in
-      let x : length (drop j p) ≤ length (drop (i + 2) p) = simp length-drop (omega arith) in
-      ap entries_of (rest_two p i (omega arith))
-      ∙ rw (le-leb (get_or p (i + 1) 0) (length (drop (i + 2) p)) l, drop-drop (get_or p (i + 1) 0) (i + 2) p, ← e, d)
-      (ap (add_entry (record { node = get_or p i 0; set = take (get_or p (i + 1) 0) (drop (i + 2) p) }))
-      (fuel (suc (suc (length (drop (i + 2) p)))) (suc (length (drop j p))) (drop j p) (omega arith) (omega arith)))
+-- the entry, and the entries behind it
+pub entries_more : (p : List ℕ) (k : ℕ) → k ≡ get_or p 1 0 → 2 + k ≤ length p
+    → entries_of p ≡ add_entry (record { node = get_or p 0 0; set = take (2 + k - 2) (drop 2 p) }) (entries_of (take (length p - (2 + k)) (drop (2 + k) p)))
+unfolding entries_in
+entries_more [] k e g = absurd (omega arith)
+entries_more (u ∷ []) k e g = absurd (omega arith)
+entries_more (u ∷ c ∷ s) k e g =
+    let l : length (drop c s) ≤ length s = simp length-drop (omega arith) in
+    let d : 2 + c ≡ suc (suc c) = omega arith in
+    let b : suc (suc c) - 2 ≡ c = omega arith in
+    let all : take (length (u ∷ c ∷ s) - suc (suc c)) (drop c s) ≡ drop c s = take_all _ (drop c s) (simp length-drop (omega arith)) in
+    rw (e, d, b, all, le-leb c (length s) (omega arith)) (ap (add_entry (record { node = u; set = take c s })) (fuel (suc (suc (length s))) (suc (length (drop c s))) (drop c s) (omega arith) (omega arith)))
 
-  -- what ends with the record: the next entry lies in it
-  module _ (f : is_some (entries_of (drop i p)) ≡ true) (h : i < length p) where
-    pub two_more : i + 2 ≤ length p
-    two_more = by (dec_le (i + 2) (length p))
-      where
-        by : Dec (i + 2 ≤ length p) → i + 2 ≤ length p
-        by (yes g) = g
-        by (no g) = absurd (false≢true (sym (ap is_some (entries_short h (omega arith))) ∙ f))
+-- what is asked of each, in std's word
+pub each_all : (f : SetEntry → Bool) (es : List SetEntry) → list_all f es ≡ all_entries f es
+unfolding all_entries
+each_all f [] = refl
+each_all f (e ∷ es) = ap (λ (b : Bool). f e && b) (each_all f es)
 
-    pub fits : i + 2 + get_or p (i + 1) 0 ≤ length p
-    fits = by (dec_le (i + 2 + get_or p (i + 1) 0) (length p))
-      where
-        by : Dec (i + 2 + get_or p (i + 1) 0 ≤ length p) → i + 2 + get_or p (i + 1) 0 ≤ length p
-        by (yes g) = g
-        by (no g) = absurd (false≢true (sym (ap is_some (entries_cut two_more (omega arith))) ∙ f))
-
--- one entry more, of what ends with the record
-framed_more : (e : SetEntry) (o : Option (List SetEntry)) → is_some (add_entry e o) ≡ is_some o
-framed_more e none = refl
-framed_more e (some es) = refl
-
-listed_more : (e : SetEntry) (o : Option (List SetEntry)) → is_some o ≡ true → listed (add_entry e o) ≡ e ∷ listed o
-listed_more e none f = absurd (false≢true f)
-listed_more e (some es) f = refl
-
-module _ (p : List ℕ) (i j : ℕ) (e : j ≡ i + 2 + get_or p (i + 1) 0) (g : j ≤ length p) where
-  pub framed_next : is_some (entries_of (drop i p)) ≡ is_some (entries_of (drop j p))
-  framed_next = ap is_some (entries_more p i j e g) ∙ framed_more (record { node = get_or p i 0; set = between (i + 2) j p }) (entries_of (drop j p))
-
-  module _ (f : is_some (entries_of (drop i p)) ≡ true) where
-    pub listed_next : listed (entries_of (drop i p)) ≡ record { node = get_or p i 0; set = between (i + 2) j p } ∷ listed (entries_of (drop j p))
-    listed_next = ap listed (entries_more p i j e g) ∙ listed_more (record { node = get_or p i 0; set = between (i + 2) j p }) (entries_of (drop j p)) (sym framed_next ∙ f)
-
-    -- the entry that starts here
-    entry : SetEntry
-    entry = record { node = get_or p i 0; set = between (i + 2) j p }
-
-    -- what is asked of each, where it fails here and where it holds
-    each_no : (f : SetEntry → Bool) → f entry ≡ false → all_entries f (listed (entries_of (drop i p))) ≡ false
-    unfolding entry
-    each_no f h = ap (all_entries f) listed_next ∙ each_cons f entry (listed (entries_of (drop j p))) ∙ rw h
-
-    each_yes : (f : SetEntry → Bool) → f entry ≡ true → all_entries f (listed (entries_of (drop i p))) ≡ all_entries f (listed (entries_of (drop j p)))
-    unfolding entry
-    each_yes f h = ap (all_entries f) listed_next ∙ each_cons f entry (listed (entries_of (drop j p))) ∙ rw h
-
-    pub below_node : (n : ℕ) → n ≤ get_or p i 0 → all_entries (entry_below n) (listed (entries_of (drop i p))) ≡ false
-    unfolding entry
-    below_node n h = each_no (entry_below n) (node_not_below n entry h)
-
-    pub below_set : (n : ℕ) → nodes_below n (between (i + 2) j p) ≡ false → all_entries (entry_below n) (listed (entries_of (drop i p))) ≡ false
-    unfolding entry
-    below_set n a = each_no (entry_below n) (set_not_below n entry a)
-
-    pub below_next : (n : ℕ) → get_or p i 0 < n → nodes_below n (between (i + 2) j p) ≡ true
-        → all_entries (entry_below n) (listed (entries_of (drop i p))) ≡ all_entries (entry_below n) (listed (entries_of (drop j p)))
-    unfolding entry
-    below_next n h a = each_yes (entry_below n) (below_in n entry h a)
-
-    pub rise_node : (low : ℕ) → get_or p i 0 < low → entries_rise low (listed (entries_of (drop i p))) ≡ false
-    unfolding entry
-    rise_node low h = ap (entries_rise low) listed_next ∙ node_not_rising low entry (listed (entries_of (drop j p))) h
-
-    pub rise_set : (low : ℕ) → rises 0 (between (i + 2) j p) ≡ false → entries_rise low (listed (entries_of (drop i p))) ≡ false
-    unfolding entry
-    rise_set low a = ap (entries_rise low) listed_next ∙ set_not_rising low entry (listed (entries_of (drop j p))) a
-
-    pub rise_next : (low : ℕ) → low ≤ get_or p i 0 → rises 0 (between (i + 2) j p) ≡ true
-        → entries_rise low (listed (entries_of (drop i p))) ≡ entries_rise (get_or p i 0 + 1) (listed (entries_of (drop j p)))
-    unfolding entry
-    rise_next low h a = ap (entries_rise low) listed_next ∙ rise-cons low entry (listed (entries_of (drop j p))) h a
-
-    -- its count is the number of its members
-    count_is : length (between (i + 2) j p) ≡ get_or p (i + 1) 0
-    count_is = between-length (i + 2) j p (omega arith) g ∙ omega arith
-
-    pub one_no : (get_or p (i + 1) 0 ≡ 1 → ⊥) → all_entries (λ x. eqb (length x.set) 1) (listed (entries_of (drop i p))) ≡ false
-    unfolding entry
-    one_no h = each_no (λ x. eqb (length x.set) 1) (ne_eqb (length (between (i + 2) j p)) 1 (λ q. h (sym count_is ∙ q)))
-
-    pub one_next : get_or p (i + 1) 0 ≡ 1
-        → all_entries (λ x. eqb (length x.set) 1) (listed (entries_of (drop i p))) ≡ all_entries (λ x. eqb (length x.set) 1) (listed (entries_of (drop j p)))
-    unfolding entry
-    one_next h = each_yes (λ x. eqb (length x.set) 1) (eq-eqb (length (between (i + 2) j p)) 1 (count_is ∙ h))
-
-pub each_last : (f : SetEntry → Bool) (p : List ℕ) (i : ℕ) → length p ≤ i → all_entries f (listed (entries_of (drop i p))) ≡ true
-each_last f p i h = ap (λ (o : Option (List SetEntry)). all_entries f (listed o)) (entries_end p i h) ∙ each_none f
-
-pub rise_last : (p : List ℕ) (i low : ℕ) → length p ≤ i → entries_rise low (listed (entries_of (drop i p))) ≡ true
-rise_last p i low h = ap (λ (o : Option (List SetEntry)). entries_rise low (listed o)) (entries_end p i h) ∙ rise_none low
-
--- bytes that are no entries
-pub one_none : (p : List ℕ) → is_some (entries_of p) ≡ false → all_entries (λ x. eqb (length x.set) 1) (listed (entries_of p)) ≡ true
-one_none p h = by (entries_of p) h
-  where
-    by : (o : Option (List SetEntry)) → is_some o ≡ false → all_entries (λ x. eqb (length x.set) 1) (listed o) ≡ true
-    by none f = each_none (λ x. eqb (length x.set) 1)
-    by (some es) f = absurd (false≢true (sym f))
+-- the entries that are left, as a chain of calls of `next` gives them
+pub entries_listed : (es : Entries) → YieldsList (YieldsFirstBy entry_held (λ (it : Entries). listed (entries_of it.rest.now))) entry_held es (listed (entries_of es.rest.now))
+entries_listed es = YieldsList-from_first entry_held (λ (it : Entries). listed (entries_of it.rest.now)) _ refl

@@ -1,7 +1,7 @@
 -- For the questions of a payload: a loop over it, where what is asked of the whole is what is asked of the rest.
 use mathlib.Core.Path.{◌≡◌, refl, sym, ap, ◌∙◌}
 use mathlib.Core.Bool.{Bool, true, false, ◌&&◌, ◌||◌}
-use mathlib.Core.List.{List, [], ◌∷◌}
+use mathlib.Core.List.{List, [], ◌∷◌, ◌++◌}
 use Prim.Native.Nat.{ℕ, ◌+◌, ◌*◌, ◌/◌, ◌%◌, ◌<◌, ◌≤◌, zero-le}
 use native.Mathlib.Nat.{div-add-mod, mul-mod_right, mul-div_cancel_left}
 use native.Mathlib.Numerals.{add-one}
@@ -22,11 +22,6 @@ rest_none l i h = drop_of_length-le l h
 
 pub rest_cons : (l : List ℕ) (i : ℕ) → i < length l → drop i l ≡ get_or l i 0 ∷ drop (i + 1) l
 rest_cons l i h = rw add-one (drop-cons l i 0 h)
-
-pub rest_two : (l : List ℕ) (i : ℕ) → i + 2 ≤ length l → drop i l ≡ get_or l i 0 ∷ get_or l (i + 1) 0 ∷ drop (i + 2) l
-rest_two l i h =
-    let e : i + 1 + 1 ≡ i + 2 = omega arith in
-    rest_cons l i (omega arith) ∙ ap (λ (t : List ℕ). get_or l i 0 ∷ t) (rest_cons l (i + 1) (omega arith)) ∙ ap (λ (k : ℕ). get_or l i 0 ∷ get_or l (i + 1) 0 ∷ drop k l) e
 
 -- ---- a length of so many bytes for each node, by division
 pub width_none : (len n : ℕ) → eqb len 0 ≡ eqb len (0 * n)
@@ -99,24 +94,34 @@ pairs_start (a ∷ b ∷ l) = by (lt_or_ge a b)
     by (inr h) = rw (le-ltb a b h)
 
 -- two at a time
-module _ (low : ℕ) (l : List ℕ) (i : ℕ) where
-  pub pairs_end : length l ≤ i → pairs_rise low (drop i l) ≡ true
+pub pair_of : (e : List ℕ) → length e ≡ 2 → e ≡ get_or e 0 0 ∷ get_or e 1 0 ∷ []
+pair_of [] h = absurd (omega arith)
+pair_of (a ∷ []) h = absurd (omega arith)
+pair_of (a ∷ b ∷ []) h = refl
+pair_of (a ∷ b ∷ c ∷ e) h = absurd (omega arith)
+
+pub pairs_end : (low : ℕ) (s : List ℕ) → length s < 2 → length s % 2 ≡ 0 → pairs_rise low s ≡ true
+unfolding pairs_rise
+pairs_end low [] h g = refl
+pairs_end low (a ∷ []) h g = absurd (omega arith)
+pairs_end low (a ∷ b ∷ s) h g = absurd (omega arith)
+
+module _ (low : ℕ) (s e r : List ℕ) (q : s ≡ e ++ r) (two : length e ≡ 2) where
+  opened : pairs_rise low s ≡ pairs_rise low (get_or e 0 0 ∷ get_or e 1 0 ∷ r)
+  opened = ap (pairs_rise low) (q ∙ ap (λ (x : List ℕ). x ++ r) (pair_of e two))
+
+  pub pairs_no : get_or e 1 0 ≤ get_or e 0 0 → pairs_rise low s ≡ false
   unfolding pairs_rise
-  pairs_end h = ap (pairs_rise low) (rest_none l i h)
+  pairs_no h = opened ∙ rw (le-ltb (get_or e 0 0) (get_or e 1 0) h)
 
-  module _ (h : i + 2 ≤ length l) where
-    pub pairs_no : get_or l (i + 1) 0 ≤ get_or l i 0 → pairs_rise low (drop i l) ≡ false
+  module _ (h : get_or e 0 0 < get_or e 1 0) where
+    pub pairs_low : 256 * get_or e 0 0 + get_or e 1 0 < low → pairs_rise low s ≡ false
     unfolding pairs_rise
-    pairs_no e = ap (pairs_rise low) (rest_two l i h) ∙ rw (le-ltb (get_or l i 0) (get_or l (i + 1) 0) e)
+    pairs_low g = opened ∙ rw (lt-ltb (get_or e 0 0) (get_or e 1 0) h, lt-leb low (256 * get_or e 0 0 + get_or e 1 0) g)
 
-    module _ (e : get_or l i 0 < get_or l (i + 1) 0) where
-      pub pairs_low : 256 * get_or l i 0 + get_or l (i + 1) 0 < low → pairs_rise low (drop i l) ≡ false
-      unfolding pairs_rise
-      pairs_low g = ap (pairs_rise low) (rest_two l i h) ∙ rw (lt-ltb (get_or l i 0) (get_or l (i + 1) 0) e, lt-leb low (256 * get_or l i 0 + get_or l (i + 1) 0) g)
-
-      pub pairs_yes : low ≤ 256 * get_or l i 0 + get_or l (i + 1) 0 → pairs_rise low (drop i l) ≡ pairs_rise (256 * get_or l i 0 + get_or l (i + 1) 0 + 1) (drop (i + 2) l)
-      unfolding pairs_rise
-      pairs_yes g = ap (pairs_rise low) (rest_two l i h) ∙ rw (lt-ltb (get_or l i 0) (get_or l (i + 1) 0) e, le-leb low (256 * get_or l i 0 + get_or l (i + 1) 0) g)
+    pub pairs_yes : low ≤ 256 * get_or e 0 0 + get_or e 1 0 → pairs_rise low s ≡ pairs_rise (256 * get_or e 0 0 + get_or e 1 0 + 1) r
+    unfolding pairs_rise
+    pairs_yes g = opened ∙ rw (lt-ltb (get_or e 0 0) (get_or e 1 0) h, le-leb low (256 * get_or e 0 0 + get_or e 1 0) g)
 
 -- the members of a list, below a bound: of those put in so far, and of the rest
 abbrev pub lists : List ℕ → ℕ → Bool

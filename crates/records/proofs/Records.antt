@@ -14,6 +14,7 @@ use Rattle.answers.specs.Answer.{Answer, gives, refuses, ◌>>◌, asks}
 use Rattle.answers.proofs.Answer.{give_inj, never, asks_out, bind_out}
 use Rattle.records.specs.Records.{Part, part, all_yes, checked, each_asks, written, length_field, kind_field}
 use Rattle.nodes.specs.Lists.{all}
+use Rattle.records.specs.Encoding.{IsBytes}
 
 -- ---- every element passes
 pub all-append : (f : ℕ → Bool) (l g : List ℕ) → all f l ≡ true → all f g ≡ true → all f (l ++ g) ≡ true
@@ -41,6 +42,19 @@ pub all_more : (f g : ℕ → Bool) (l : List ℕ) → ((v : ℕ) → f v ≡ tr
 unfolding all
 all_more f g [] h a = refl
 all_more f g (x ∷ l) h a = let (p, q) = and_out (f x) (all f l) a in rw (h x p, all_more f g l h q)
+
+-- ---- bytes
+-- a slice of bytes has bytes
+pub bytes_known : (s : List ℕ) → ((i : ℕ) → get_or s i 0 < 256) → IsBytes s
+unfolding all
+bytes_known [] h = refl
+bytes_known (x ∷ s) h = rw (lt-ltb x 256 (h 0)) (bytes_known s (λ i. h (suc i)))
+
+-- and so has a part of them
+pub bytes_part : (a n : ℕ) (s : List ℕ) → IsBytes s → IsBytes (take n (drop a s))
+bytes_part a n s h =
+    let behind : IsBytes (drop a s) = all_right (λ b. ltb b 256) (take a s) (drop a s) (rw (take-append-drop a s) h) in
+    all_left (λ b. ltb b 256) (take n (drop a s)) (drop n (drop a s)) (rw (take-append-drop n (drop a s)) behind)
 
 -- ---- the six bytes before a payload, and the payload
 pub record IsWhole (kind : ℕ) (s : List ℕ) (p : Part) : Type 0 where

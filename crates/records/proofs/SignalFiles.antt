@@ -1,32 +1,30 @@
 -- Flow files with signal lists and with an edited set: they are valid, how long they are, and which of their parts are those of the file that was read.
-use Prim.Native.Nat.{ℕ, ◌+◌, ◌*◌, ◌-◌, ◌≤◌, ◌<◌, zero-le}
+use Prim.Native.Nat.{ℕ, ◌+◌, ◌*◌, ◌≤◌, zero-le}
 use mathlib.Core.Path.{◌≡◌, refl, sym, ap, ap₂, ◌∙◌}
-use mathlib.Core.Bool.{Bool, true, false}
+use mathlib.Core.Bool.{Bool, true, false, cond}
 use mathlib.Core.Option.{Option, none, some}
 use mathlib.Core.List.{List, ◌++◌, append_assoc}
 use native.Mathlib.Omega.{arith}
 use native.Mathlib.Nat.{mul-le-mul}
 use lib.Dec.{ltb}
-use lib.ListN.{length, take, drop, length-append, length-drop, take-append-drop}
-use lib.Seq.{length-take-le, take-append_seam, drop-append_seam, drop-drop}
+use lib.ListN.{length, length-append, take}
+use Rattle.std.proofs.Math.Seq.{take-append_seam}
 use Rattle.nodes.specs.Lists.{all}
-use Rattle.nodes.specs.Options.{is_some}
 use Rattle.flows.specs.Job.{Job}
 use Rattle.answers.specs.Answer.{gives}
-use Rattle.records.specs.Records.{head_bytes, length_field, Part, written, kind_layers, kind_wide_layers, kind_sets, kind_set_signals, kind_odd_signals}
+use Rattle.records.specs.Records.{head_bytes, all_yes, each_asks, written, kind_layers, kind_wide_layers, kind_sets, kind_set_signals, kind_odd_signals}
 use Rattle.records.specs.Format.{optional}
 use Rattle.records.specs.JobFile.{most_nodes, rises}
-use Rattle.records.specs.FlowFile.{SetEntry, FlowFile, Signals, layer_width, layer_bytes, layers, signals, entries_of, entry_below, entry_bytes, flow, flow_value, read_flow}
+use Rattle.records.specs.FlowFile.{SetEntry, FlowFile, Signals, layer_width, layer_bytes, layer_numbers, layers, signals, sets_asks, entry_below, entry_bytes, flow, flow_value, read_flow}
 use Rattle.records.specs.BitRows.{row_width}
 use Rattle.records.specs.SignalLists.{with_signals, edited_signals, edited}
 use Rattle.records.specs.Encoding.{IsBytes, flow_file_bytes, ListsFit, IsValidFlow}
 use Rattle.records.specs.Writing.{signal_bytes, most_flow}
-use Rattle.records.specs.Views.{bytes_at, payload_from, flow_at, flow_places}
-use Rattle.records.specs.declared.common.Place.{Place}
-use Rattle.records.specs.declared.common.FlowPlaces.{FlowPlaces}
-use Rattle.records.proofs.Records.{all_left, all_right, IsWhole, part_out, part-written, written-length}
-use Rattle.records.proofs.Layers.{bytes-length}
-use Rattle.records.proofs.FlowFile.{entries_back, entries_few, entry_bytes-length}
+use Rattle.records.proofs.Records.{all_left, all_right, length_out, written-length}
+use Rattle.records.specs.Views.{flow_held, lists_written, IsLaidOut}
+use Rattle.records.specs.declared.flow_file.FlowFile as Code
+use Rattle.records.proofs.Layers.{bytes-length, bytes_back}
+use Rattle.records.proofs.FlowFile.{entries_encode, sets_out, entries_few, entry_bytes-length}
 use Rattle.records.proofs.BitRows.{bit_rows-length, column-length}
 use Rattle.records.proofs.SignalLists.{put_each, put_rise}
 use Rattle.records.proofs.Encoding.{flow_exact, flow_asked}
@@ -101,72 +99,49 @@ module _ (n : ℕ) (g : FlowFile) (few : n ≤ most_nodes) (v : IsValidFlow n g)
       let (kind, e) = layers-written g in
       omega (arith, ap length (file_records g), length-append (two_records g) (signal_bytes g.signals), length-append (layers_record g) (written kind_sets (entry_bytes g.sets)), ap length e, written-length kind (layer_bytes g.wide g.layers), written-length kind_sets (entry_bytes g.sets), layers-length, sets-length, lists_length)
 
--- ---- where the parts of a flow lie that was read
-length-written : (kind : ℕ) (p t : List ℕ) → length p < 4294967296 → length_field (written kind p ++ t) ≡ length p
-length-written kind p t h =
-    let w : IsWhole kind (written kind p ++ t) (record { payload = p; rest = t }) = part_out kind (written kind p ++ t) _ (part-written kind p t h) in
-    let room = w.room in
-    sym (length-take-le (length_field (written kind p ++ t)) (drop 6 (written kind p ++ t)) (omega (arith, room, length-drop 6 (written kind p ++ t)))) ∙ ap (λ (q : Part). length q.payload) w.same
+-- ---- the parts of a flow that was read are its records, as they stand in the file
+abbrev pub layer_kind : Bool → ℕ
+layer_kind wide = cond wide kind_wide_layers kind_layers
 
-front_of : (k : ℕ) (a b s : List ℕ) → s ≡ a ++ b → k ≡ length a → (take k s ≡ a) × (drop k s ≡ b)
-front_of k a b s e l = (ap₂ (λ (k : ℕ) (s : List ℕ). take k s) l e ∙ take-append_seam a b, ap₂ (λ (k : ℕ) (s : List ℕ). drop k s) l e ∙ drop-append_seam a b)
+module _ (n : ℕ) (f : Code.FlowFile) (bytes : IsBytes f.layers.now) (asked : all_yes (each_asks (layer_width f.wide) n f.layers.now) ≡ true) (framed : all_yes (sets_asks n f.sets.now) ≡ true) where
+  pub layers_kept : written (layer_kind f.wide) f.layers.now ≡ layers_record (flow_held f)
+  layers_kept = by f.wide f.layers.now bytes (length_out (layer_width f.wide) n f.layers.now asked)
+    where
+      by : (wide : Bool) (p : List ℕ) → IsBytes p → length p ≡ layer_width wide * n → written (layer_kind wide) p ≡ (layers (length (layer_numbers wide p))).encode (record { wide = wide; numbers = layer_numbers wide p })
+      by true p h e = ap (written kind_wide_layers) (sym (bytes_back true n p h e))
+      by false p h e = refl
 
-module _ (s : List ℕ) (at n : ℕ) (p : FlowPlaces) (few : n ≤ most_nodes) (bytes : IsBytes s) (v : IsValidFlow n (flow_at s p)) (reads : read_flow n (drop at s) ≡ gives (flow_at s p)) (placed : p ≡ flow_places s at) where
-  bytes_behind : IsBytes (drop at s)
-  bytes_behind = all_right (λ b. ltb b 256) (take at s) (drop at s) (ap (all (λ b. ltb b 256)) (take-append-drop at s) ∙ bytes)
+  pub sets_kept : f.sets.now ≡ entry_bytes (flow_held f).sets
+  sets_kept = entries_encode f.sets.now (flow_held f).sets (sets_out n f.sets.now framed).0
 
-  -- all that is behind the job
-  whole : drop at s ≡ layers_record (flow_at s p) ++ (written kind_sets (entry_bytes (flow_at s p).sets) ++ (signal_bytes (flow_at s p).signals ++ (flow_at s p).after))
-  whole =
-      let g = flow_at s p in
-      ((flow_exact n (drop at s) g few bytes_behind).0 reads).0
-      ∙ ap (λ (k : ℕ). (flow k).encode (flow_value g) ++ g.after) (sym v.count)
+  pub records_kept : written (layer_kind f.wide) f.layers.now ++ written kind_sets f.sets.now ≡ two_records (flow_held f)
+  records_kept = ap₂ ◌++◌ layers_kept (ap (written kind_sets) sets_kept)
+
+  -- of the file itself: its front up to the end of the layers, and up to that of the sets, is those records
+  pub layers_front : (s : List ℕ) → IsLaidOut s f → take (head_bytes + length f.layers.now) s ≡ layers_record (flow_held f)
+  layers_front s e =
+      let k : ℕ = layer_kind f.wide in
+      ap (take (head_bytes + length f.layers.now)) e
+      ∙ ap (λ (i : ℕ). take i (written k f.layers.now ++ (written kind_sets f.sets.now ++ (lists_written f.signals ++ f.after.now)))) (sym (written-length k f.layers.now))
+      ∙ take-append_seam (written k f.layers.now) (written kind_sets f.sets.now ++ (lists_written f.signals ++ f.after.now))
+      ∙ layers_kept
+
+  pub records_front : (s : List ℕ) → IsLaidOut s f → take (head_bytes + length f.layers.now + (head_bytes + length f.sets.now)) s ≡ two_records (flow_held f)
+  records_front s e =
+      let both : List ℕ = written (layer_kind f.wide) f.layers.now ++ written kind_sets f.sets.now in
+      let size : length both ≡ head_bytes + length f.layers.now + (head_bytes + length f.sets.now) = length-append (written (layer_kind f.wide) f.layers.now) (written kind_sets f.sets.now) ∙ ap₂ ◌+◌ (written-length (layer_kind f.wide) f.layers.now) (written-length kind_sets f.sets.now) in
+      ap (take (head_bytes + length f.layers.now + (head_bytes + length f.sets.now))) (e ∙ sym (append_assoc (written (layer_kind f.wide) f.layers.now) (written kind_sets f.sets.now) (lists_written f.signals ++ f.after.now)))
+      ∙ ap (λ (i : ℕ). take i (both ++ (lists_written f.signals ++ f.after.now))) (sym size)
+      ∙ take-append_seam both (lists_written f.signals ++ f.after.now)
+      ∙ records_kept
+
+  -- so they are the front of what was read
+  pub records_first : (s : List ℕ) → n ≤ most_nodes → IsBytes s → read_flow n s ≡ gives (flow_held f)
+      → s ≡ (written (layer_kind f.wide) f.layers.now ++ written kind_sets f.sets.now) ++ (signal_bytes (flow_held f).signals ++ f.after.now)
+  records_first s few h e =
+      let g = flow_held f in
+      ((flow_exact n s g few h).0 e).0
+      ∙ ap (λ (k : ℕ). (flow k).encode (flow_value g) ++ g.after) (sym (flow_asked n s g few e).count)
       ∙ ap (λ (x : List ℕ). x ++ g.after) (file_records g)
       ∙ append_assoc (two_records g) (signal_bytes g.signals) g.after
-      ∙ append_assoc (layers_record g) (written kind_sets (entry_bytes g.sets)) (signal_bytes g.signals ++ g.after)
-
-  layers_place : (p.layers.end ≡ at + length (layers_record (flow_at s p))) × (drop p.layers.end s ≡ written kind_sets (entry_bytes (flow_at s p).sets) ++ (signal_bytes (flow_at s p).signals ++ (flow_at s p).after))
-  layers_place =
-      let g = flow_at s p in
-      let rest = written kind_sets (entry_bytes g.sets) ++ (signal_bytes g.signals ++ g.after) in
-      let (kind, e) = layers-written g in
-      let l = layer_bytes g.wide g.layers in
-      let field : length_field (drop at s) ≡ length l = ap length_field (whole ∙ ap (λ (x : List ℕ). x ++ rest) e) ∙ length-written kind l rest (omega (arith, layers-length n g few v)) in
-      let end : p.layers.end ≡ at + length (layers_record g) = ap (λ (q : FlowPlaces). q.layers.end) placed ∙ omega (arith, field, ap length e, written-length kind l) in
-      (end, ap (λ (k : ℕ). drop k s) end ∙ sym (drop-drop (length (layers_record g)) at s) ∙ (front_of (length (layers_record g)) (layers_record g) rest (drop at s) whole refl).1)
-
-  sets_place : (p.sets.start ≡ p.layers.end + head_bytes) × (p.sets.end ≡ p.layers.end + head_bytes + length (entry_bytes (flow_at s p).sets))
-  sets_place =
-      let g = flow_at s p in
-      let rest = signal_bytes g.signals ++ g.after in
-      let field : length_field (drop p.layers.end s) ≡ length (entry_bytes g.sets) = ap length_field layers_place.1 ∙ length-written kind_sets (entry_bytes g.sets) rest (omega (arith, sets-length n g few v)) in
-      let one : p.sets ≡ payload_from s p.layers.end = ap (λ (q : FlowPlaces). q.sets) placed ∙ ap (λ (q : FlowPlaces). payload_from s q.layers.end) (sym placed) in
-      (ap (λ (q : Place). q.start) one, ap (λ (q : Place). q.end) one ∙ ap (λ (k : ℕ). p.layers.end + head_bytes + k) field)
-
-  pub sets_inside : (head_bytes ≤ p.sets.start) × (p.sets.start ≤ p.sets.end) × (p.sets.end ≤ length s)
-  sets_inside =
-      let g = flow_at s p in
-      let size = ap length whole in (
-        omega (arith, sets_place.0),
-        omega (arith, sets_place.0, sets_place.1),
-        omega (arith, sets_place.1, layers_place.0, size, length-drop at s, length-append (layers_record g) (written kind_sets (entry_bytes g.sets) ++ (signal_bytes g.signals ++ g.after)), length-append (written kind_sets (entry_bytes g.sets)) (signal_bytes g.signals ++ g.after), written-length kind_sets (entry_bytes g.sets)),
-      )
-
-  -- the payload of sets ends exactly
-  pub sets_framed : is_some (entries_of (bytes_at p.sets s)) ≡ true
-  unfolding written
-  sets_framed =
-      let g = flow_at s p in
-      let rest = signal_bytes g.signals ++ g.after in
-      let behind : drop p.sets.start s ≡ entry_bytes g.sets ++ rest = ap (λ (k : ℕ). drop k s) sets_place.0 ∙ sym (drop-drop head_bytes p.layers.end s) ∙ ap (drop head_bytes) layers_place.1 in
-      ap (λ (l : List ℕ). is_some (entries_of l)) (front_of (p.sets.end - p.sets.start) (entry_bytes g.sets) rest (drop p.sets.start s) behind (omega (arith, sets_place.0, sets_place.1))).0 ∙ ap is_some (entries_back g.sets)
-
-  -- the layers' record, and both records, are those of the flow
-  pub layers_kept : bytes_at (record { start = at; end = p.sets.start - head_bytes }) s ≡ layers_record (flow_at s p)
-  layers_kept = (front_of (p.sets.start - head_bytes - at) (layers_record (flow_at s p)) _ (drop at s) whole (omega (arith, sets_place.0, layers_place.0))).0
-
-  pub records_kept : bytes_at (record { start = at; end = p.sets.end }) s ≡ two_records (flow_at s p)
-  records_kept =
-      let g = flow_at s p in
-      (front_of (p.sets.end - at) (two_records g) (signal_bytes g.signals ++ g.after) (drop at s) (whole ∙ sym (append_assoc (layers_record g) (written kind_sets (entry_bytes g.sets)) (signal_bytes g.signals ++ g.after)))
-      (omega (arith, sets_place.1, layers_place.0, length-append (layers_record g) (written kind_sets (entry_bytes g.sets)), written-length kind_sets (entry_bytes g.sets)))).0
+      ∙ ap (λ (x : List ℕ). x ++ (signal_bytes g.signals ++ g.after)) (sym records_kept)

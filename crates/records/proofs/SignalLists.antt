@@ -1,16 +1,15 @@
 -- Signal lists, and an entry put among others: what holds of the sets holds of them edited.
-use Prim.Native.Nat.{ℕ, zero, suc, ◌+◌, ◌≤◌, ◌<◌}
+use Prim.Native.Nat.{ℕ, ◌+◌, ◌≤◌, ◌<◌}
 use mathlib.Core.Path.{◌≡◌, refl, sym, ap, ap₂, ◌∙◌}
 use mathlib.Core.Bool.{Bool, true, false, cond, not, ◌&&◌, ◌||◌, false≢true}
-use mathlib.Core.Logic.{◌≢◌}
 use mathlib.Core.List.{List, [], ◌∷◌}
 use native.Mathlib.Omega.{arith}
 use native.Mathlib.Decide.{ℕ_discrete}
 use borrow.Author.Tests.{eqb-true, eq-eqb, ne_eqb, ltb-true, ltb-false, lt-ltb, le-ltb}
 use lib.Dec.{eqb, ltb}
-use lib.ListN.{length, get_or, take}
+use lib.Pointwise.{pointwise}
 use Rattle.nodes.specs.Lists.{has, equal}
-use Rattle.nodes.proofs.Logic.{and_out, and_all, and_none, and_assoc, or_false, eqb_yes, eqb_comm}
+use Rattle.nodes.proofs.Logic.{and_out, or_false, eqb_yes, eqb_comm}
 use Rattle.records.specs.JobFile.{rises}
 use Rattle.records.specs.FlowFile.{SetEntry, all_entries, entries_rise, set_in, entry_in}
 use Rattle.records.specs.SignalLists.{flips, signal_list, put_entry, edited_list}
@@ -30,30 +29,13 @@ equal_same [] (y ∷ m) e = absurd (false≢true e)
 equal_same (x ∷ l) [] e = absurd (false≢true e)
 equal_same (x ∷ l) (y ∷ m) e = let (a, b) = and_out (eqb x y) (equal l m) e in ap₂ ◌∷◌ (eqb-true x y a) (equal_same l m b)
 
-pub equal_not : (l m : List ℕ) → length l ≢ length m → equal l m ≡ false
+-- as std compares them
+pub equal_each : (l m : List ℕ) → pointwise eqb l m ≡ equal l m
 unfolding equal
-equal_not [] [] f = absurd (f refl)
-equal_not [] (y ∷ m) f = refl
-equal_not (x ∷ l) [] f = refl
-equal_not (x ∷ l) (y ∷ m) f = ap (λ (b : Bool). eqb x y && b) (equal_not l m (λ e. f (ap suc e))) ∙ and_none (eqb x y)
-
--- the first i, one after the other
-pub equal_none : (l m : List ℕ) → equal (take 0 l) (take 0 m) ≡ true
-unfolding equal
-equal_none l m = refl
-
-pub equal_next : (l m : List ℕ) (i : ℕ) → i < length l → i < length m → equal (take (i + 1) l) (take (i + 1) m) ≡ equal (take i l) (take i m) && eqb (get_or l i 0) (get_or m i 0)
-unfolding equal
-equal_next l m i h g = ap₂ equal (count i l) (count i m) ∙ by l m i h g
-  where
-    count : (i : ℕ) (l : List ℕ) → take (i + 1) l ≡ take (suc i) l
-    count i l = let same : i + 1 ≡ suc i = omega arith in ap (λ (k : ℕ). take k l) same
-
-    by : (l m : List ℕ) (i : ℕ) → i < length l → i < length m → equal (take (suc i) l) (take (suc i) m) ≡ equal (take i l) (take i m) && eqb (get_or l i 0) (get_or m i 0)
-    by [] m i h g = absurd (omega arith)
-    by (x ∷ l) [] i h g = absurd (omega arith)
-    by (x ∷ l) (y ∷ m) zero h g = and_all (eqb x y)
-    by (x ∷ l) (y ∷ m) (suc i) h g = ap (λ (b : Bool). eqb x y && b) (by l m i (omega arith) (omega arith)) ∙ sym (and_assoc (eqb x y) (equal (take i l) (take i m)) (eqb (get_or l i 0) (get_or m i 0)))
+equal_each [] [] = refl
+equal_each [] (y ∷ m) = refl
+equal_each (x ∷ l) [] = refl
+equal_each (x ∷ l) (y ∷ m) = ap (λ (b : Bool). eqb x y && b) (equal_each l m)
 
 -- ---- lists
 pub list_ext : (n : ℕ) (s t : ℕ → ℕ → Bool) → ((i j : ℕ) → i < n → j < n → s i j ≡ t i j) → signal_list n s ≡ signal_list n t

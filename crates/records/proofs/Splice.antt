@@ -5,6 +5,7 @@ use mathlib.Core.List.{List, [], ◌∷◌, ◌++◌, append_assoc}
 use native.Mathlib.Omega.{arith}
 use lib.ListN.{length, set, take, drop, length-append, take-append-drop}
 use lib.Seq.{length-take-le, take-append_seam, drop-append_seam, drop-drop}
+use Rattle.records.specs.Records.{head_of, written}
 use Rattle.records.specs.Splice.{splice}
 
 take_of : (n : ℕ) (a b : List ℕ) → length a ≡ n → take n (a ++ b) ≡ a
@@ -71,12 +72,24 @@ splice_more at k a x l m e h p = splice_next at k a (x ∷ []) l m e (omega arit
 pub splice-cons : (at : ℕ) (x : ℕ) (b l m : List ℕ) → at + 1 + length b ≤ length l → m ≡ splice at (x ∷ []) l → splice (at + 1) b m ≡ splice at (x ∷ b) l
 splice-cons at x b l m h p = ap (splice (at + 1) b) p ∙ splice-splice at (x ∷ []) b l h
 
--- three things, one after the other
-pub three_length : (a b c : List ℕ) → length (a ++ (b ++ c)) ≡ length a + length b + length c
-three_length a b c = omega (arith, length-append a (b ++ c), length-append b c)
+-- ---- at the front of a buffer: a part, and behind it another
+pub front_twice : (a b out : List ℕ) → take (length a) (a ++ drop (length a) out) ++ (b ++ drop (length b) (drop (length a) (a ++ drop (length a) out))) ≡ (a ++ b) ++ drop (length (a ++ b)) out
+front_twice a b out =
+    let t = take-append_seam a (drop (length a) out) in
+    let d = drop-append_seam a (drop (length a) out) in
+    rw (t, d, drop-drop (length b) (length a) out, ← length-append a b) (sym (append_assoc a b (drop (length (a ++ b)) out)))
 
-pub three_put : (at j k : ℕ) (a b c l m n o : List ℕ) → j ≡ at + length a → k ≡ j + length b → k + length c ≤ length l
-    → m ≡ splice at a l → n ≡ splice j b m → o ≡ splice k c n → o ≡ splice at (a ++ (b ++ c)) l
-three_put at j k a b c l m n o d e h p q r =
-    r ∙ splice_next at k (a ++ b) c l n (omega (arith, length-append a b)) h (q ∙ splice_next at j a b l m d (omega arith) p)
-    ∙ ap (λ (x : List ℕ). splice at x l) (append_assoc a b c)
+pub record_length : (kind : ℕ) (p : List ℕ) → length (written kind p) ≡ 6 + length p
+unfolding written
+record_length kind p = length-append (head_of (length p) kind) p ∙ omega arith
+
+pub record_front : (kind : ℕ) (p out : List ℕ) → head_of (length p) kind ++ (p ++ drop (length p) (drop 6 out)) ≡ written kind p ++ drop (length (written kind p)) out
+unfolding written
+record_front kind p out =
+    let head = head_of (length p) kind in
+    let long : 6 + length p ≡ length (written kind p) = sym (record_length kind p) in
+    ap (λ (t : List ℕ). head ++ (p ++ t)) (drop-drop (length p) 6 out ∙ ap (λ (k : ℕ). drop k out) long) ∙ sym (append_assoc head p (drop (length (written kind p)) out))
+
+pub splice_front : (b l : List ℕ) → splice 0 b l ≡ b ++ drop (length b) l
+unfolding splice
+splice_front b l = let start : 0 + length b ≡ length b = omega arith in rw start refl

@@ -1,8 +1,10 @@
-// The records of job and flow files: their kinds, sizes and modes, and where their payloads lie.
-ghost use Rattle.std.specs.Prelude.{◌≡◌, ◌<◌, get_or};
-ghost use Rattle.records.specs.Views.{bytes_at};
+// The records of job and flow files: their kinds, sizes and modes; bytes and nodes of a payload.
+ghost use Rattle.std.specs.Prelude.{◌≡◌, ◌&&◌, ◌<◌, leb, get_or};
+ghost use Rattle.nodes.specs.NodeSet.{member, highest};
+ghost use Rattle.nodes.specs.Lists.{has};
 
-use nodes::utils::CAPACITY;
+use flows::mode::Mode;
+use nodes::utils::{CAPACITY, NodeSet, SET_WORDS};
 
 // The bytes of a record's length and kind.
 pub const HEAD_BYTES: usize = 6;
@@ -16,6 +18,7 @@ pub const WIDE_LAYER_BYTES: usize = 2;
 // The bytes of an entry's node and count.
 pub const ENTRY_HEAD_BYTES: usize = 2;
 
+// Kinds are numbers, no enum: `write_record` takes any, and the definitions of the files name them so.
 pub(crate) const KIND_OPENING: u16 = 0x0001;
 
 pub(crate) const KIND_EDGES: u16 = 0x0002;
@@ -47,77 +50,31 @@ pub const KIND_ANGLES: u16 = 0x0024;
 // As many nodes as a set can have.
 pub const MOST_NODES: usize = CAPACITY;
 
-pub const MODE_CAUSAL: u8 = 1;
+pub(crate) const MODE_CAUSAL: u8 = Mode::Causal as u8;
 
-pub const MODE_PLANES: u8 = 2;
-
-pub const MODE_PAULI: u8 = 3;
-
-// Where a payload lies in the file.
-#[derive(Clone, Copy)]
-pub struct Place {
-    pub start: usize,
-    pub end: usize,
-}
-
-// Where the payloads of a job lie, whether the angles are there, and where it ends.
-#[derive(Clone, Copy)]
-pub struct JobPlaces {
-    pub n: usize,
-    pub mode: u8,
-    pub edges: Place,
-    pub inputs: Place,
-    pub outputs: Place,
-    pub measurements: Place,
-    pub angled: bool,
-    pub angles: Place,
-    pub end: usize,
-}
-
-// Where the payloads of a flow lie, whether its layers are of the wide kind, whether the signal lists are there, and where it ends.
-#[derive(Clone, Copy)]
-pub struct FlowPlaces {
-    pub wide: bool,
-    pub layers: Place,
-    pub sets: Place,
-    pub signals: bool,
-    pub rows: Place,
-    pub odds: Place,
-    pub end: usize,
-}
+pub(crate) const MODE_PAULI: u8 = Mode::Pauli as u8;
 
 // A byte as a number.
 pub fn number(x: u8) -> usize
     ensures { (result ≡ x) × (result < 256) }
 {
-    x as usize
+    usize::from(x)
 }
 
 // The byte at i; past the end it is 0.
 pub fn byte_at(bytes: &[u8], i: usize) -> u8
     ensures { result ≡ get_or bytes.now i 0 }
 {
-    if i < bytes.len() {
-        return bytes[i];
-    }
-    0
+    bytes.get(i).copied().unwrap_or(0)
 }
 
-// The bytes of the file at a place; of a place past its end there are none.
-pub fn payload(file: &[u8], place: Place) -> &[u8]
-    ensures { result.now ≡ bytes_at place file.now }
+// The nodes of a payload as a set; a set has no room for those past its highest.
+pub fn set_of(nodes: &[u8]) -> NodeSet<SET_WORDS>
+    ensures { member result ≡ (λ u. has nodes.now u && leb u highest) }
 {
-    let start = place.start;
-    let end = place.end;
-    let len = file.len();
-    if start > end {
-        return &file[len..len];
+    let mut s = NodeSet::empty();
+    for &v in nodes {
+        s = s.with(usize::from(v));
     }
-    if start > len {
-        return &file[len..len];
-    }
-    if end > len {
-        return &file[start..len];
-    }
-    &file[start..end]
+    s
 }

@@ -1,65 +1,65 @@
 // What is asked of an editor's lists, of each in turn: questions 3, 4, 5, 7 and 23.
 ghost use Rattle.std.specs.Prelude.{◌≡◌};
-ghost use Rattle.nodes.specs.NodeSet.{member};
-ghost use Rattle.records.specs.JobLists.{given, angles_given, lists_ask};
+ghost use Rattle.nodes.specs.Lists.{has};
+ghost use Rattle.flows.specs.Numbers.{mode_number};
+ghost use Rattle.records.specs.JobLists.{angles_given, lists_ask};
 ghost use Rattle.answers.specs.Refusals.{passed};
-ghost use Rattle.records.specs.Views.{some_if};
+ghost use Rattle.records.specs.Views.{option_of, given_held};
 
-use crate::common::{MODE_PLANES, number};
-use crate::questions::{ask_angles, ask_measurements, below, opening_allowed};
-use crate::reader::set_of;
+use crate::common::set_of;
+use crate::questions::{
+    Angles, Measurements, Outputs, Questions, below, has_angles, mode_of, opening_allowed,
+};
 use answers::Refusal;
-use nodes::utils::NodeSet;
+use flows::mode::Mode;
+
+// A job as an editor holds it: its lists in any order, and the angles where they are given. The mode may be any number: question 4
+// asks for it, as it does for n.
+#[derive(Clone, Copy, Debug, PartialEq, Eq)]
+pub struct JobLists<'a> {
+    pub n: usize,
+    pub mode: usize,
+    pub edges: &'a [u8],
+    pub inputs: &'a [u8],
+    pub outputs: &'a [u8],
+    pub measurements: &'a [u8],
+    pub angles: Option<&'a [u8]>,
+}
 
 // Angles, where they are given, go with mode 2 only (4); then 3 and 23.
 #[tactic(auto, unfolding(crate::specs::JobLists::angles_given))]
-fn ask_given(
-    angled: bool,
-    angles: &[u8],
-    n: usize,
-    mode: usize,
-    outputs: NodeSet,
-) -> Result<(), Refusal>
-    ensures { passed result ≡ angles_given n mode (member outputs) (some_if angled angles.now) }
+fn ask_given(angles: Option<&[u8]>, mode: Mode, outputs: &Outputs<'_>) -> Result<(), Refusal>
+    ensures { passed result ≡ angles_given outputs.now.n (mode_number mode) (has outputs.now.nodes.now) (option_of angles.entry) }
 {
-    if !angled {
+    let Some(angles) = angles else {
         return Ok(());
-    }
-    if mode != number(MODE_PLANES) {
+    };
+    if !has_angles(mode) {
         return Err(Refusal::WrongOpening);
     }
-    ask_angles(angles, n, outputs)
+    Angles { outputs: *outputs }.ask(angles)
 }
 
-// The angles count where they are given: `angled` tells that, since a job of no node has none.
-pub fn ask_lists(
-    n: usize,
-    mode: usize,
-    edges: &[u8],
-    inputs: &[u8],
-    outputs: &[u8],
-    measurements: &[u8],
-    angled: bool,
-    angles: &[u8],
-) -> Result<(), Refusal>
-    ensures { passed result ≡ lists_ask (given n mode edges.now inputs.now outputs.now measurements.now (some_if angled angles.now)) }
+#[tactic(auto, unfolding(crate::specs::JobLists::lists_ask))]
+pub fn ask_lists(job: &JobLists<'_>) -> Result<(), Refusal>
+    ensures { passed result ≡ lists_ask (given_held job.now) }
 {
-    if !opening_allowed(n, mode) {
+    let n = job.n;
+    if !opening_allowed(n, job.mode) {
         return Err(Refusal::WrongOpening);
     }
-    if edges.len() % 2 != 0 {
+    if job.edges.len() % 2 != 0 {
         return Err(Refusal::WrongLength);
     }
-    if !below(edges, n) {
+    if !below(job.edges, n) || !below(job.inputs, n) || !below(job.outputs, n) {
         return Err(Refusal::NodeTooLarge);
     }
-    if !below(inputs, n) {
-        return Err(Refusal::NodeTooLarge);
-    }
-    if !below(outputs, n) {
-        return Err(Refusal::NodeTooLarge);
-    }
-    let set = set_of(outputs);
-    ask_measurements(measurements, n, mode as u8, outputs, set.count())?;
-    ask_given(angled, angles, n, mode, set)
+    let outputs = Outputs {
+        n,
+        nodes: job.outputs,
+        distinct: set_of(job.outputs).count(),
+    };
+    let mode = mode_of(job.mode as u8);
+    Measurements { mode, outputs }.ask(job.measurements)?;
+    ask_given(job.angles, mode, &outputs)
 }

@@ -1,13 +1,10 @@
 // The call that an entry asks for, by its role, on the buffers that it lends.
-ghost use Rattle.std.specs.Prelude.{◌≤◌};
+ghost use Rattle.std.specs.Prelude.{◌<◌};
 
-use crate::entry::{
-    ADD, EDIT, FIND, READ_OUT, VERIFY, WRITE, WRITE_ANGLES, byte, out_len, role, two_bytes,
-    work_len,
-};
+use crate::entry::{Call, Entry, two_bytes};
 use capi::{
-    bolz_add_signals, bolz_edit_set, bolz_find, bolz_read_angles, bolz_verify, bolz_write_job,
-    bolz_write_job_angles,
+    bolz_add_signals, bolz_edit_set, bolz_find, bolz_read_angles, bolz_solve, bolz_verify,
+    bolz_write_job, bolz_write_job_angles,
 };
 
 // n and mode, eight bytes each, and the lengths of the four lists, two bytes each, stand before the lists; behind them the angles, where they
@@ -17,47 +14,37 @@ const LISTS_HEAD_BYTES: usize = 24;
 // The length of a lent entry, two bytes, stands before it.
 const LENT_HEAD_BYTES: usize = 2;
 
-// Where there is no such call, or the query has not its parts: no call answers so.
-const NO_CALL: u64 = 18446744073709551615;
+// Rows, columns, right sides and the right side that is asked for, two bytes each, stand before the matrix.
+const SHAPE_BYTES: usize = 8;
 
-fn four_bytes(a: u8, b: u8, c: u8, d: u8) -> usize
-    ensures { result ≤ 4294967295 }
-{
-    two_bytes(a, b) + 65536 * two_bytes(c, d)
-}
-
-// A number of any size: eight bytes, lowest first.
-fn eight_bytes(bytes: &[u8]) -> usize {
-    four_bytes(
-        byte(bytes, 0),
-        byte(bytes, 1),
-        byte(bytes, 2),
-        byte(bytes, 3),
-    ) + 4294967296
-        * four_bytes(
-            byte(bytes, 4),
-            byte(bytes, 5),
-            byte(bytes, 6),
-            byte(bytes, 7),
-        )
-}
-
-// The call with angles, or without.
-fn write_job(
-    role: u64,
+// What a job is written from, and the bytes behind the lists.
+#[derive(Clone, Copy)]
+struct Lists<'a> {
     n: usize,
     mode: usize,
-    edges: &[u8],
-    inputs: &[u8],
-    outputs: &[u8],
-    measurements: &[u8],
-    angled: bool,
-    angles: &[u8],
-    out: &mut [u8],
-) -> u64 {
-    if angled {
-        return bolz_write_job_angles(
-            role,
+    edges: &'a [u8],
+    inputs: &'a [u8],
+    outputs: &'a [u8],
+    measurements: &'a [u8],
+    angles: &'a [u8],
+}
+
+// A number of any size, lowest byte first, and the bytes behind it.
+fn split_number(bytes: &[u8]) -> Option<(usize, &[u8])> {
+    let (&number, rest) = bytes.split_first_chunk::<8>()?;
+    Some((usize::from_le_bytes(number), rest))
+}
+
+impl<'a> Lists<'a> {
+    fn read(query: &'a [u8]) -> Option<Lists<'a>> {
+        let (head, lists) = query.split_at_checked(LISTS_HEAD_BYTES)?;
+        let (n, rest) = split_number(head)?;
+        let (mode, _) = split_number(rest)?;
+        let (edges, rest) = lists.split_at_checked(two_bytes(head, 16))?;
+        let (inputs, rest) = rest.split_at_checked(two_bytes(head, 18))?;
+        let (outputs, rest) = rest.split_at_checked(two_bytes(head, 20))?;
+        let (measurements, angles) = rest.split_at_checked(two_bytes(head, 22))?;
+        Some(Lists {
             n,
             mode,
             edges,
@@ -65,77 +52,94 @@ fn write_job(
             outputs,
             measurements,
             angles,
-            out,
-        );
+        })
     }
-    bolz_write_job(role, n, mode, edges, inputs, outputs, measurements, out)
-}
 
-// The file of the lists, with angles or without.
-fn write(role: u64, angled: bool, query: &[u8], out: &mut [u8]) -> u64 {
-    let len = query.len();
-    if len < LISTS_HEAD_BYTES {
-        return NO_CALL;
+    // The file of the lists, where nothing stands behind them.
+    fn write(&self, role: u64, out: &mut [u8]) -> Option<u64> {
+        if !self.angles.is_empty() {
+            return None;
+        }
+        Some(bolz_write_job(
+            role,
+            self.n,
+            self.mode,
+            self.edges,
+            self.inputs,
+            self.outputs,
+            self.measurements,
+            out,
+        ))
     }
-    let inputs = LISTS_HEAD_BYTES + two_bytes(query[16], query[17]);
-    let outputs = inputs + two_bytes(query[18], query[19]);
-    let measurements = outputs + two_bytes(query[20], query[21]);
-    let end = measurements + two_bytes(query[22], query[23]);
-    if end > len || !angled && end < len {
-        return NO_CALL;
+
+    // The file of the lists with angles.
+    fn write_angles(&self, role: u64, out: &mut [u8]) -> u64 {
+        bolz_write_job_angles(
+            role,
+            self.n,
+            self.mode,
+            self.edges,
+            self.inputs,
+            self.outputs,
+            self.measurements,
+            self.angles,
+            out,
+        )
     }
-    write_job(
-        role,
-        eight_bytes(&query[0..8]),
-        eight_bytes(&query[8..16]),
-        &query[LISTS_HEAD_BYTES..inputs],
-        &query[inputs..outputs],
-        &query[outputs..measurements],
-        &query[measurements..end],
-        angled,
-        &query[end..len],
-        out,
-    )
 }
 
 // The flow file with the lent entry.
-fn edit(role: u64, query: &[u8], out: &mut [u8]) -> u64 {
-    let len = query.len();
-    if len < LENT_HEAD_BYTES {
-        return NO_CALL;
-    }
-    let file = LENT_HEAD_BYTES + two_bytes(query[0], query[1]);
-    if file > len {
-        return NO_CALL;
-    }
-    bolz_edit_set(role, &query[file..len], &query[LENT_HEAD_BYTES..file], out)
+fn edit(role: u64, query: &[u8], out: &mut [u8]) -> Option<u64> {
+    let (head, rest) = query.split_at_checked(LENT_HEAD_BYTES)?;
+    let (lent, file) = rest.split_at_checked(two_bytes(head, 0))?;
+    Some(bolz_edit_set(role, file, lent, out))
 }
 
-fn call(kind: u8, role: u64, query: &[u8], work: &mut [u8], out: &mut [u8]) -> u64 {
-    match kind {
-        FIND => bolz_find(role, query, work, out),
-        VERIFY => bolz_verify(role, query, out),
-        ADD => bolz_add_signals(role, query, out),
-        EDIT => edit(role, query, out),
-        READ_OUT => bolz_read_angles(role, query, out),
-        WRITE => write(role, false, query, out),
-        WRITE_ANGLES => write(role, true, query, out),
-        _ => NO_CALL,
+// What the call answers, or nothing where the query has not its parts, or a buffer is too short. The call lends as much of either buffer as the
+// entry says.
+pub(crate) fn ask(
+    call: Call,
+    entry: &Entry<'_>,
+    query: &[u8],
+    works: &mut [u8],
+    outs: &mut [u8],
+) -> Option<u64> {
+    let role = entry.role;
+    let work = works.get_mut(..entry.work_len)?;
+    let out = outs.get_mut(..entry.out_len)?;
+    match call {
+        Call::Find => Some(bolz_find(role, query, work, out)),
+        Call::Verify => Some(bolz_verify(role, query, out)),
+        Call::Add => Some(bolz_add_signals(role, query, out)),
+        Call::Edit => edit(role, query, out),
+        Call::ReadOut => Some(bolz_read_angles(role, query, out)),
+        Call::Write => Lists::read(query)?.write(role, out),
+        Call::WriteAngles => Some(Lists::read(query)?.write_angles(role, out)),
     }
 }
 
-// The call lends as much of either buffer as the head says.
-pub(crate) fn ask(kind: u8, head: &[u8], query: &[u8], works: &mut [u8], outs: &mut [u8]) -> u64 {
-    let work_len = work_len(head);
-    let out_len = out_len(head);
-    if work_len > works.len() || out_len > outs.len() {
-        return NO_CALL;
+// A size of the shape; the largest stands for one that two bytes cannot hold, and that adding one to it would wrap.
+fn size(shape: &[u8], at: usize) -> usize
+    requires { at < 65536 }
+{
+    match two_bytes(shape, at) {
+        65535 => usize::MAX,
+        itself => itself,
     }
-    call(
-        kind,
-        role(head),
-        query,
-        &mut works[0..work_len],
-        &mut outs[0..out_len],
-    )
+}
+
+// What the solver answers, its matrix and its out bits in the buffers; nothing where the entry has not its parts, or a buffer is too short.
+pub(crate) fn solve(entry: &Entry<'_>, works: &mut [u8], outs: &mut [u8]) -> Option<u64> {
+    let (shape, given) = entry.query.split_at_checked(SHAPE_BYTES)?;
+    let matrix = works.get_mut(..given.len())?;
+    let bits = outs.get_mut(..entry.out_len)?;
+    matrix.copy_from_slice(given);
+    Some(bolz_solve(
+        matrix,
+        bits,
+        size(shape, 0),
+        size(shape, 2),
+        size(shape, 4),
+        size(shape, 6),
+    ))
 }

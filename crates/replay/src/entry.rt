@@ -1,93 +1,135 @@
 // An entry: a head of sixteen bytes, then its name, the query and the result. The head: kind, role, number, a, and lowest byte first, two
 // bytes each, b and the lengths of work buffer, result buffer, name, query and result. An answer has number 0; most entries have no name.
-ghost use Rattle.std.specs.Prelude.{◌≤◌};
+ghost use Rattle.std.specs.Prelude.{◌<◌, ◌≤◌};
+
+use records::common::byte_at;
 
 pub(crate) const HEAD_BYTES: usize = 16;
 
-// The kinds: a call each, and three that are none.
-pub(crate) const FIND: u8 = 102; // f
+// No entry is longer: its head, and a name, a query and a result of 65,535 bytes each.
+pub(crate) const MOST_ENTRY: usize = 196621;
 
-pub(crate) const VERIFY: u8 = 118; // v
+// A call through the library's entries for C.
+#[derive(Clone, Copy)]
+pub(crate) enum Call {
+    Find,
+    Verify,
+    Add,
+    Edit,
+    ReadOut,
+    Write,
+    WriteAngles,
+}
 
-pub(crate) const SOLVE: u8 = 115; // s
+// What an entry is: a call, and four that are more or none.
+#[derive(Clone, Copy)]
+pub(crate) enum Kind {
+    Call(Call),
+    // The solver, which has no role.
+    Solve,
+    // The original's verdict. Its choice between 18 and 19 varies, and its nodes do: 18 is stored for either.
+    Original,
+    // One call of two queries that it may not tell apart.
+    Twins,
+    // One call of two queries to which it must answer differently.
+    Apart,
+}
 
-pub(crate) const WRITE: u8 = 119; // w
+// A letter that stands for nothing here.
+#[derive(Clone, Copy)]
+pub(crate) struct UnknownLetter;
 
-pub(crate) const WRITE_ANGLES: u8 = 87; // W
+impl TryFrom<u8> for Call {
+    type Error = UnknownLetter;
 
-pub(crate) const READ_OUT: u8 = 111; // o
-
-pub(crate) const ADD: u8 = 97; // a
-
-pub(crate) const EDIT: u8 = 101; // e
-
-// r: the original's verdict. Its choice between 18 and 19 varies, and its nodes do: 18 is stored for either.
-pub(crate) const ORIGINAL: u8 = 114;
-
-// t: one call of two queries that it may not tell apart.
-pub(crate) const TWINS: u8 = 116;
-
-// d: one call of two queries to which it must answer differently.
-pub(crate) const APART: u8 = 100;
-
-// All 64 bits of a role, and the roles of one bit that no byte can hold.
-const ALL_BITS: u64 = 18446744073709551615;
-
-const BIT_63: u64 = 9223372036854775808;
-
-const BIT_32: u64 = 4294967296;
-
-const BIT_16: u64 = 65536;
-
-const BIT_8: u64 = 256;
-
-pub(crate) fn byte(bytes: &[u8], at: usize) -> u8 {
-    if at < bytes.len() {
-        return bytes[at];
+    fn try_from(letter: u8) -> Result<Call, UnknownLetter> {
+        match letter {
+            b'f' => Ok(Call::Find),
+            b'v' => Ok(Call::Verify),
+            b'a' => Ok(Call::Add),
+            b'e' => Ok(Call::Edit),
+            b'o' => Ok(Call::ReadOut),
+            b'w' => Ok(Call::Write),
+            b'W' => Ok(Call::WriteAngles),
+            _ => Err(UnknownLetter),
+        }
     }
-    0
 }
 
-pub(crate) fn two_bytes(low: u8, high: u8) -> usize
-    ensures { result ≤ 65535 }
+impl TryFrom<u8> for Kind {
+    type Error = UnknownLetter;
+
+    fn try_from(letter: u8) -> Result<Kind, UnknownLetter> {
+        match letter {
+            b's' => Ok(Kind::Solve),
+            b'r' => Ok(Kind::Original),
+            b't' => Ok(Kind::Twins),
+            b'd' => Ok(Kind::Apart),
+            _ => Ok(Kind::Call(Call::try_from(letter)?)),
+        }
+    }
+}
+
+// What an entry holds. `stored` is the result: what the call left in its buffer.
+#[derive(Clone, Copy)]
+pub(crate) struct Entry<'a> {
+    pub(crate) kind: Option<Kind>,
+    pub(crate) role: u64,
+    pub(crate) number: u8,
+    pub(crate) a: u8,
+    pub(crate) b: u16,
+    pub(crate) work_len: usize,
+    pub(crate) out_len: usize,
+    pub(crate) name: &'a [u8],
+    pub(crate) query: &'a [u8],
+    pub(crate) stored: &'a [u8],
+}
+
+impl<'a> Entry<'a> {
+    // The entry at the front of the bytes, where all of it is there.
+    pub(crate) fn read(bytes: &'a [u8]) -> Option<Entry<'a>> {
+        let (head, rest) = bytes.split_first_chunk::<HEAD_BYTES>()?;
+        let (name, rest) = rest.split_at_checked(two_bytes(head, 10))?;
+        let (query, rest) = rest.split_at_checked(two_bytes(head, 12))?;
+        let (stored, _) = rest.split_at_checked(two_bytes(head, 14))?;
+        Some(Entry {
+            kind: Kind::try_from(head[0]).ok(),
+            role: role_of(head[1]),
+            number: head[2],
+            a: head[3],
+            b: u16::from_le_bytes([head[4], head[5]]),
+            work_len: two_bytes(head, 6),
+            out_len: two_bytes(head, 8),
+            name,
+            query,
+            stored,
+        })
+    }
+}
+
+// The bytes behind a head that is all there.
+pub(crate) fn behind(head: &[u8]) -> usize
+    ensures { result ≤ 196605 }
 {
-    low as usize + 256 * (high as usize)
-}
-
-pub(crate) fn kind(head: &[u8]) -> u8 {
-    byte(head, 0)
+    two_bytes(head, 10) + two_bytes(head, 12) + two_bytes(head, 14)
 }
 
 // The role of the caller, one byte: 8, 16, 32 and 63 stand for the role that has only this bit, 255 for the largest number; any other for itself.
-pub(crate) fn role(head: &[u8]) -> u64 {
-    match byte(head, 1) {
-        255 => ALL_BITS,
-        63 => BIT_63,
-        32 => BIT_32,
-        16 => BIT_16,
-        8 => BIT_8,
-        itself => itself as u64,
+fn role_of(byte: u8) -> u64 {
+    match byte {
+        255 => u64::MAX,
+        63 => 1 << 63,
+        32 => 1 << 32,
+        16 => 1 << 16,
+        8 => 1 << 8,
+        itself => u64::from(itself),
     }
 }
 
-pub(crate) fn number(head: &[u8]) -> u8 {
-    byte(head, 2)
-}
-
-pub(crate) fn a(head: &[u8]) -> u8 {
-    byte(head, 3)
-}
-
-pub(crate) fn b(head: &[u8]) -> usize
+// The number in the two bytes from this place on; bytes that are missing count as 0.
+pub(crate) fn two_bytes(bytes: &[u8], at: usize) -> usize
+    requires { at < 65536 }
     ensures { result ≤ 65535 }
 {
-    two_bytes(byte(head, 4), byte(head, 5))
-}
-
-pub(crate) fn work_len(head: &[u8]) -> usize {
-    two_bytes(byte(head, 6), byte(head, 7))
-}
-
-pub(crate) fn out_len(head: &[u8]) -> usize {
-    two_bytes(byte(head, 8), byte(head, 9))
+    usize::from(u16::from_le_bytes([byte_at(bytes, at), byte_at(bytes, at + 1)]))
 }

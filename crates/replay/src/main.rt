@@ -12,12 +12,9 @@ mod run; // run.rt: what the call answers and leaves, compared
 
 ghost use Rattle.std.specs.Prelude.{◌≤◌, length};
 
-use entry::{APART, HEAD_BYTES, TWINS, kind, number, two_bytes};
+use entry::{Entry, HEAD_BYTES, Kind, MOST_ENTRY, behind};
 use run::as_stored;
 use std::io::{Read, Stdin, Stdout};
-
-// No entry is longer: its head, and a name, a query and a result of 65,535 bytes each.
-const MOST_ENTRY: usize = 196621;
 
 // No more entries are read.
 const MOST_ENTRIES: u64 = 1048576;
@@ -25,93 +22,70 @@ const MOST_ENTRIES: u64 = 1048576;
 // The numbers of all questions, and 0 for an answer.
 const NUMBERS: usize = 25;
 
-// Behind them are counted the twins, and the pairs that are told apart.
-const TWINS_AT: usize = 25;
+// How many entries were as stored: of each number, twins, and pairs that are told apart.
+#[derive(Clone, Copy)]
+struct Tally {
+    numbers: [u64; NUMBERS],
+    twins: u64,
+    apart: u64,
+}
 
-const APART_AT: usize = 26;
+impl Tally {
+    fn new() -> Tally {
+        Tally {
+            numbers: [0; NUMBERS],
+            twins: 0,
+            apart: 0,
+        }
+    }
 
-const COUNTS: usize = 27;
+    // One more. No entry is as stored whose number is past the last.
+    fn count(&mut self, entry: &Entry<'_>) {
+        match entry.kind {
+            Some(Kind::Twins) => self.twins = self.twins.saturating_add(1),
+            Some(Kind::Apart) => self.apart = self.apart.saturating_add(1),
+            _ => {
+                if let Some(count) = self.numbers.get_mut(usize::from(entry.number)) {
+                    *count = count.saturating_add(1);
+                }
+            }
+        }
+    }
+}
 
 // A write that fails is not told: what is missing on standard output is not as stored.
-fn print(out: Stdout, words: &[u8]) {
-    let _ = out.write_all(words);
-}
 
-fn print_count(out: Stdout, words: &[u8], count: u64) {
-    print(out, words);
-    let _ = out.print(count);
-}
-
-// How many entries of each number were as stored; 0 is the number of an answer.
-fn tell_equal(out: Stdout, equal: &[u64]) {
-    let mut i = 0;
-    while i < equal.len() {
-        print_count(out, b"number ", i as u64);
-        print_count(out, b": ", equal[i]);
-        print(out, b" as stored\n");
-        i += 1;
+fn print_tally(out: Stdout, tally: &Tally, entries: u64) {
+    for (number, count) in tally.numbers.iter().enumerate() {
+        let _ = print!(out; "number {number}: {count} as stored\n");
     }
+    let _ = print!(out; "twins: {} as stored\n", tally.twins);
+    let _ = print!(out; "pairs told apart: {} as stored\n", tally.apart);
+    let _ = print!(out; "entries: {entries}\n");
 }
 
-// Where an entry is counted.
-fn place(head: &[u8]) -> usize {
-    match kind(head) {
-        TWINS => TWINS_AT,
-        APART => APART_AT,
-        _ => number(head) as usize,
-    }
-}
-
-// One more, where the table has the place.
-fn count(equal: &mut [u64], i: usize) {
-    if i >= equal.len() {
-        return;
-    }
-    if equal[i] < MOST_ENTRIES {
-        equal[i] += 1;
-    }
-}
-
-// An entry with a name is told in any case, another where it is different.
-fn tell(out: Stdout, name: &[u8], entry: u64, same: bool) {
-    if name.len() > 0 {
-        print(out, name);
+// An entry with a name is told in any case, another by its place among all where it is different.
+fn print_entry(out: Stdout, name: &[u8], place: u64, same: bool) {
+    let words = if same {
+        "as the documents say"
+    } else {
+        "DIFFERENT"
+    };
+    if !name.is_empty() {
+        let _ = out.write_all(name);
+        let _ = print!(out; ": {words}\n");
     } else if !same {
-        print_count(out, b"entry ", entry);
-    }
-    if !same {
-        print(out, b": DIFFERENT\n");
-    } else if name.len() > 0 {
-        print(out, b": as the documents say\n");
+        let _ = print!(out; "entry {place}: {words}\n");
     }
 }
 
-// One entry, its number among all; is it whole?
-fn replay_one(out: Stdout, bytes: &[u8], entry: u64, equal: &mut [u64]) -> bool {
-    let len = bytes.len();
-    if len < HEAD_BYTES {
-        return false;
-    }
-    let name = HEAD_BYTES + two_bytes(bytes[10], bytes[11]);
-    let query = name + two_bytes(bytes[12], bytes[13]);
-    let end = query + two_bytes(bytes[14], bytes[15]);
-    if end > len {
-        return false;
-    }
-    let head = &bytes[0..HEAD_BYTES];
-    let same = as_stored(head, &bytes[name..query], &bytes[query..end]);
-    tell(out, &bytes[HEAD_BYTES..name], entry, same);
-    if same {
-        count(equal, place(head));
-    }
-    true
-}
-
-// Standard input until the buffer is full, or to its end, or to a read that fails; how many bytes are there.
+// Standard input until the buffer is full, or to its end, or to a read that fails; how many bytes are there. An entry that a failed read cuts is
+// told as cut off, so that what came before counts, where `read_input` of crate streams gives the error.
 fn read_full(mut stdin: Stdin, bytes: &mut [u8]) -> usize
     ensures { result ≤ length bytes.new }
 {
     let mut done = 0;
+    // No `for`: only a read of no bytes tells that a stream has ended.
     while done < bytes.len() {
         match stdin.read(&mut bytes[done..]) {
             Ok(0) | Err(_) => {
@@ -126,60 +100,42 @@ fn read_full(mut stdin: Stdin, bytes: &mut [u8]) -> usize
 }
 
 // The next entry goes to the front of the buffer; the answer is how many of its bytes are there, 0 where the input has ended.
-fn next_entry(stdin: Stdin, bytes: &mut [u8]) -> usize
-    ensures { result ≤ length bytes.new }
+fn read_entry(stdin: Stdin, bytes: &mut [u8; MOST_ENTRY]) -> usize
+    ensures { result ≤ 196621 }
 {
-    let len = bytes.len();
-    if len < HEAD_BYTES {
-        return 0;
-    }
-    let got = read_full(stdin, &mut bytes[0..HEAD_BYTES]);
+    let got = read_full(stdin, &mut bytes[..HEAD_BYTES]);
     if got < HEAD_BYTES {
         return got;
     }
-    let end = HEAD_BYTES
-        + two_bytes(bytes[10], bytes[11])
-        + two_bytes(bytes[12], bytes[13])
-        + two_bytes(bytes[14], bytes[15]);
-    if end > len {
-        return 0;
-    }
+    let end = HEAD_BYTES + behind(&bytes[..HEAD_BYTES]);
     HEAD_BYTES + read_full(stdin, &mut bytes[HEAD_BYTES..end])
 }
 
-// The next entry; was there a whole one?
-fn replay_next(stdin: Stdin, out: Stdout, bytes: &mut [u8], entry: u64, equal: &mut [u64]) -> bool {
-    let len = next_entry(stdin, bytes);
-    if len == 0 {
-        return false;
-    }
-    let whole = replay_one(out, &bytes[0..len], entry, equal);
-    if !whole {
-        print(out, b"an entry is cut off\n");
-    }
-    whole
-}
-
 // All entries in turn; the answer is how many there are.
-fn replay_all(stdin: Stdin, out: Stdout, bytes: &mut [u8], equal: &mut [u64]) -> u64 {
-    let mut entries = 0;
-    while entries < MOST_ENTRIES {
-        if !replay_next(stdin, out, bytes, entries, equal) {
-            return entries;
+fn replay(stdin: Stdin, out: Stdout, tally: &mut Tally) -> u64 {
+    // Fixed memory: an entry is compared, or cut off, whatever the allocator says.
+    let mut bytes = [0u8; MOST_ENTRY];
+    for place in 0..MOST_ENTRIES {
+        let len = read_entry(stdin, &mut bytes);
+        if len == 0 {
+            return place;
         }
-        entries += 1;
+        let Some(entry) = Entry::read(&bytes[..len]) else {
+            let _ = print!(out; "an entry is cut off\n");
+            return place;
+        };
+        let same = as_stored(&entry);
+        print_entry(out, entry.name, place, same);
+        if same {
+            tally.count(&entry);
+        }
     }
-    entries
+    MOST_ENTRIES
 }
 
 fn main(rt: HostRuntime) {
     let out = rt.stdout();
-    let mut bytes = [0u8; MOST_ENTRY];
-    let mut equal = [0u64; COUNTS];
-    let entries = replay_all(rt.stdin(), out, &mut bytes, &mut equal);
-    tell_equal(out, &equal[0..NUMBERS]);
-    print_count(out, b"twins: ", equal[TWINS_AT]);
-    print_count(out, b" as stored\npairs told apart: ", equal[APART_AT]);
-    print_count(out, b" as stored\nentries: ", entries);
-    print(out, b"\n");
+    let mut tally = Tally::new();
+    let entries = replay(rt.stdin(), out, &mut tally);
+    print_tally(out, &tally, entries);
 }

@@ -1,13 +1,11 @@
 // The call of one entry on filled buffers: is its answer, and is each byte that it leaves, as stored?
-use crate::ask::ask;
-use crate::entry::{
-    APART, FIND, ORIGINAL, SOLVE, TWINS, VERIFY, a, b, byte, kind, number, out_len, two_bytes,
-    work_len,
-};
+use crate::ask::{ask, solve};
+use crate::entry::{Call, Entry, Kind, two_bytes};
 use crate::flow::{is_flow, same_flow};
-use capi::bolz_solve;
 use compare::holds;
+use records::common::byte_at;
 
+// Numbers of refusals as entries store them, where a refusal would have its nodes.
 const ORDER: u8 = 18;
 
 const PLANE: u64 = 19;
@@ -30,182 +28,131 @@ const MOST_OUT: usize = 21036;
 // Where a job has its number of nodes.
 const NODES_AT: usize = 6;
 
-// Rows, columns, right sides and the right side that is asked for, two bytes each, stand before the matrix.
+// What stands before the matrix.
 const SHAPE_BYTES: usize = 8;
 
 // The kind of a call, and the length of the first query in two bytes, stand before the two queries of a pair.
 const PAIR_HEAD_BYTES: usize = 3;
 
-// A size that two bytes cannot hold, and that adding one to it would wrap.
-const WRAPS: usize = 18446744073709551615;
+// The buffers of a call, and what they hold.
+#[derive(Clone, Copy, PartialEq, Eq)]
+struct Buffers {
+    works: [u8; MOST_WORK],
+    outs: [u8; MOST_OUT],
+}
+
+impl Buffers {
+    fn filled() -> Buffers {
+        Buffers {
+            works: [FILL; MOST_WORK],
+            outs: [FILL; MOST_OUT],
+        }
+    }
+
+    fn ask(&mut self, call: Call, entry: &Entry<'_>, query: &[u8]) -> Option<u64> {
+        ask(call, entry, query, &mut self.works, &mut self.outs)
+    }
+}
 
 // The answer that is stored: a count, or number, a and b.
-fn stored(head: &[u8], count: usize) -> u64 {
-    if number(head) == 0 {
+fn code_of(entry: &Entry<'_>, count: usize) -> u64 {
+    if entry.number == 0 {
         return count as u64;
     }
-    number(head) as u64 * NUMBER_UNIT + a(head) as u64 * A_UNIT + b(head) as u64
+    u64::from(entry.number) * NUMBER_UNIT + u64::from(entry.a) * A_UNIT + u64::from(entry.b)
 }
 
 // What the finder leaves in each byte of its work buffer.
 fn left_in_work(number: u8) -> u8 {
-    if number == 0 || number == RESULT_TOO_LONG {
-        return 0;
+    match number {
+        0 | RESULT_TOO_LONG => 0,
+        _ => FILL,
     }
-    FILL
 }
 
 // A flow that is stored is compared after reading, with the bytes behind it as they were; 0013 and what a refusal leaves as bytes.
-fn found_as_stored(got: u64, head: &[u8], query: &[u8], res: &[u8], outs: &[u8]) -> bool {
-    let n = byte(query, NODES_AT) as usize;
-    let len = outs.len();
-    if !is_flow(res, n) {
-        return got == stored(head, res.len()) && holds(outs, res, FILL);
+fn found_as_stored(got: u64, entry: &Entry<'_>, outs: &[u8]) -> bool {
+    let n = usize::from(byte_at(entry.query, NODES_AT));
+    if !is_flow(entry.stored, n) {
+        return got == code_of(entry, entry.stored.len()) && holds(outs, entry.stored, FILL);
     }
-    if got > len as u64 {
+    let Ok(count) = usize::try_from(got) else {
         return false;
-    }
-    let count = got as usize;
-    same_flow(&outs[0..count], res, n) && holds(&outs[count..len], b"", FILL)
+    };
+    let Some((file, behind)) = outs.split_at_checked(count) else {
+        return false;
+    };
+    same_flow(file, entry.stored, n) && holds(behind, b"", FILL)
 }
 
-fn find_as_stored(
-    head: &[u8],
-    query: &[u8],
-    res: &[u8],
-    works: &mut [u8],
-    outs: &mut [u8],
-) -> bool {
-    let work_len = work_len(head);
-    let most = works.len();
-    if work_len > most {
+fn find_as_stored(entry: &Entry<'_>, buffers: &mut Buffers) -> bool {
+    let Some(got) = buffers.ask(Call::Find, entry, entry.query) else {
         return false;
-    }
-    let got = ask(FIND, head, query, works, outs);
-    found_as_stored(got, head, query, res, outs)
-        && holds(&works[0..work_len], b"", left_in_work(number(head)))
-        && holds(&works[work_len..most], b"", FILL)
+    };
+    let Some((lent, rest)) = buffers.works.split_at_checked(entry.work_len) else {
+        return false;
+    };
+    found_as_stored(got, entry, &buffers.outs)
+        && holds(lent, b"", left_in_work(entry.number))
+        && holds(rest, b"", FILL)
 }
 
 // 0014, a flow file, a job file or the record of angles; or a refusal.
-fn call_as_stored(
-    head: &[u8],
-    query: &[u8],
-    res: &[u8],
-    works: &mut [u8],
-    outs: &mut [u8],
-) -> bool {
-    let got = ask(kind(head), head, query, works, outs);
-    got == stored(head, res.len()) && holds(outs, res, FILL)
+fn call_as_stored(call: Call, entry: &Entry<'_>, buffers: &mut Buffers) -> bool {
+    let got = buffers.ask(call, entry, entry.query);
+    got == Some(code_of(entry, entry.stored.len())) && holds(&buffers.outs, entry.stored, FILL)
 }
 
 // Accepted by both, or refused by both: by the same number from 13 to 17.
-fn verdict_as_stored(head: &[u8], query: &[u8], works: &mut [u8], outs: &mut [u8]) -> bool {
-    let got = ask(VERIFY, head, query, works, outs) / NUMBER_UNIT;
-    got == number(head) as u64 || got == PLANE && number(head) == ORDER
-}
-
-// One call of two queries, each on buffers of its own that are filled alike. Number and a are the numbers of the two answers; what both are answered, and
-// what they leave in every byte, is the same for twins, and else it is not.
-fn pair_as_stored(head: &[u8], query: &[u8], works: &mut [u8], outs: &mut [u8]) -> bool {
-    let len = query.len();
-    if len < PAIR_HEAD_BYTES {
+fn verdict_as_stored(entry: &Entry<'_>, buffers: &mut Buffers) -> bool {
+    let Some(got) = buffers.ask(Call::Verify, entry, entry.query) else {
         return false;
-    }
-    let second = PAIR_HEAD_BYTES + two_bytes(query[1], query[2]);
-    if second > len {
-        return false;
-    }
-    let mut other_works = [FILL; MOST_WORK];
-    let mut other_outs = [FILL; MOST_OUT];
-    let call = query[0];
-    let got = ask(call, head, &query[PAIR_HEAD_BYTES..second], works, outs);
-    let other = ask(
-        call,
-        head,
-        &query[second..len],
-        &mut other_works,
-        &mut other_outs,
-    );
-    if got / NUMBER_UNIT != number(head) as u64 || other / NUMBER_UNIT != a(head) as u64 {
-        return false;
-    }
-    let alike = got == other && holds(works, &other_works, FILL) && holds(outs, &other_outs, FILL);
-    if kind(head) == TWINS {
-        return alike;
-    }
-    !alike
+    };
+    let number = got / NUMBER_UNIT;
+    number == u64::from(entry.number) || number == PLANE && entry.number == ORDER
 }
 
-fn copy(from: &[u8], to: &mut [u8]) {
-    let mut i = 0;
-    while i < from.len() {
-        if i >= to.len() {
-            return;
-        }
-        to[i] = from[i];
-        i += 1;
+// One call of two queries, each on buffers of its own that are filled alike: is what both are answered, and what they leave in every byte, the
+// same? Number and a are the numbers of the two answers; where these are others, there is nothing to say.
+fn answered_alike(entry: &Entry<'_>, buffers: &mut Buffers) -> Option<bool> {
+    let (head, queries) = entry.query.split_at_checked(PAIR_HEAD_BYTES)?;
+    let (query, other_query) = queries.split_at_checked(two_bytes(head, 1))?;
+    let call = Call::try_from(byte_at(head, 0)).ok()?;
+    let mut others = Buffers::filled();
+    let got = buffers.ask(call, entry, query)?;
+    let other = others.ask(call, entry, other_query)?;
+    if got / NUMBER_UNIT != u64::from(entry.number) || other / NUMBER_UNIT != u64::from(entry.a) {
+        return None;
     }
-}
-
-// The solver answers 1 where there are out bits to write.
-fn solvable(res: &[u8]) -> usize {
-    if res.len() == 0 {
-        return 0;
-    }
-    1
-}
-
-// A size of the shape; the largest stands for one that wraps.
-fn size(shape: &[u8], low: usize, high: usize) -> usize {
-    let x = two_bytes(byte(shape, low), byte(shape, high));
-    if x == 65535 {
-        return WRAPS;
-    }
-    x
+    Some(got == other && *buffers == others)
 }
 
 // Solvable with the stored out bits; or, where none are stored, not solvable or refused, with the out bits as they were and,
-// refused, the matrix too.
-fn solve_as_stored(
-    head: &[u8],
-    query: &[u8],
-    res: &[u8],
-    matrix: &mut [u8],
-    bits: &mut [u8],
-) -> bool {
-    let len = query.len();
-    let out_len = out_len(head);
-    if len < SHAPE_BYTES || out_len > bits.len() {
-        return false;
-    }
-    let given = &query[SHAPE_BYTES..len];
-    let end = given.len();
-    if end > matrix.len() {
-        return false;
-    }
-    copy(given, matrix);
-    let got = bolz_solve(
-        &mut matrix[0..end],
-        &mut bits[0..out_len],
-        size(query, 0, 1),
-        size(query, 2, 3),
-        size(query, 4, 5),
-        size(query, 6, 7),
-    );
-    got == stored(head, solvable(res))
-        && holds(bits, res, FILL)
-        && (number(head) == 0 || holds(matrix, given, FILL))
+// refused, the matrix too. The solver answers 1 where there are out bits to write.
+fn solve_as_stored(entry: &Entry<'_>, buffers: &mut Buffers) -> bool {
+    let got = solve(entry, &mut buffers.works, &mut buffers.outs);
+    let solvable = usize::from(!entry.stored.is_empty());
+    got == Some(code_of(entry, solvable))
+        && holds(&buffers.outs, entry.stored, FILL)
+        && (entry.number == 0 || holds(&buffers.works, matrix_of(entry), FILL))
 }
 
-pub(crate) fn as_stored(head: &[u8], query: &[u8], res: &[u8]) -> bool {
-    let mut works = [FILL; MOST_WORK];
-    let mut outs = [FILL; MOST_OUT];
-    match kind(head) {
-        FIND => find_as_stored(head, query, res, &mut works, &mut outs),
-        SOLVE => solve_as_stored(head, query, res, &mut works, &mut outs),
-        ORIGINAL => verdict_as_stored(head, query, &mut works, &mut outs),
-        TWINS | APART => pair_as_stored(head, query, &mut works, &mut outs),
-        _ => call_as_stored(head, query, res, &mut works, &mut outs),
+fn matrix_of<'a>(entry: &Entry<'a>) -> &'a [u8] {
+    match entry.query.split_at_checked(SHAPE_BYTES) {
+        Some((_, matrix)) => matrix,
+        None => &[],
+    }
+}
+
+pub(crate) fn as_stored(entry: &Entry<'_>) -> bool {
+    let mut buffers = Buffers::filled();
+    match entry.kind {
+        Some(Kind::Call(Call::Find)) => find_as_stored(entry, &mut buffers),
+        Some(Kind::Call(call)) => call_as_stored(call, entry, &mut buffers),
+        Some(Kind::Solve) => solve_as_stored(entry, &mut buffers),
+        Some(Kind::Original) => verdict_as_stored(entry, &mut buffers),
+        Some(Kind::Twins) => answered_alike(entry, &mut buffers) == Some(true),
+        Some(Kind::Apart) => answered_alike(entry, &mut buffers) == Some(false),
+        None => false,
     }
 }

@@ -1,4 +1,5 @@
-// The solver of equations mod 2: rows of bits, coefficient columns first and then the right sides.
+// The solver of equations mod 2: rows of bits, coefficient columns first and then the right sides. The matrix and the out bits are bytes
+// that a caller of `bolz_solve` lends, with the numbers of rows, columns and right sides beside them: the C interface.
 ghost use Rattle.std.specs.Prelude.{◌≡◌, ◌≢◌, true, ◌&&◌, ◌||◌, ◌+◌, ◌-◌, ◌*◌, ◌<◌, ◌≤◌, length, eqb, ltb};
 ghost use Rattle.answers.specs.Answer.{gives};
 ghost use Rattle.answers.specs.Refusals.{given};
@@ -13,16 +14,16 @@ ghost use Rattle.solver.specs.Solver.{row_bytes, most_columns, matrix_fits, both
 ghost use Rattle.solver.specs.Solver.{MatrixAfter, is_solvable, eliminate_call, outcome, read_off_call, solve_asks, solve_call};
 
 use answers::Refusal;
-use nodes::utils::{CAPACITY, NodeSet, mask};
+use nodes::utils::{CAPACITY, NodeSet, SET_WORDS, mask};
 
-// Each row, and the out bits, have a bit for each node, lowest bit first.
+/// Each row, and the out bits, have a bit for each node, lowest bit first.
 pub const ROW_BYTES: usize = CAPACITY / 8;
 
 const MOST_ROWS: usize = CAPACITY;
 
 const MOST_COLUMNS: usize = 8 * ROW_BYTES;
 
-// The bytes of a work matrix with all its rows.
+/// The bytes of a work matrix with all its rows.
 pub const WORK_BYTES: usize = MOST_ROWS * ROW_BYTES;
 
 #[derive(Clone, Copy, Debug, PartialEq, Eq)]
@@ -47,10 +48,8 @@ fn xor_row(matrix: &mut [u8], dst: usize, src: usize)
 {
     let d = dst * ROW_BYTES;
     let s = src * ROW_BYTES;
-    let mut j = 0;
-    while j < ROW_BYTES {
+    for j in 0..ROW_BYTES {
         matrix[d + j] ^= matrix[s + j];
-        j += 1;
     }
 }
 
@@ -59,14 +58,12 @@ fn find_pivot(matrix: &[u8], from: usize, rows: usize, col: usize) -> usize
     requires { (rows * row_bytes ≤ length matrix.now) × (from ≤ rows) × (col < most_columns) }
     ensures { result ≡ lowest_from from (rows - from) (λ i. entry_of row_bytes matrix.now i col) }
 {
-    let mut i = from;
-    while i < rows {
+    for i in from..rows {
         if has(matrix, i, col) {
             return i;
         }
-        i += 1;
     }
-    i
+    rows
 }
 
 // Row p is added to the row at the rank, which then has the pivot's bit; no rows change places.
@@ -98,10 +95,8 @@ fn clear_column(matrix: &mut [u8], rows: usize, pivot: usize, col: usize)
     requires { (rows * row_bytes ≤ length matrix.old) × (pivot < rows) × (col < most_columns) }
     ensures { matrix.new ≡ clear_column row_bytes matrix.old rows pivot col }
 {
-    let mut i = 0;
-    while i < rows {
+    for i in 0..rows {
         clear_one(matrix, i, pivot, col);
-        i += 1;
     }
 }
 
@@ -127,10 +122,8 @@ fn eliminate_columns(matrix: &mut [u8], rows: usize, cols: usize)
     ensures { matrix.new ≡ (eliminate_columns row_bytes matrix.old rows cols).rows }
 {
     let mut rank = 0;
-    let mut col = 0;
-    while col < cols {
+    for col in 0..cols {
         rank = eliminate_column(matrix, rows, col, rank);
-        col += 1;
     }
 }
 
@@ -140,8 +133,7 @@ fn lead(matrix: &[u8], row: usize, cols: usize) -> usize
     ensures { result ≡ lead (entry_of row_bytes matrix.now) cols row }
 {
     let start = row * ROW_BYTES;
-    let mut q = 0;
-    while q < ROW_BYTES {
+    for q in 0..ROW_BYTES {
         let byte = matrix[start + q];
         if byte != 0 {
             let k = 8 * q + u8::trailing_zeros(byte) as usize;
@@ -150,12 +142,16 @@ fn lead(matrix: &[u8], row: usize, cols: usize) -> usize
             }
             return cols;
         }
-        q += 1;
     }
     cols
 }
 
-fn add_pivot(pivots: NodeSet, matrix: &[u8], row: usize, cols: usize) -> NodeSet
+fn add_pivot(
+    pivots: NodeSet<SET_WORDS>,
+    matrix: &[u8],
+    row: usize,
+    cols: usize,
+) -> NodeSet<SET_WORDS>
     requires { (row * row_bytes + row_bytes ≤ length matrix.now) × (cols ≤ most_columns) }
     ensures { member result
         ≡ (λ k. member pivots k || (ltb k cols && eqb (lead (entry_of row_bytes matrix.now) cols row) k)) }
@@ -168,15 +164,13 @@ fn add_pivot(pivots: NodeSet, matrix: &[u8], row: usize, cols: usize) -> NodeSet
 }
 
 // The columns at which the rows of an eliminated matrix begin.
-fn pivot_columns(matrix: &[u8], rows: usize, cols: usize) -> NodeSet
+fn pivot_columns(matrix: &[u8], rows: usize, cols: usize) -> NodeSet<SET_WORDS>
     requires { (rows * row_bytes ≤ length matrix.now) × (cols ≤ most_columns) }
     ensures { member result ≡ leads rows cols (entry_of row_bytes matrix.now) (λ i. true) }
 {
     let mut pivots = NodeSet::empty();
-    let mut i = 0;
-    while i < rows {
+    for i in 0..rows {
         pivots = add_pivot(pivots, matrix, i, cols);
-        i += 1;
     }
     pivots
 }
@@ -197,25 +191,19 @@ fn no_solution(matrix: &[u8], rows: usize, cols: usize, asked: usize) -> bool
     requires { (rows * row_bytes ≤ length matrix.now) × (cols ≤ most_columns) × (asked < most_columns) }
     ensures { result ≡ no_solution row_bytes matrix.now rows cols asked }
 {
-    let mut i = 0;
-    while i < rows {
+    for i in 0..rows {
         if inconsistent_row(matrix, i, cols, asked) {
             return true;
         }
-        i += 1;
     }
     false
 }
 
-// Every byte becomes 0.
+/// Every byte becomes 0.
 pub fn clear(bytes: &mut [u8])
     ensures { bytes.new ≡ zeros (length bytes.old) }
 {
-    let mut i = 0;
-    while i < bytes.len() {
-        bytes[i] = 0;
-        i += 1;
-    }
+    bytes.fill(0);
 }
 
 fn set_bit(out: &mut [u8], k: usize)
@@ -249,10 +237,8 @@ fn put_leads(matrix: &[u8], out: &mut [u8], rows: usize, cols: usize, asked: usi
     ensures { out.new ≡ lead_bytes row_bytes matrix.now cols asked rows }
 {
     clear(out);
-    let mut i = 0;
-    while i < rows {
+    for i in 0..rows {
         put_lead(matrix, out, i, cols, asked);
-        i += 1;
     }
 }
 
@@ -277,14 +263,12 @@ fn row_within_width(matrix: &[u8], row: usize, width: usize) -> bool
     ensures { result ≡ row_within_width row_bytes matrix.now width row }
 {
     let start = row * ROW_BYTES;
-    let mut q = width / 8;
     let mut inside = width % 8;
-    while q < ROW_BYTES {
+    for q in width / 8..ROW_BYTES {
         if (matrix[start + q] >> (inside as u8)) != 0 {
             return false;
         }
         inside = 0;
-        q += 1;
     }
     true
 }
@@ -293,12 +277,10 @@ fn within_width(matrix: &[u8], rows: usize, width: usize) -> bool
     requires { (rows * row_bytes ≤ length matrix.now) × (width ≤ most_columns) }
     ensures { result ≡ within_width row_bytes matrix.now rows width }
 {
-    let mut i = 0;
-    while i < rows {
+    for i in 0..rows {
         if !row_within_width(matrix, i, width) {
             return false;
         }
-        i += 1;
     }
     true
 }
@@ -332,14 +314,14 @@ fn well_shaped(matrix: &[u8], out: &[u8], rows: usize, cols: usize, sides: usize
         && within_width(matrix, rows, cols + sides)
 }
 
-// The matrix is brought to reduced form by adding rows to each other; the answer is the set of its pivot columns.
+/// The matrix is brought to reduced form by adding rows to each other; the answer is the set of its pivot columns.
 #[tactic(auto, using(crate::proofs::Solver::fits_out, crate::proofs::Solver::is_eliminated), unfolding(crate::specs::Solver::eliminate_call))]
 pub fn eliminate(
     matrix: &mut [u8],
     rows: usize,
     cols: usize,
     sides: usize,
-) -> Result<NodeSet, Refusal>
+) -> Result<NodeSet<SET_WORDS>, Refusal>
     ensures result_value { given member result ≡ eliminate_call matrix.old rows cols sides }
     ensures matrix_after { MatrixAfter (eliminate_call matrix.old rows cols sides) rows cols sides
         matrix.old matrix.new }
@@ -351,7 +333,7 @@ pub fn eliminate(
     Ok(pivot_columns(matrix, rows, cols))
 }
 
-// What an eliminated matrix answers for one right side.
+/// What an eliminated matrix answers for one right side.
 #[tactic(auto, using(crate::proofs::Solver::fits_out, crate::proofs::Solver::both_fit_out), unfolding(crate::specs::Solver::read_off_asks))]
 pub fn read_off(
     matrix: &[u8],
@@ -373,7 +355,7 @@ pub fn read_off(
     Ok(answer(matrix, out, rows, cols, cols + side))
 }
 
-// Both questions are asked before anything is touched.
+/// Both questions are asked before anything is touched.
 pub fn solve_in_place(
     matrix: &mut [u8],
     out: &mut [u8],

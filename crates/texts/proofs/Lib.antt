@@ -9,6 +9,7 @@ pub mod ShownWords
 pub mod ShownLists
 pub mod Gathered
 pub mod ShowsBack
+pub mod Decimals
 pub mod Placed
 pub mod Showing
 pub mod Examples

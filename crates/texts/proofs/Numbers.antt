@@ -1,33 +1,43 @@
 -- Of specs/JobText: the numbers of a text as the buffer holds them, and the lists in them.
 use Prim.Native.Nat.{ℕ, zero, suc, ◌+◌, ◌-◌, ◌*◌, ◌≤◌, ◌<◌}
-use mathlib.Core.Path.{◌≡◌, refl, sym, ap, ◌∙◌}
-use mathlib.Core.List.{List, [], ◌∷◌, ◌++◌, append_assoc, append-nil}
+use mathlib.Core.Path.{◌≡◌, refl, sym, ap, ap₂, ◌∙◌}
+use mathlib.Core.List.{List, [], ◌∷◌, ◌++◌, append_assoc}
 use native.Mathlib.Nat.{not-suc-le-zero, le_of_suc-le-suc}
 use native.Mathlib.Omega.{arith}
-use borrow.Author.Tests.{lt-ltb, le-ltb, eq-eqb, ne_eqb}
-use lib.ListN.{length, get_or, set, take, drop, length-drop, drop_of_length-le}
-use lib.Seq.{sets, take-suc-set}
+use borrow.Author.Tests.{lt-ltb, le-ltb, eq-eqb}
+use lib.ListN.{length, get_or, get_or-eq_default, set, take, drop, drop_of_length-le}
 use Rattle.nodes.specs.Lists.{zeros}
-use Rattle.answers.specs.Answer.{gives, refuses, refusal, ◌>>=◌}
+use Rattle.answers.specs.Answer.{gives, ◌>>=◌}
 use Rattle.texts.specs.Words.{first_measurement, outputs_name}
 use Rattle.texts.specs.JobText.{behind, measured_one, measured}
-use Rattle.texts.proofs.Parting.{rest}
+use Rattle.std.proofs.lemmas.List.{drop_more}
+use Rattle.texts.specs.Views.{place_of, bytes_of}
+use Rattle.texts.proofs.Naming.{place_other}
+use Rattle.texts.specs.declared.names.Name.{Name}
 
--- ---- bytes put behind each other
-pub put_start : (more out : List ℕ) (at : ℕ) → sets out (at + 0) (drop 0 more) ≡ sets out at more
-put_start more out at = ap (λ (k : ℕ). sets out k more) (same at)
+-- ---- the numbers as bytes, each behind the place of its name
+pub bytes_long : (ps : List (Name × ℕ)) → length (bytes_of ps) ≡ 2 * length ps
+unfolding bytes_of
+bytes_long [] = refl
+bytes_long (p ∷ ps) = omega (arith, bytes_long ps)
+
+pub bytes_both : (ps qs : List (Name × ℕ)) → bytes_of (ps ++ qs) ≡ bytes_of ps ++ bytes_of qs
+unfolding bytes_of
+bytes_both [] qs = refl
+bytes_both (p ∷ ps) qs = ap (λ (l : List ℕ). place_of p.0 ∷ p.1 ∷ l) (bytes_both ps qs)
+
+pub number_here : (ps : List (Name × ℕ)) (i : ℕ) (d : Name × ℕ) → i < length ps → get_or (bytes_of ps) (2 * i + 1) 0 ≡ (get_or ps i d).1
+unfolding bytes_of
+number_here [] i d h = absurd (not-suc-le-zero h)
+number_here (p ∷ ps) zero d h = refl
+number_here (p ∷ ps) (suc i) d h =
+    ap (λ (k : ℕ). get_or (place_of p.0 ∷ p.1 ∷ bytes_of ps) k 0) (later i) ∙ number_here ps i d (le_of_suc-le-suc h)
   where
-    same : (at : ℕ) → at + 0 ≡ at
-    same at = omega arith
+    later : (i : ℕ) → 2 * suc i + 1 ≡ suc (suc (2 * i + 1))
+    later i = omega arith
 
-pub put_next : (more out : List ℕ) (at i : ℕ) → i < length more → sets (set out (at + i) (get_or more i 0)) (at + (i + 1)) (drop (i + 1) more) ≡ sets out (at + i) (drop i more)
-put_next more out at i h = ap (λ (k : ℕ). sets (set out (at + i) (get_or more i 0)) k (drop (i + 1) more)) (move at i) ∙ sym (ap (sets out (at + i)) (rest more i h))
-  where
-    move : (at i : ℕ) → at + (i + 1) ≡ suc (at + i)
-    move at i = omega arith
-
-pub put_done : (more out : List ℕ) (at i : ℕ) → length more ≤ i → sets out (at + i) (drop i more) ≡ out
-put_done more out at i h = ap (sets out (at + i)) (drop_of_length-le more {i = i} h)
+pub number_none : (ps : List (Name × ℕ)) (i : ℕ) → length ps ≤ i → get_or (bytes_of ps) (2 * i + 1) 0 ≡ 0
+number_none ps i h = get_or-eq_default (bytes_of ps) 0 (omega (arith, bytes_long ps))
 
 -- ---- one measured node
 module _ (name x : ℕ) (table : List ℕ) where
@@ -35,71 +45,46 @@ module _ (name x : ℕ) (table : List ℕ) where
   measured_not h = rw (lt-ltb name first_measurement h) refl
 
   module _ (m : first_measurement ≤ name) where
-    pub measured_large : length table ≤ x → refuses (refusal 5) ≡ measured_one name x table
-    measured_large h = rw (le-ltb name first_measurement m, le-ltb x (length table) h) refl
-
-    pub measured_twice : x < length table → (get_or table x 0 ≡ 0 → ⊥) → refuses (refusal 21) ≡ measured_one name x table
-    measured_twice h e = rw (le-ltb name first_measurement m, lt-ltb x (length table) h, ne_eqb (get_or table x 0) 0 e) refl
-
     pub measured_node : x < length table → get_or table x 0 ≡ 0 → gives (set table x (name - outputs_name)) ≡ measured_one name x table
     measured_node h e = rw (le-ltb name first_measurement m, lt-ltb x (length table) h, eq-eqb (get_or table x 0) 0 e) refl
 
--- ---- pair by pair
-pub pair_next : (ns : List ℕ) (i : ℕ) → 2 * i + 1 < length ns → drop (2 * i) ns ≡ get_or ns (2 * i) 0 ∷ get_or ns (2 * i + 1) 0 ∷ drop (2 * (i + 1)) ns
-pair_next ns i h =
-    rest ns (2 * i) (omega arith)
-    ∙ ap (λ (s : List ℕ). get_or ns (2 * i) 0 ∷ s) (rest ns (2 * i + 1) h)
-    ∙ ap (λ (k : ℕ). get_or ns (2 * i) 0 ∷ get_or ns (2 * i + 1) 0 ∷ drop k ns) (next i)
-  where
-    next : (i : ℕ) → 2 * i + 1 + 1 ≡ 2 * (i + 1)
-    next i = omega arith
+-- ---- number by number
+module _ (ps : List (Name × ℕ)) (i : ℕ) (d : Name × ℕ) (h : i < length ps) where
+  abbrev this : Name × ℕ
+  this = get_or ps i d
 
--- at the end no pair is left
-short_behind : (name : ℕ) (ns : List ℕ) → length ns < 2 → behind name ns ≡ []
-unfolding behind
-short_behind name [] h = refl
-short_behind name (k ∷ []) h = refl
-short_behind name (k ∷ x ∷ ns) h = absurd (none (length ns) h)
-  where
-    none : (n : ℕ) → suc (suc n) < 2 → ⊥
-    none n h = omega arith
+  left : drop i ps ≡ this ∷ drop (i + 1) ps
+  left = drop_more ps i d h
 
-short_measured : (ns table : List ℕ) → length ns < 2 → measured ns table ≡ gives table
-unfolding measured
-short_measured [] table h = refl
-short_measured (k ∷ []) table h = refl
-short_measured (k ∷ x ∷ ns) table h = absurd (none (length ns) h)
-  where
-    none : (n : ℕ) → suc (suc n) < 2 → ⊥
-    none n h = omega arith
+  pub measured_more : (table : List ℕ) → measured (bytes_of (drop i ps)) table ≡ (measured_one (place_of this.0) this.1 table >>= measured (bytes_of (drop (i + 1) ps)))
+  unfolding measured bytes_of
+  measured_more table = ap (λ (l : List (Name × ℕ)). measured (bytes_of l) table) left
 
-module _ (ns : List ℕ) (i : ℕ) where
-  pub behind_end : (name : ℕ) (taken : List ℕ) → length ns < 2 * i + 2 → taken ≡ taken ++ behind name (drop (2 * i) ns)
-  behind_end name taken h = sym (ap (λ (t : List ℕ). taken ++ t) (short_behind name (drop (2 * i) ns) (omega (arith, length-drop (2 * i) ns))) ∙ append-nil taken)
+  pub behind_this : (name : Name) → this.0 ≡ name → behind (place_of name) (bytes_of (drop i ps)) ≡ this.1 ∷ behind (place_of name) (bytes_of (drop (i + 1) ps))
+  unfolding behind bytes_of
+  behind_this name e = ap (λ (l : List (Name × ℕ)). behind (place_of name) (bytes_of l)) left ∙ rw (eq-eqb (place_of this.0) (place_of name) (ap place_of e)) refl
 
-  pub measured_end : (table : List ℕ) → length ns < 2 * i + 2 → measured (drop (2 * i) ns) table ≡ gives table
-  measured_end table h = short_measured (drop (2 * i) ns) table (omega (arith, length-drop (2 * i) ns))
+  pub behind_other : (name : Name) → (this.0 ≡ name → ⊥) → behind (place_of name) (bytes_of (drop i ps)) ≡ behind (place_of name) (bytes_of (drop (i + 1) ps))
+  unfolding behind bytes_of
+  behind_other name e = ap (λ (l : List (Name × ℕ)). behind (place_of name) (bytes_of l)) left ∙ rw (place_other this.0 name e) refl
 
-  module _ (h : 2 * i + 1 < length ns) where
-    pub measured_next : (table : List ℕ) → measured (drop (2 * i) ns) table ≡ (measured_one (get_or ns (2 * i) 0) (get_or ns (2 * i + 1) 0) table >>= measured (drop (2 * (i + 1)) ns))
-    unfolding measured
-    measured_next table = ap (λ (l : List ℕ). measured l table) (pair_next ns i h)
+  pub one_more : (values after : List ℕ) (name : Name) → this.0 ≡ name → after ≡ values ++ this.1 ∷ []
+      → after ++ behind (place_of name) (bytes_of (drop (i + 1) ps)) ≡ values ++ behind (place_of name) (bytes_of (drop i ps))
+  one_more values after name e f =
+      let rest = behind (place_of name) (bytes_of (drop (i + 1) ps)) in
+      ap (λ (l : List ℕ). l ++ rest) f ∙ append_assoc values (this.1 ∷ []) rest ∙ ap (λ (l : List ℕ). values ++ l) (sym (behind_this name e))
 
-    pub behind_this : (name k : ℕ) (out : List ℕ) → k < length out → get_or ns (2 * i) 0 ≡ name
-        → take (k + 1) (set out k (get_or ns (2 * i + 1) 0)) ++ behind name (drop (2 * (i + 1)) ns) ≡ take k out ++ behind name (drop (2 * i) ns)
-    unfolding behind
-    behind_this name k out l e =
-        ap (λ (j : ℕ). take j (set out k (get_or ns (2 * i + 1) 0)) ++ behind name (drop (2 * (i + 1)) ns)) (one k)
-        ∙ ap (λ (t : List ℕ). t ++ behind name (drop (2 * (i + 1)) ns)) (take-suc-set out k (get_or ns (2 * i + 1) 0) l)
-        ∙ append_assoc (take k out) (get_or ns (2 * i + 1) 0 ∷ []) (behind name (drop (2 * (i + 1)) ns))
-        ∙ ap (λ (t : List ℕ). take k out ++ t) (sym (rw (pair_next ns i h, eq-eqb (get_or ns (2 * i) 0) name e) refl))
-      where
-        one : (k : ℕ) → k + 1 ≡ suc k
-        one k = omega arith
+  pub none_more : (values after : List ℕ) (name : Name) → (this.0 ≡ name → ⊥) → after ≡ values
+      → after ++ behind (place_of name) (bytes_of (drop (i + 1) ps)) ≡ values ++ behind (place_of name) (bytes_of (drop i ps))
+  none_more values after name e f = ap₂ ◌++◌ f (sym (behind_other name e))
 
-    pub behind_other : (name : ℕ) → (get_or ns (2 * i) 0 ≡ name → ⊥) → behind name (drop (2 * (i + 1)) ns) ≡ behind name (drop (2 * i) ns)
-    unfolding behind
-    behind_other name e = sym (rw (pair_next ns i h, ne_eqb (get_or ns (2 * i) 0) name e) refl)
+pub behind_none : (name : Name) (ps : List (Name × ℕ)) (i : ℕ) → length ps ≤ i → behind (place_of name) (bytes_of (drop i ps)) ≡ []
+unfolding behind bytes_of
+behind_none name ps i h = ap (λ (l : List (Name × ℕ)). behind (place_of name) (bytes_of l)) (drop_of_length-le ps {i = i} h)
+
+pub measured_last : (ps : List (Name × ℕ)) (i : ℕ) (table : List ℕ) → length ps ≤ i → measured (bytes_of (drop i ps)) table ≡ gives table
+unfolding measured bytes_of
+measured_last ps i table h = ap (λ (l : List (Name × ℕ)). measured (bytes_of l) table) (drop_of_length-le ps {i = i} h)
 
 -- ---- a table of zeros
 pub fewer_zeros : (m n : ℕ) → n ≤ m → take n (zeros m) ≡ zeros n

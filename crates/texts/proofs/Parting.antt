@@ -1,8 +1,9 @@
 -- Of specs/Pieces: the first piece from a place on, and all pieces one after the other.
-use Prim.Native.Nat.{ℕ, suc, ◌+◌, ◌-◌, ◌≤◌, ◌<◌}
+use Prim.Native.Nat.{ℕ, zero, suc, ◌+◌, ◌-◌, ◌≤◌, ◌<◌}
 use mathlib.Core.Path.{◌≡◌, refl, sym, ap, ap₂, ◌∙◌}
 use mathlib.Core.Bool.{Bool, true, false, cond}
 use mathlib.Core.List.{List, [], ◌∷◌, ◌++◌, append_assoc, append-nil}
+use native.Mathlib.Numerals.{add-one}
 use native.Mathlib.Omega.{arith}
 use lib.ListN.{length, get_or, take, drop, length-drop, drop_of_length-le}
 use lib.Seq.{drop-cons, take_all, take-suc, get_or-drop}
@@ -52,6 +53,26 @@ module _ (p : ℕ → Bool) (s : List ℕ) where
             ∙ take-suc (drop from s) k 0 (omega (arith, length-drop from s))
             ∙ ap (λ (x : ℕ). take k (drop from s) ++ (x ∷ [])) (get_or-drop from s k 0 ∙ ap (λ (j : ℕ). get_or s j 0) (omega arith))
 
+-- as the code finds it: the first letter that parts, or none
+module _ (p : ℕ → Bool) (s : List ℕ) where
+  reached : (i : ℕ) → i ≤ length s → ((k : ℕ) → k < i → p (get_or s k 0) ≡ false) → IsReached p s 0 i
+  reached zero h f = reached_start p s 0
+  reached (suc i) h f =
+      rw (← add-one i) (reached_on p s 0 i (omega arith) (omega arith) (f i (omega arith)) (reached i (omega arith) (λ k l. f k (omega arith))))
+
+  pub parted_at : (i : ℕ) → i < length s → p (get_or s i 0) ≡ true → ((k : ℕ) → k < i → p (get_or s k 0) ≡ false) → (take i s ≡ until p s) × (drop (i + 1) s ≡ past p s)
+  parted_at i h t f =
+      let (e, d) = reached_stop p s 0 i (omega arith) h t (reached i (omega arith) f) in
+      (ap (λ (k : ℕ). take k s) (same i) ∙ e, d)
+    where
+      same : (i : ℕ) → i ≡ i - 0
+      same i = omega arith
+
+  pub parted_nowhere : ((k : ℕ) → k < length s → p (get_or s k 0) ≡ false) → (s ≡ until p s) × ([] ≡ past p s)
+  parted_nowhere f =
+      let (e, d) = reached_end p s 0 (length s) (omega arith) (omega arith) (reached (length s) (omega arith) f) in
+      (sym (take_all (length s - 0) s (omega arith)) ∙ e, sym (drop_of_length-le s {i = length s + 1} (omega arith)) ∙ d)
+
 -- ---- piece by piece
 pub pieces-cons : (p : ℕ → Bool) (c : ℕ) (s : List ℕ) → pieces p (c ∷ s) ≡ until p (c ∷ s) ∷ pieces p (past p (c ∷ s))
 unfolding pieces until past
@@ -79,13 +100,16 @@ module _ (p : ℕ → Bool) (s : List ℕ) (i : ℕ) where
   pub pieces_step : (end next : ℕ) → i < length s → take (end - i) (drop i s) ≡ until p (drop i s) → drop next s ≡ past p (drop i s) → pieces p (drop i s) ≡ take (end - i) (drop i s) ∷ pieces p (drop next s)
   pieces_step end next h e f = pieces_next h ∙ ap₂ (λ (x y : List ℕ). x ∷ pieces p y) (sym e) (sym f)
 
--- ---- as slices have them: a piece from the front, and what is behind it
-module _ (p : ℕ → Bool) (s : List ℕ) (k : ℕ) where
-  pub first_piece : take (k - 0) (drop 0 s) ≡ until p (drop 0 s) → take k s ≡ until p s
-  first_piece e = ap (λ (j : ℕ). take j s) (same k) ∙ e
-    where
-      same : (k : ℕ) → k ≡ k - 0
-      same k = omega arith
+pub pieces_more : (p : ℕ → Bool) (s : List ℕ) → 0 < length s → pieces p s ≡ until p s ∷ pieces p (past p s)
+pieces_more p s h = pieces_next p s 0 h
 
-  pub behind_piece : drop k s ≡ past p (drop 0 s) → take (length s - k) (drop k s) ≡ past p s
-  behind_piece e = take_all (length s - k) (drop k s) (omega (arith, length-drop k s)) ∙ e
+-- no more pieces than letters
+pub pieces_few : (p : ℕ → Bool) (s : List ℕ) → length (pieces p s) ≤ length s
+unfolding pieces
+pieces_few p [] = omega arith
+pieces_few p (c ∷ s) = by (p c) (pieces p s) (pieces_few p s)
+  where
+    by : (t : Bool) (l : List (List ℕ)) → length l ≤ length s → length (cond t ([] ∷ l) (onto c l)) ≤ suc (length s)
+    by true l h = omega arith
+    by false [] h = omega arith
+    by false (x ∷ l) h = omega arith

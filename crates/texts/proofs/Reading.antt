@@ -1,39 +1,53 @@
 -- Of specs/JobText: what one word, one line and one text more do.
-use Prim.Native.Nat.{ℕ, suc, ◌+◌, ◌≤◌, ◌<◌}
+use Prim.Native.Nat.{ℕ, suc, ◌+◌, ◌*◌, ◌≤◌, ◌<◌}
 use mathlib.Core.Path.{◌≡◌, refl, sym, ap, ◌∙◌}
-use mathlib.Core.Bool.{Bool, true, false}
-use mathlib.Core.List.{List, [], ◌∷◌, ◌++◌}
+use mathlib.Core.Bool.{Bool, true, false, false≢true}
+use mathlib.Core.List.{List, [], ◌∷◌}
 use native.Mathlib.Nat.{not-suc-le-zero}
 use native.Mathlib.Omega.{arith}
 use borrow.Author.Tests.{le-leb, lt-leb, lt-ltb, le-ltb}
-use lib.ListN.{length, take, drop, length-append}
-use lib.Seq.{sets, sets-eq, take_at, length-take-le}
-use Rattle.texts.specs.Words.{word_of}
-use Rattle.texts.specs.JobText.{Reading, read, fault, numbers, faulty, out_of_order, wrong_shape, too_many, in_order, in_shape, added, said, after_word, after_words, after_line, unless_fault, after_lines}
+use lib.ListN.{length}
+use Rattle.std.specs.Prelude.{Option, Some, None, Result, Ok, Err}
+use Rattle.texts.specs.Words.{word_of, name_count, Number, Edge}
+use Rattle.texts.specs.Views.{place_of, bytes_of, last_place, is_named, kind_of, told, IsMore}
+use Rattle.texts.specs.declared.names.Name.{Name}
+use Rattle.texts.specs.declared.faults.Fault.{Fault}
+use Rattle.texts.specs.JobText.{number_bytes, most_numbers, Reading, read, fault, numbers, faulty, out_of_order, wrong_shape, in_order, in_shape, added, said, after_word, after_words, after_line, unless_fault, after_lines}
 
--- ---- numbers added to the first k bytes of a buffer
-module _ (name k : ℕ) (buffer : List ℕ) (few : k ≤ length buffer) (edge : Bool) (more : List ℕ) where
-  abbrev so_far : Reading
-  so_far = added (length buffer) name (take k buffer) edge more
+-- ---- numbers added
+module _ (room name : ℕ) (ns : List ℕ) (edge : Bool) (more : List ℕ) where
+  pub add_order : in_order name (length ns) ≡ false → fault out_of_order ≡ added room name ns edge more
+  add_order o = sym (rw o refl)
 
-  size : length (take k buffer) ≡ k
-  size = length-take-le k buffer few
+  pub add_shape : in_order name (length ns) ≡ true → in_shape name edge ≡ false → fault wrong_shape ≡ added room name ns edge more
+  add_shape o s = sym (rw (o, s) refl)
 
-  pub add_order : in_order name k ≡ false → fault out_of_order ≡ so_far
-  add_order o = sym (rw (size, o) refl)
+-- before the first name there are no numbers, and none can be added
+pub unnamed : (last : Option Name) (ps : List (Name × ℕ)) → is_named last ps ≡ true → last ≡ None
+    → (room : ℕ) (edge : Bool) (more : List ℕ) → fault out_of_order ≡ added room (last_place last) (bytes_of ps) edge more
+unfolding bytes_of
+unnamed last ps n e room edge more = rw e (by ps (rw e at n))
+  where
+    by : (ps : List (Name × ℕ)) → is_named None ps ≡ true → fault out_of_order ≡ added room name_count (bytes_of ps) edge more
+    by [] n = refl
+    by (p ∷ ps) n = absurd (false≢true n)
 
-  module _ (o : in_order name k ≡ true) where
-    pub add_shape : in_shape name edge ≡ false → fault wrong_shape ≡ so_far
-    add_shape s = sym (rw (size, o, s) refl)
+-- what adding tells, where name and shape are right
+pub added_told : (name : ℕ) (ns : List ℕ) (edge : Bool) (more after : List ℕ) (r : Result Unit Fault) → IsMore r ns more after
+    → in_order name (length ns) ≡ true → in_shape name edge ≡ true → told r (read name after) ≡ added (number_bytes * most_numbers) name ns edge more
+added_told name ns edge more after (Ok u) (few, e) o s =
+    ap (read name) e ∙ sym (rw (o, s, le-leb (length ns + length more) (number_bytes * most_numbers) few) refl)
+added_told name ns edge more after (Err f) (e, many) o s =
+    ap (λ (f : Fault). fault (kind_of f)) e ∙ sym (rw (o, s, lt-leb (length ns + length more) (number_bytes * most_numbers) many) refl)
 
-    module _ (s : in_shape name edge ≡ true) where
-      pub add_full : length buffer < k + length more → fault too_many ≡ so_far
-      add_full h = sym (rw (size, o, s, lt-leb (k + length more) (length buffer) h) refl)
+module _ (last : Option Name) (name : Name) (e : last ≡ Some name) (ns after : List ℕ) (r : Result Unit Fault) (o : in_order (place_of name) (length ns) ≡ true) where
+  pub one_told : (x : ℕ) → IsMore r ns (place_of name ∷ x ∷ []) after → in_shape (place_of name) false ≡ true
+      → told r (read (last_place last) after) ≡ said (number_bytes * most_numbers) (last_place last) ns (Number x)
+  one_told x m s = rw e (added_told (place_of name) ns false (place_of name ∷ x ∷ []) after r m o s)
 
-      pub add_done : (next : List ℕ) → k + length more ≤ length buffer → next ≡ sets buffer k more → read name (take (k + length more) next) ≡ so_far
-      add_done next h e =
-          ap (read name) (ap (take (k + length more)) (e ∙ sets-eq more buffer k h) ∙ take_at (take k buffer ++ more) (drop (k + length more) buffer) (k + length more) (length-append (take k buffer) more ∙ ap (λ (n : ℕ). n + length more) size))
-          ∙ sym (rw (size, o, s, le-leb (k + length more) (length buffer) h) refl)
+  pub two_told : (a b : ℕ) → IsMore r ns (place_of name ∷ a ∷ place_of name ∷ b ∷ []) after → in_shape (place_of name) true ≡ true
+      → told r (read (last_place last) after) ≡ said (number_bytes * most_numbers) (last_place last) ns (Edge a b)
+  two_told a b m s = rw e (added_told (place_of name) ns true (place_of name ∷ a ∷ place_of name ∷ b ∷ []) after r m o s)
 
 -- ---- words
 module _ (room name : ℕ) (ns w : List ℕ) where

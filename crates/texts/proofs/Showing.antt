@@ -1,18 +1,17 @@
 -- Of specs/Shown: a text from a place of its list on, how long a job's text is at most, and the call by what is found in the file.
-use Prim.Native.Nat.{ℕ, suc, ◌+◌, ◌*◌, ◌/◌, ◌%◌, ◌≤◌, ◌<◌}
+use Prim.Native.Nat.{ℕ, suc, ◌+◌, ◌*◌, ◌%◌, ◌≤◌, ◌<◌}
 use Prim.Native.Char.{code}
-use mathlib.Core.Path.{◌≡◌, refl, sym, ap, ap₂, ◌∙◌}
+use mathlib.Core.Path.{◌≡◌, refl, sym, ap, ◌∙◌}
 use mathlib.Core.Bool.{Bool, true, false, cond}
-use mathlib.Core.Option.{none, some}
-use mathlib.Core.List.{List, [], ◌∷◌, ◌++◌, append_assoc}
+use mathlib.Core.List.{List, [], ◌∷◌, ◌++◌, append-nil}
 use native.Mathlib.Numerals.{add-one}
 use native.Mathlib.Omega.{arith}
 use borrow.Author.Tests.{ltb-true}
 use lib.Dec.{eqb, ltb}
-use lib.ListN.{length, get_or, drop, length-append, length-drop, drop_of_length-le}
+use lib.ListN.{length, get_or, drop, length-append, drop_of_length-le}
 use Rattle.nodes.specs.Lists.{has, all}
 use Rattle.nodes.proofs.Logic.{and_out}
-use Rattle.answers.specs.Answer.{Refusal, gives, refuses, refusal}
+use Rattle.answers.specs.Answer.{gives}
 use Rattle.answers.specs.Message.{codes, in_decimal}
 use Rattle.answers.proofs.Decimal.{decimal_most}
 use Rattle.records.specs.JobFile.{JobFile, read_job, nodes_below}
@@ -21,48 +20,47 @@ use Rattle.records.specs.Encoding.{job_bytes, IsValidJob}
 use Rattle.records.specs.Writing.{most_job, angle_record}
 use Rattle.records.proofs.Encoding.{job_asked}
 use Rattle.records.proofs.JobLists.{job_parts, job_length, ascending-length, file_ascending, valid_asks}
-use Rattle.demands.specs.Calls.{Outcome, put}
 use Rattle.texts.specs.Pieces.{pieces}
-use Rattle.texts.specs.Words.{names, outputs_name}
-use Rattle.texts.specs.Shown.{shown_number, shown_nodes, shown_edge, shown_edges, shown_measured, shown_measurement, shown_measurements, shown_opening, shown_text, edges_in_line, text_room, show_asks, show_text}
-use Rattle.texts.proofs.Placed.{drop_next}
+use Rattle.texts.specs.Words.{names, inputs_name, outputs_name}
+use Rattle.texts.specs.Shown.{shown_number, shown_nodes, shown_edge, shown_edges, shown_measured, shown_measurement, shown_measurements, shown_opening, shown_text, edges_in_line, text_room}
+use Rattle.std.proofs.lemmas.List.{drop_more}
+use Rattle.texts.specs.Views.{line_for}
+use Rattle.texts.specs.declared.names.Name.{Name}
+use Rattle.texts.proofs.Naming.{all_names}
+use Rattle.texts.proofs.Parting.{rest}
 
 -- ---- from place i on
 module _ (l : List ℕ) (i : ℕ) where
   pub nodes_step : i < length l → shown_nodes (drop i l) ≡ shown_number (get_or l i 0) ++ shown_nodes (drop (i + 1) l)
   unfolding shown_nodes
-  nodes_step h = ap shown_nodes (drop_next l i h)
+  nodes_step h = ap shown_nodes (rest l i h)
 
   pub nodes_end : length l ≤ i → shown_nodes (drop i l) ≡ []
   unfolding shown_nodes
   nodes_end h = ap shown_nodes (drop_of_length-le l h)
 
-  pub edges_step : i < length l / 2 → shown_edges i (drop (2 * i) l) ≡ shown_edge i (get_or l (2 * i) 0) (get_or l (2 * i + 1) 0) ++ shown_edges (i + 1) (drop (2 * (i + 1)) l)
-  unfolding shown_edges
-  edges_step h =
-      ap (shown_edges i) (drop_next l (2 * i) (omega arith) ∙ ap (λ (t : List ℕ). get_or l (2 * i) 0 ∷ t) (drop_next l (2 * i + 1) (omega arith)))
-      ∙ ap₂ (λ (j k : ℕ). shown_edge i (get_or l (2 * i) 0) (get_or l (2 * i + 1) 0) ++ shown_edges j (drop k l)) (sym (add-one i)) (two i)
-    where
-      two : (i : ℕ) → 2 * i + 1 + 1 ≡ 2 * (i + 1)
-      two i = omega arith
-
-  pub edges_end : length l / 2 ≤ i → shown_edges i (drop (2 * i) l) ≡ []
-  unfolding shown_edges
-  edges_end h = few (drop (2 * i) l) (omega (arith, length-drop (2 * i) l))
-    where
-      few : (k : List ℕ) → length k ≤ 1 → shown_edges i k ≡ []
-      few [] e = refl
-      few (a ∷ []) e = refl
-      few (a ∷ b ∷ k) e = absurd (omega arith)
-
   pub measured_step : (m : ℕ) → i < length l → shown_measured m i (drop i l) ≡ cond (eqb (get_or l i 0) m) (shown_number i) [] ++ shown_measured m (i + 1) (drop (i + 1) l)
   unfolding shown_measured
   measured_step m h =
-      ap (shown_measured m i) (drop_next l i h) ∙ ap (λ (j : ℕ). cond (eqb (get_or l i 0) m) (shown_number i) [] ++ shown_measured m j (drop (i + 1) l)) (sym (add-one i))
+      ap (shown_measured m i) (rest l i h) ∙ ap (λ (j : ℕ). cond (eqb (get_or l i 0) m) (shown_number i) [] ++ shown_measured m j (drop (i + 1) l)) (sym (add-one i))
 
   pub measured_end : (m : ℕ) → length l ≤ i → shown_measured m i (drop i l) ≡ []
   unfolding shown_measured
   measured_end m h = ap (shown_measured m i) (drop_of_length-le l h)
+
+-- ---- two numbers after two
+pub edges_chunk : (i : ℕ) (x left more : List ℕ) → left ≡ x ++ more → length x ≡ 2 → shown_edges i left ≡ shown_edge i (get_or x 0 0) (get_or x 1 0) ++ shown_edges (i + 1) more
+unfolding shown_edges
+edges_chunk i [] left more e h = absurd (omega arith)
+edges_chunk i (a ∷ []) left more e h = absurd (omega arith)
+edges_chunk i (a ∷ b ∷ []) left more e h = ap (shown_edges i) e ∙ ap (λ (k : ℕ). shown_edge i a b ++ shown_edges k more) (sym (add-one i))
+edges_chunk i (a ∷ b ∷ d ∷ x) left more e h = absurd (omega arith)
+
+pub edges_short : (i : ℕ) (left : List ℕ) → length left < 2 → shown_edges i left ≡ []
+unfolding shown_edges
+edges_short i [] h = refl
+edges_short i (a ∷ []) h = refl
+edges_short i (a ∷ b ∷ l) h = absurd (omega arith)
 
 -- ---- how long
 -- numbers below this have three digits at most
@@ -174,28 +172,29 @@ module _ (s : List ℕ) (f : JobFile) (read : read_job s ≡ gives f) (ends : f.
         length-append (shown_measurements f.measurements) (codes "\n"),
       )
 
+-- ---- the lines of the measurements, name by name
+unfoldable pub lines_for : List Name → (measurements : List ℕ) → List ℕ
+lines_for [] ms = []
+lines_for (name ∷ others) ms = line_for name ms ++ lines_for others ms
+
+pub lines_all : (ms : List ℕ) → lines_for all_names ms ≡ shown_measurements ms
+unfolding lines_for
+lines_all ms =
+    ap (λ (l : List ℕ). shown_measurement 1 ms ++ (shown_measurement 2 ms ++ (shown_measurement 3 ms ++ (shown_measurement 4 ms ++ (shown_measurement 5 ms ++ l))))) (append-nil (shown_measurement 6 ms))
+
+pub lines_step : (others : List Name) (i : ℕ) (d : Name) (ms : List ℕ) → i < length others → lines_for (drop i others) ms ≡ line_for (get_or others i d) ms ++ lines_for (drop (i + 1) others) ms
+unfolding lines_for
+lines_step others i d ms h = ap (λ (l : List Name). lines_for l ms) (drop_more others i d h)
+
+pub lines_end : (others : List Name) (i : ℕ) (ms : List ℕ) → length others ≤ i → lines_for (drop i others) ms ≡ []
+unfolding lines_for
+lines_end others i ms h = ap (λ (l : List Name). lines_for l ms) (drop_of_length-le others {i = i} h)
+
 -- ---- the text, list by list
+abbrev pub named_list : (name : ℕ) (nodes : List ℕ) → List ℕ
+named_list name nodes = codes "\n" ++ (get_or names name [] ++ shown_nodes nodes)
+
 pub by_lists : (f : JobFile) → shown_text f
-    ≡ shown_opening f ++ (shown_edges 0 f.edges ++ ((codes "\ninputs" ++ shown_nodes f.inputs) ++ ((codes "\noutputs" ++ shown_nodes f.outputs) ++ (shown_measurements f.measurements ++ codes "\n"))))
-unfolding shown_text
-by_lists f = rw (append_assoc (codes "\ninputs") (shown_nodes f.inputs), append_assoc (codes "\noutputs") (shown_nodes f.outputs)) refl
-
--- ---- the call
-module _ (s out : List ℕ) where
-  pub not_read : (r : Refusal) → read_job s ≡ refuses r → ◌≡◌ {A = Outcome} (record { answer = refuses r; work = []; out = out }) (show_text s out)
-  unfolding show_text show_asks
-  not_read r read = rw read
-
-  module _ (f : JobFile) (read : read_job s ≡ gives f) where
-    pub bytes_left : eqb (length f.after) 0 ≡ false → ◌≡◌ {A = Outcome} (record { answer = refuses (refusal 8); work = []; out = out }) (show_text s out)
-    unfolding show_text show_asks
-    bytes_left b = rw (read, b)
-
-    module _ (ends : eqb (length f.after) 0 ≡ true) where
-      pub has_angles : (p : List ℕ) → f.angles ≡ some p → ◌≡◌ {A = Outcome} (record { answer = refuses (refusal 24); work = []; out = out }) (show_text s out)
-      unfolding show_text show_asks
-      has_angles p a = rw (read, ends, a)
-
-      pub text-put : f.angles ≡ none → put [] (shown_text f) out ≡ show_text s out
-      unfolding show_text show_asks
-      text-put a = rw (read, ends, a)
+    ≡ shown_opening f ++ (shown_edges 0 f.edges ++ (named_list inputs_name f.inputs ++ (named_list outputs_name f.outputs ++ (shown_measurements f.measurements ++ codes "\n"))))
+unfolding shown_text codes pieces
+by_lists f = refl

@@ -14,11 +14,9 @@ use Rattle.answers.specs.Message.{codes, in_decimal}
 use Rattle.records.specs.JobFile.{JobFile}
 use Rattle.records.specs.Encoding.{IsBytes}
 use Rattle.texts.specs.Pieces.{pieces}
-use Rattle.texts.specs.Words.{names, name_count, most_number, nodes_name, mode_name, edges_name, outputs_name}
+use Rattle.texts.specs.Words.{Word, Name, Number, Edge, names, name_count, most_number, nodes_name, mode_name, edges_name, outputs_name}
 use Rattle.texts.specs.JobText.{Reading, read, numbers, added, opening_bytes, in_shape, after_word, said, read_text}
 use Rattle.texts.specs.Shown.{shown_number, shown_nodes, edges_in_line, shown_edge, shown_edges, shown_measured, shown_measurement, shown_opening}
-use Rattle.texts.specs.declared.words.Word.{Word}
-use Rattle.texts.specs.declared.words.Word.TheVariants.{Name, Number, Edge}
 use Rattle.texts.proofs.Reading.{lines_end}
 use Rattle.texts.proofs.Lexing.{Ends, blank, feed, says_from, word_front, skip_blank, skip_feed}
 use Rattle.texts.proofs.ShownWords.{Tells, number_told, edge_told, name_told}

@@ -16,10 +16,8 @@ use Rattle.nodes.proofs.Row.{all_out}
 use Rattle.answers.specs.Message.{codes, decimal_in, in_decimal}
 use Rattle.records.proofs.Records.{all-append}
 use Rattle.texts.specs.Pieces.{parting, until, past, pieces}
-use Rattle.texts.specs.Words.{names, name_count, place_in, is_digit, with_digit, with_digits, value_of, numbers_of, word_of, most_number}
+use Rattle.texts.specs.Words.{Word, Name, Number, Edge, names, name_count, place_in, is_digit, with_digit, with_digits, value_of, numbers_of, word_of, most_number}
 use Rattle.texts.specs.declared.pieces.Stop.TheVariants.{LineFeed, Comment, Blank, Dash}
-use Rattle.texts.specs.declared.words.Word.{Word}
-use Rattle.texts.specs.declared.words.Word.TheVariants.{Name, Number, Edge}
 use Rattle.texts.proofs.Values.{digits-none}
 use Rattle.texts.proofs.Naming.{word_name, word_numbers}
 use Rattle.texts.proofs.Lexing.{free, is_word, clean_out, clean_in, until_front, past_front}

@@ -13,10 +13,8 @@ use Rattle.records.specs.JobLists.{JobLists, given}
 use Rattle.demands.specs.Calls.{Outcome}
 use Rattle.demands.specs.Roles.{operator, writing, called}
 use Rattle.texts.specs.Pieces.{parting, until, pieces}
-use Rattle.texts.specs.Words.{word_of, name_count, nodes_name, mode_name, edges_name, inputs_name, outputs_name, first_measurement}
+use Rattle.texts.specs.Words.{Word, Name, Number, Edge, Other, word_of, name_count, nodes_name, mode_name, edges_name, inputs_name, outputs_name, first_measurement}
 use Rattle.texts.specs.declared.pieces.Stop.TheVariants.{LineFeed, Comment, Blank}
-use Rattle.texts.specs.declared.words.Word.{Word}
-use Rattle.texts.specs.declared.words.Word.TheVariants.{Name, Number, Edge, Other}
 
 -- ---- word by word
 -- The numbers of a text are kept as bytes, each number behind the place of its name.

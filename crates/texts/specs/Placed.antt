@@ -1,12 +1,11 @@
--- Bytes put into a buffer from a place on, and the place behind them.
-use Rattle.std.specs.Prelude.{ℕ, ◌+◌, ◌≤◌, ◌≡◌, List, length}
-use Rattle.std.proofs.lemmas.List.Edits.{sets}
+-- Bytes put behind a text, which has room for so many as the text of every job takes.
+use Rattle.std.specs.Prelude.{ℕ, ◌+◌, ◌≤◌, ◌≡◌, List, ◌++◌, length}
+use Rattle.texts.specs.Shown.{text_room}
 
 -- there is room for them
-pub record HasRoom (bytes out : List ℕ) (at : ℕ) : Type 0 where
-  pub enough : at + length bytes ≤ length out
+abbrev pub HasRoom : (bytes text : List ℕ) → Type 0
+HasRoom bytes text = length text + length bytes ≤ text_room
 
--- the buffer then, and the place behind them
-pub record Puts (bytes out : List ℕ) (at : ℕ) (next : List ℕ) (end : ℕ) : Type 0 where
-  pub written : next ≡ sets out at bytes
-  pub behind : end ≡ at + length bytes
+-- the text then
+abbrev pub Puts : (bytes text next : List ℕ) → Type 0
+Puts bytes text next = next ≡ text ++ bytes

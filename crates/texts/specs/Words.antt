@@ -6,10 +6,6 @@ use Rattle.nodes.specs.Lists.{equal}
 use Rattle.answers.specs.Message.{codes}
 use Rattle.texts.specs.Pieces.{parting, until, past, pieces}
 use Rattle.texts.specs.declared.pieces.Stop.TheVariants.{Blank, Dash}
-use Rattle.texts.specs.declared.words.Word.{Word}
-use Rattle.texts.specs.declared.words.Word.TheVariants.{Name, Number, Edge, Other}
-use Rattle.texts.specs.declared.words.Value.{Value}
-use Rattle.texts.specs.declared.words.Value.TheVariants.{Byte, Nothing}
 
 -- ---- the names: what the numbers behind a name are
 abbrev pub names_text : List ℕ
@@ -69,6 +65,13 @@ value_of [] = none
 value_of (c ∷ s) = with_digits (some 0) (c ∷ s)
 
 -- ---- words
+-- a name by its place among the names, a number, two numbers joined by a dash, or none of these
+pub data Word : Type 0 where
+  Name : (place : ℕ) → Word
+  Number : (x : ℕ) → Word
+  Edge : (a b : ℕ) → Word
+  Other : Word
+
 abbrev pub edge_of : (a b : Option ℕ) → Word
 edge_of (some a) (some b) = Edge a b
 edge_of (some a) none = Other
@@ -84,8 +87,3 @@ numbers_of w = number_or (value_of w) (edge_of (value_of (until (parting Dash) w
 
 abbrev pub word_of : List ℕ → Word
 word_of w = cond (ltb (place_in names w) name_count) (Name (place_in names w)) (numbers_of w)
-
--- what the code answers
-abbrev pub value_in : Value → Option ℕ
-value_in (Byte x) = some x
-value_in Nothing = none

@@ -1,68 +1,66 @@
-// The lists in the numbers of a text, each number behind the place of its name.
-ghost use Rattle.std.specs.Prelude.{◌≡◌, ◌≤◌, length, take};
-ghost use Rattle.texts.specs.JobText.{behind, measured_one, measured};
-ghost use Rattle.texts.specs.Views.{table_in};
+// The numbers of a text, each with the name that it stands behind, and the lists in them.
+ghost use Rattle.std.specs.Prelude.{◌≡◌, ◌+◌, ◌*◌, length, get_or};
+ghost use Rattle.texts.specs.JobText.{number_bytes, behind, measured_one, measured};
+ghost use Rattle.texts.specs.Views.{place_of, bytes_of, table_in};
 
-use crate::reader::NUMBER_BYTES;
+use crate::MOST_JOB;
+use crate::names::Name;
 use answers::Refusal;
-use records::common::number;
+use arrayvec::ArrayVec;
 
-pub(crate) const INPUTS: u8 = 3;
+/// The numbers in their order. No job has more of them than its file has bytes.
+pub(crate) type Numbers = ArrayVec<(Name, u8), MOST_JOB>;
 
-pub(crate) const OUTPUTS: u8 = 4;
-
-// The names of measurements stand behind the others, in the order of their bytes from 1 on.
-const FIRST_MEASUREMENT: u8 = OUTPUTS + 1;
-
-// The numbers behind a name, at the front of the buffer; how many there are.
-pub(crate) fn select(numbers: &[u8], name: u8, out: &mut [u8]) -> usize
-    requires { length numbers.now ≤ length out.old }
-    ensures { (result ≤ length out.new) × (take result out.new ≡ behind name numbers.now) }
+/// The number at this place, whatever its name; 0 where there is none.
+#[tactic(auto, using(crate::proofs::Numbers::number_here, crate::proofs::Numbers::number_none))]
+pub(crate) fn number_at(numbers: &[(Name, u8)], place: usize) -> u8
+    ensures { result ≡ get_or (bytes_of numbers.now) (number_bytes * place + 1) 0 }
 {
-    let pairs = numbers.len() / NUMBER_BYTES;
-    let mut k = 0;
-    let mut i = 0;
-    while i < pairs {
-        let at = NUMBER_BYTES * i;
-        if numbers[at] == name {
-            out[k] = numbers[at + 1];
-            k += 1;
-        }
-        i += 1;
+    match numbers.get(place) {
+        Some(&(_, value)) => value,
+        None => 0,
     }
-    k
+}
+
+/// The numbers behind a name.
+pub(crate) fn behind(numbers: &Numbers, name: Name) -> ArrayVec<u8, MOST_JOB>
+    ensures { result.items ≡ behind (place_of name) (bytes_of numbers.now.items) }
+{
+    let mut values = ArrayVec::new();
+    for number in numbers.as_slice() {
+        if number.0 == name {
+            values.push(number.1);
+        }
+    }
+    values
 }
 
 // Is a measured node below n (5), and measured once (21)?
-fn measure_one(name: u8, v: u8, table: &mut [u8]) -> Result<(), Refusal>
-    ensures table_after { table_in result table.new ≡ measured_one name v table.old }
+fn measure_one(name: Name, v: u8, table: &mut [u8]) -> Result<(), Refusal>
+    ensures table_after { table_in result table.new ≡ measured_one (place_of name) v table.old }
     ensures table_len_unchanged { length table.new ≡ length table.old }
 {
-    if name < FIRST_MEASUREMENT {
+    let Some(measurement) = name.measurement() else {
         return Ok(());
-    }
-    let x = number(v);
-    if x >= table.len() {
+    };
+    let v = usize::from(v);
+    if v >= table.len() {
         return Err(Refusal::NodeTooLarge);
     }
-    if table[x] != 0 {
+    if table[v] != 0 {
         return Err(Refusal::GivenTwice);
     }
-    table[x] = name - OUTPUTS;
+    table[v] = measurement;
     Ok(())
 }
 
-// The measurement of each node.
-pub(crate) fn measure(numbers: &[u8], table: &mut [u8]) -> Result<(), Refusal>
-    ensures table_after { table_in result table.new ≡ measured numbers.now table.old }
+/// The measurement of each node.
+pub(crate) fn measure(numbers: &[(Name, u8)], table: &mut [u8]) -> Result<(), Refusal>
+    ensures table_after { table_in result table.new ≡ measured (bytes_of numbers.now) table.old }
     ensures table_len_unchanged { length table.new ≡ length table.old }
 {
-    let pairs = numbers.len() / NUMBER_BYTES;
-    let mut i = 0;
-    while i < pairs {
-        let at = NUMBER_BYTES * i;
-        measure_one(numbers[at], numbers[at + 1], table)?;
-        i += 1;
+    for number in numbers {
+        measure_one(number.0, number.1, table)?;
     }
     Ok(())
 }

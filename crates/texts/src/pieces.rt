@@ -1,73 +1,72 @@
 // Pieces of bytes: a text is parted into lines, a line into words, an edge into its ends.
-ghost use Rattle.std.specs.Prelude.{◌≡◌, ◌+◌, ◌-◌, ◌<◌, ◌≤◌, length, take, drop};
-ghost use Rattle.texts.specs.Pieces.{parting, until, past};
+ghost use Rattle.std.specs.Prelude.{◌≡◌};
+ghost use Rattle.std.specs.Iterator.{YieldsFirstRef, item_count};
+ghost use Rattle.texts.specs.Pieces.{parting, until, past, pieces};
+ghost use Rattle.texts.specs.Views.{pieces_left};
 
-// The letters that part pieces.
-#[derive(Clone, Copy)]
+/// The letters that part pieces. They are values and no closures: the definitions name them, `parting` of specs/Pieces.
+#[derive(Clone, Copy, Debug, PartialEq, Eq)]
 pub(crate) enum Stop {
     LineFeed,
     Comment,
+    /// Spaces, tabs, and the carriage returns of some editors.
     Blank,
     Dash,
 }
 
-// A piece: where it ends, and where the next begins.
-#[derive(Clone, Copy)]
-pub(crate) struct Piece {
-    pub end: usize,
-    pub next: usize,
-}
-
-// Spaces, tabs, and the carriage returns of some editors.
-fn is_blank(c: u8) -> bool
-    ensures { result ≡ parting Stop.Blank c }
-{
-    if c == b' ' {
-        return true;
-    }
-    if c == b'\t' {
-        return true;
-    }
-    c == b'\r'
-}
-
-fn parts(stop: Stop, c: u8) -> bool
-    ensures { result ≡ parting stop c }
-{
-    match stop {
-        Stop::LineFeed => c == b'\n',
-        Stop::Comment => c == b'#',
-        Stop::Blank => is_blank(c),
-        Stop::Dash => c == b'-',
-    }
-}
-
-// Where the next such letter stands; the end where there is none.
-fn piece_end(bytes: &[u8], from: usize, stop: Stop) -> usize
-    requires { from ≤ length bytes.now }
-    ensures lower_bound { (from ≤ result) × (result ≤ length bytes.now) × (take (result - from) (drop from bytes.now) ≡ until (parting stop) (drop from bytes.now)) }
-    ensures bytes_value { drop (result + 1) bytes.now ≡ past (parting stop) (drop from bytes.now) }
-{
-    let mut i = from;
-    while i < bytes.len() {
-        if parts(stop, bytes[i]) {
-            return i;
+impl Stop {
+    fn parts(self, c: u8) -> bool
+        ensures { result ≡ parting self c }
+    {
+        match self {
+            Stop::LineFeed => c == b'\n',
+            Stop::Comment => c == b'#',
+            Stop::Blank => c == b' ' || c == b'\t' || c == b'\r',
+            Stop::Dash => c == b'-',
         }
-        i += 1;
     }
-    i
 }
 
-// The piece that begins at this place.
-pub(crate) fn piece_at(bytes: &[u8], from: usize, stop: Stop) -> Piece
-    requires { from ≤ length bytes.now }
-    ensures from_le_end { (from ≤ result.end) × (result.end ≤ result.next) × (result.next ≤ length bytes.now) × (from < length bytes.now → from < result.next) }
-    ensures bytes_value { take (result.end - from) (drop from bytes.now) ≡ until (parting stop) (drop from bytes.now) }
-    ensures bytes_value_2 { drop result.next bytes.now ≡ past (parting stop) (drop from bytes.now) }
+/// What stands before the first such letter, and what stands behind it: all and nothing, where there is none.
+pub(crate) fn split(bytes: &[u8], stop: Stop) -> (&[u8], &[u8])
+    ensures before { result.0.now ≡ until (parting stop) bytes.now }
+    ensures behind { result.1.now ≡ past (parting stop) bytes.now }
 {
-    let end = piece_end(bytes, from, stop);
-    if end < bytes.len() {
-        return Piece { end, next: end + 1 };
+    match bytes.iter().position(|&c| stop.parts(c)) {
+        Some(end) => (&bytes[..end], &bytes[end + 1..]),
+        None => (bytes, &[]),
     }
-    Piece { end, next: end }
+}
+
+/// All pieces, each ended by such a letter, the last perhaps by the end of all.
+#[derive(Clone, Copy, Debug)]
+pub(crate) struct Pieces<'a> {
+    rest: &'a [u8],
+    stop: Stop,
+}
+
+impl<'a> Pieces<'a> {
+    pub(crate) fn of(bytes: &'a [u8], stop: Stop) -> Pieces<'a>
+        ensures { pieces_left result ≡ pieces (parting stop) bytes.now }
+    {
+        Pieces { rest: bytes, stop }
+    }
+}
+
+impl<'a> Iterator for Pieces<'a> {
+    type Item = &'a [u8];
+
+    ghost next_gives = { YieldsFirstRef pieces_left };
+
+    ghost remaining = { item_count pieces_left };
+
+    #[tactic(auto, using(crate::proofs::Parting::pieces_more), unfolding(crate::specs::Pieces::pieces))]
+    fn next(&mut self) -> Option<&'a [u8]> {
+        if self.rest.is_empty() {
+            return None;
+        }
+        let (piece, rest) = split(self.rest, self.stop);
+        self.rest = rest;
+        Some(piece)
+    }
 }

@@ -1,186 +1,204 @@
 // A job file as text, which reads back as the same job.
-ghost use Rattle.std.specs.Prelude.{◌≡◌, cond, [], ◌++◌, ◌≤◌, length};
-ghost use Rattle.nodes.specs.Lists.{has};
-ghost use Rattle.nodes.specs.NodeSet.{highest};
+ghost use Rattle.std.specs.Prelude.{◌≡◌, ◌+◌, ◌%◌, ◌≤◌, cond, [], ◌++◌, eqb, get_or, length};
 ghost use Rattle.answers.specs.Answer.{gives};
-ghost use Rattle.answers.specs.Message.{codes};
+ghost use Rattle.answers.specs.Message.{codes, in_decimal};
 ghost use Rattle.records.specs.JobFile.{read_job};
-ghost use Rattle.records.specs.Views.{job_at};
+ghost use Rattle.records.specs.Views.{job_held};
 ghost use Rattle.demands.specs.Calls.{put};
 ghost use Rattle.calls.specs.Replies.{reply_of};
-ghost use Rattle.texts.specs.Shown.{shown_number, shown_nodes, shown_edge, shown_edges, shown_measured, shown_measurements, shown_text, show_text};
+ghost use Rattle.texts.specs.Shown.{shown_number, shown_nodes, edges_in_line, shown_edge, shown_edges, shown_measured, shown_measurements, shown_opening, shown_text, show_text};
+ghost use Rattle.texts.specs.Words.{names};
+ghost use Rattle.texts.specs.Views.{place_of, line_for};
 ghost use Rattle.texts.specs.Placed.{HasRoom, Puts};
 
-use crate::putting::{put_bytes, put_decimal, put_number};
+use crate::names::Name;
 use answers::Refusal;
-use records::common::{JobPlaces, number, payload};
-use records::reader::{read_job, set_of};
+use arrayvec::ArrayString;
+use itoa::Buffer;
+use records::encode::{Plain, write};
+use records::job_file::{JobFile, read_job};
 
-// The text of every job has room here.
+/// The text of every job has room here.
 pub const TEXT_ROOM: usize = 131072;
+
+type Text = ArrayString<TEXT_ROOM>;
 
 const EDGES_IN_LINE: usize = 8;
 
 // ---- Lists.
 
-// The nodes of a list behind its name.
-fn put_nodes(out: &mut [u8], at: usize, name: &[u8], nodes: &[u8]) -> usize
-    requires { HasRoom (name.now ++ shown_nodes nodes.now) out.old at }
-    ensures { Puts (name.now ++ shown_nodes nodes.now) out.old at out.new result }
+#[tactic(auto, using(crate::proofs::Decimals::decimal_as_std))]
+fn push_decimal(text: &mut Text, x: usize)
+    requires { HasRoom (in_decimal x) text.old.bytes }
+    ensures { Puts (in_decimal x) text.old.bytes text.new.bytes }
 {
-    let mut p = put_bytes(out, at, name);
-    let mut i = 0;
-    while i < nodes.len() {
-        p = put_number(out, p, number(nodes[i]));
-        i += 1;
+    text.push_str(Buffer::new().format(x));
+}
+
+// A number behind a blank.
+fn push_number(text: &mut Text, x: usize)
+    requires { HasRoom (shown_number x) text.old.bytes }
+    ensures { Puts (shown_number x) text.old.bytes text.new.bytes }
+{
+    text.push_str(" ");
+    push_decimal(text, x);
+}
+
+fn push_nodes(text: &mut Text, nodes: &[u8])
+    requires { HasRoom (shown_nodes nodes.now) text.old.bytes }
+    ensures { Puts (shown_nodes nodes.now) text.old.bytes text.new.bytes }
+{
+    for &v in nodes {
+        push_number(text, usize::from(v));
     }
-    p
+}
+
+// The name that begins a line.
+#[tactic(auto, unfolding(answers::specs::Message::codes))]
+fn push_name(text: &mut Text, name: Name)
+    requires { HasRoom (codes "\n" ++ get_or names (place_of name) []) text.old.bytes }
+    ensures { Puts (codes "\n" ++ get_or names (place_of name) []) text.old.bytes text.new.bytes }
+{
+    text.push_str("\n");
+    text.push_str(name.word());
 }
 
 // What begins a line of edges, before the first of them.
-fn put_beginning(out: &mut [u8], at: usize, first: bool) -> usize
-    requires { HasRoom (cond first (codes "\nedges") []) out.old at }
-    ensures { Puts (cond first (codes "\nedges") []) out.old at out.new result }
+#[tactic(auto, unfolding(answers::specs::Message::codes))]
+fn beginning(i: usize) -> &'static str
+    ensures { result.now ≡ cond (eqb (i % edges_in_line) 0) (codes "\nedges") [] }
 {
-    if first {
-        return put_bytes(out, at, b"\nedges");
+    if i % EDGES_IN_LINE == 0 {
+        "\nedges"
+    } else {
+        ""
     }
-    at
 }
 
-fn put_edge(out: &mut [u8], at: usize, i: usize, a: usize, b: usize) -> usize
-    requires { HasRoom (shown_edge i a b) out.old at }
-    ensures { Puts (shown_edge i a b) out.old at out.new result }
+#[tactic(auto, unfolding(answers::specs::Message::codes))]
+fn push_edge(text: &mut Text, i: usize, a: usize, b: usize)
+    requires { HasRoom (shown_edge i a b) text.old.bytes }
+    ensures { Puts (shown_edge i a b) text.old.bytes text.new.bytes }
 {
-    let start = put_beginning(out, at, i % EDGES_IN_LINE == 0);
-    let dash = put_number(out, start, a);
-    let end = put_bytes(out, dash, b"-");
-    put_decimal(out, end, b)
+    text.push_str(beginning(i));
+    push_number(text, a);
+    text.push_str("-");
+    push_decimal(text, b);
 }
 
-fn put_edges(out: &mut [u8], at: usize, edges: &[u8]) -> usize
-    requires { HasRoom (shown_edges 0 edges.now) out.old at }
-    ensures { Puts (shown_edges 0 edges.now) out.old at out.new result }
+fn push_edges(text: &mut Text, edges: &[u8])
+    requires { HasRoom (shown_edges 0 edges.now) text.old.bytes }
+    ensures { Puts (shown_edges 0 edges.now) text.old.bytes text.new.bytes }
 {
-    let count = edges.len() / 2;
-    let mut p = at;
-    let mut i = 0;
-    while i < count {
-        p = put_edge(out, p, i, number(edges[2 * i]), number(edges[2 * i + 1]));
-        i += 1;
+    for (i, edge) in edges.chunks_exact(2).enumerate() {
+        push_edge(text, i, usize::from(edge[0]), usize::from(edge[1]));
     }
-    p
 }
 
 // ---- Measurements.
 
-// A node that is measured so.
-fn put_measured(out: &mut [u8], at: usize, so: bool, v: usize) -> usize
-    requires { HasRoom (cond so (shown_number v) []) out.old at }
-    ensures { Puts (cond so (shown_number v) []) out.old at out.new result }
+// The nodes that are measured so: m is a byte of the payload, as the definition `shown_measured` has it.
+fn push_measured(text: &mut Text, m: u8, measurements: &[u8])
+    requires { HasRoom (shown_measured m 0 measurements.now) text.old.bytes }
+    ensures { Puts (shown_measured m 0 measurements.now) text.old.bytes text.new.bytes }
 {
-    if so {
-        return put_number(out, at, v);
+    for (v, &measurement) in measurements.iter().enumerate() {
+        if measurement == m {
+            push_number(text, v);
+        }
     }
-    at
 }
 
-// A line for a measurement that there is, with its name.
-fn put_measurement(out: &mut [u8], at: usize, name: &[u8], measurements: &[u8], m: u8) -> usize
-    requires m_le_highest { m ≤ highest }
-    requires room { HasRoom (cond (has measurements.now m) (name.now ++ shown_measured m 0 measurements.now) []) out.old at }
-    ensures { Puts (cond (has measurements.now m) (name.now ++ shown_measured m 0 measurements.now) []) out.old at out.new result }
+// The line of a measurement, with its name.
+#[tactic(auto, unfolding(answers::specs::Message::codes))]
+fn push_line(text: &mut Text, name: Name, m: u8, measurements: &[u8])
+    requires { HasRoom (codes "\n" ++ (get_or names (place_of name) [] ++ shown_measured m 0 measurements.now)) text.old.bytes }
+    ensures { Puts (codes "\n" ++ (get_or names (place_of name) [] ++ shown_measured m 0 measurements.now)) text.old.bytes text.new.bytes }
 {
-    if !set_of(measurements).has(number(m)) {
-        return at;
-    }
-    let mut p = put_bytes(out, at, name);
-    let mut v = 0;
-    while v < measurements.len() {
-        p = put_measured(out, p, measurements[v] == m, v);
-        v += 1;
-    }
-    p
+    push_name(text, name);
+    push_measured(text, m, measurements);
 }
 
-// The measurements are the bytes from 1 to 6.
-fn put_measurements(out: &mut [u8], at: usize, measurements: &[u8]) -> usize
-    requires { HasRoom (shown_measurements measurements.now) out.old at }
-    ensures { Puts (shown_measurements measurements.now) out.old at out.new result }
+// A line for the measurement of a name, where it has one and it is there.
+fn push_measurement(text: &mut Text, name: Name, measurements: &[u8])
+    requires { HasRoom (line_for name measurements.now) text.old.bytes }
+    ensures { Puts (line_for name measurements.now) text.old.bytes text.new.bytes }
 {
-    let second = put_measurement(out, at, b"\nXY", measurements, 1);
-    let third = put_measurement(out, second, b"\nYZ", measurements, 2);
-    let fourth = put_measurement(out, third, b"\nXZ", measurements, 3);
-    let fifth = put_measurement(out, fourth, b"\nX", measurements, 4);
-    let sixth = put_measurement(out, fifth, b"\nY", measurements, 5);
-    put_measurement(out, sixth, b"\nZ", measurements, 6)
+    let Some(m) = name.measurement() else {
+        return;
+    };
+    if measurements.contains(&m) {
+        push_line(text, name, m, measurements);
+    }
+}
+
+fn push_measurements(text: &mut Text, measurements: &[u8])
+    requires { HasRoom (shown_measurements measurements.now) text.old.bytes }
+    ensures { Puts (shown_measurements measurements.now) text.old.bytes text.new.bytes }
+{
+    for name in Name::ALL {
+        push_measurement(text, name, measurements);
+    }
 }
 
 // ---- The whole text.
 
-fn put_opening(out: &mut [u8], n: usize, mode: usize) -> usize
-    requires { HasRoom (codes "nodes" ++ (shown_number n ++ (codes " mode" ++ shown_number mode))) out.old 0 }
-    ensures { Puts (codes "nodes" ++ (shown_number n ++ (codes " mode" ++ shown_number mode))) out.old 0 out.new result }
+#[tactic(auto, unfolding(answers::specs::Message::codes))]
+fn push_opening(text: &mut Text, n: usize, mode: usize)
+    requires { HasRoom (codes "nodes" ++ (shown_number n ++ (codes " mode" ++ shown_number mode))) text.old.bytes }
+    ensures { Puts (codes "nodes" ++ (shown_number n ++ (codes " mode" ++ shown_number mode))) text.old.bytes text.new.bytes }
 {
-    let nodes = put_bytes(out, 0, b"nodes");
-    let name = put_number(out, nodes, n);
-    let end = put_bytes(out, name, b" mode");
-    put_number(out, end, mode)
+    text.push_str("nodes");
+    push_number(text, n);
+    text.push_str(" mode");
+    push_number(text, mode);
 }
 
-fn put_job(out: &mut [u8], file: &[u8], job: JobPlaces) -> usize
-    requires { HasRoom (shown_text (job_at file.now job)) out.old 0 }
-    ensures { Puts (shown_text (job_at file.now job)) out.old 0 out.new result }
+// The nodes of a list behind its name, on a line.
+#[tactic(auto, unfolding(answers::specs::Message::codes))]
+fn push_list(text: &mut Text, name: Name, nodes: &[u8])
+    requires { HasRoom (codes "\n" ++ (get_or names (place_of name) [] ++ shown_nodes nodes.now)) text.old.bytes }
+    ensures { Puts (codes "\n" ++ (get_or names (place_of name) [] ++ shown_nodes nodes.now)) text.old.bytes text.new.bytes }
 {
-    let edges = job.edges;
-    let inputs = job.inputs;
-    let outputs = job.outputs;
-    let measurements = job.measurements;
-    let first = put_opening(out, job.n, number(job.mode));
-    let second = put_edges(out, first, payload(file, edges));
-    let third = put_nodes(out, second, b"\ninputs", payload(file, inputs));
-    let fourth = put_nodes(out, third, b"\noutputs", payload(file, outputs));
-    let end = put_measurements(out, fourth, payload(file, measurements));
-    put_bytes(out, end, b"\n")
+    push_name(text, name);
+    push_nodes(text, nodes);
 }
 
-// The bytes at the front of the lent buffer. Do they fit it (20)?
-fn put_front(out: &mut [u8], bytes: &[u8]) -> Result<usize, Refusal>
-    ensures { record { answer = reply_of result; work = []; out = out.new } ≡ put [] bytes.now out.old }
+fn push_job(text: &mut Text, job: &JobFile<'_>)
+    requires { HasRoom (shown_text (job_held job.now)) text.old.bytes }
+    ensures { Puts (shown_text (job_held job.now)) text.old.bytes text.new.bytes }
 {
-    if out.len() < bytes.len() {
-        return Err(Refusal::ResultTooLong);
-    }
-    Ok(put_bytes(out, 0, bytes))
+    push_opening(text, job.n, usize::from(u8::from(job.mode)));
+    push_edges(text, job.edges);
+    push_list(text, Name::Inputs, job.inputs);
+    push_list(text, Name::Outputs, job.outputs);
+    push_measurements(text, job.measurements);
+    text.push_str("\n");
 }
 
-fn show_job(file: &[u8], job: JobPlaces, out: &mut [u8]) -> Result<usize, Refusal>
-    requires { (read_job file.now ≡ gives (job_at file.now job)) × ((job_at file.now job).after ≡ []) }
-    ensures { record { answer = reply_of result; work = []; out = out.new } ≡ put [] (shown_text (job_at file.now job)) out.old }
+// The file is that of the job alone, and has no angles.
+fn show_job(file: &[u8], job: &JobFile<'_>, out: &mut [u8]) -> Result<usize, Refusal>
+    requires { (read_job file.now ≡ gives (job_held job.now)) × ((job_held job.now).after ≡ []) }
+    ensures { record { answer = reply_of result; work = []; out = out.new } ≡ put [] (shown_text (job_held job.now)) out.old }
 {
-    let mut text = [0u8; TEXT_ROOM];
-    let end = put_job(&mut text, file, job);
-    put_front(out, &text[..end])
+    let mut text = Text::new();
+    push_job(&mut text, job);
+    let bytes = text.as_str().as_bytes();
+    write(&Plain { bytes }, out)
 }
 
-// Is nothing left (8)? Are there no angles, which a text has not and an operator may not see (24)?
-fn show_read(file: &[u8], job: JobPlaces, out: &mut [u8]) -> Result<usize, Refusal>
-    requires { (read_job file.now ≡ gives (job_at file.now job)) × (job.end ≤ length file.now) }
-    ensures { record { answer = reply_of result; work = []; out = out.new } ≡ show_text file.now out.old }
-{
-    if job.end != file.len() {
-        return Err(Refusal::BytesLeft);
-    }
-    if job.angled {
-        return Err(Refusal::NotTheOwner);
-    }
-    show_job(file, job, out)
-}
-
-// The text goes to the front of the lent buffer; a refusal leaves it untouched.
+/// The text goes to the front of the lent buffer; how many bytes it takes. A refusal leaves the buffer untouched.
+/// Behind the questions of the job: is nothing left (8)? Are there no angles, which a text has not and an operator may not see (24)?
+#[tactic(auto, unfolding(crate::specs::Shown::show_text, crate::specs::Shown::show_asks))]
 pub fn show_text(file: &[u8], out: &mut [u8]) -> Result<usize, Refusal>
     ensures { record { answer = reply_of result; work = []; out = out.new } ≡ show_text file.now out.old }
 {
     let job = read_job(file)?;
-    show_read(file, job, out)
+    if !job.after.is_empty() {
+        return Err(Refusal::BytesLeft);
+    }
+    if job.angles.is_some() {
+        return Err(Refusal::NotTheOwner);
+    }
+    show_job(file, &job, out)
 }

@@ -1,127 +1,64 @@
 // What a word is: one of the names, a number, or an edge.
-ghost use Rattle.std.specs.Prelude.{◌≡◌, ◌≤◌, length};
+ghost use Rattle.std.specs.Prelude.{◌≡◌};
 ghost use Rattle.std.proofs.Math.Option.{some};
-ghost use Rattle.texts.specs.Pieces.{parting, until, past, pieces};
-ghost use Rattle.texts.specs.Words.{names, name_count, place_in, with_digit, value_of, edge_of, word_of, value_in};
-ghost use Rattle.texts.specs.Words.{is_digit};
+ghost use Rattle.texts.specs.Pieces.{parting, until, past};
+ghost use Rattle.texts.specs.Words.{with_digit, value_of, edge_of, word_of};
+ghost use Rattle.texts.specs.Views.{value_in, edge_held, word_held};
 
-use crate::pieces::{Stop, piece_at};
-use records::signals::same_bytes;
+use crate::names::Name;
+use crate::pieces::{Stop, split};
 
-// A name by its place among the names.
-#[derive(Clone, Copy)]
+#[derive(Clone, Copy, Debug, PartialEq, Eq)]
 pub(crate) enum Word {
-    Name(u8),
+    Name(Name),
     Number(u8),
     Edge(u8, u8),
-    Other,
-}
-
-#[derive(Clone, Copy)]
-pub(crate) enum Value {
-    Byte(u8),
-    Nothing,
-}
-
-// How many names there are.
-pub(crate) const NAME_COUNT: u8 = 11;
-
-// ---- Names.
-
-// The place of a word in a list of words; behind its end, where it is not in it.
-fn place_in(list: &[u8], word: &[u8]) -> u8
-    requires { length (pieces (parting Stop.Blank) list.now) ≤ name_count }
-    ensures { result ≡ place_in (pieces (parting Stop.Blank) list.now) word.now }
-{
-    let mut k = 0;
-    let mut at = 0;
-    while at < list.len() {
-        let p = piece_at(list, at, Stop::Blank);
-        let end = p.end;
-        if same_bytes(&list[at..end], word) {
-            return k;
-        }
-        k += 1;
-        at = p.next;
-    }
-    k
-}
-
-fn name_of(word: &[u8]) -> u8
-    ensures { result ≡ place_in names word.now }
-{
-    place_in(b"nodes mode edges inputs outputs XY YZ XZ X Y Z", word)
 }
 
 // ---- Numbers.
 
-fn is_digit(c: u8) -> bool
-    ensures { result ≡ is_digit c }
-{
-    if c < b'0' {
-        return false;
-    }
-    c <= b'9'
-}
-
-fn with_digit(v: u8, c: u8) -> Value
+fn with_digit(v: u8, c: u8) -> Option<u8>
     ensures { value_in result ≡ with_digit (some v) c }
 {
-    if !is_digit(c) {
-        return Value::Nothing;
+    if !c.is_ascii_digit() {
+        return None;
     }
-    let x = 10 * v as u16 + (c - b'0') as u16;
-    if x > 255 {
-        return Value::Nothing;
-    }
-    Value::Byte(x as u8)
+    v.checked_mul(10)?.checked_add(c - b'0')
 }
 
-fn value_of(digits: &[u8]) -> Value
+fn value_of(digits: &[u8]) -> Option<u8>
     ensures { value_in result ≡ value_of digits.now }
 {
-    if digits.len() == 0 {
-        return Value::Nothing;
+    if digits.is_empty() {
+        return None;
     }
     let mut v = 0;
-    let mut i = 0;
-    while i < digits.len() {
-        let Value::Byte(x) = with_digit(v, digits[i]) else {
-            return Value::Nothing;
-        };
-        v = x;
-        i += 1;
+    for &c in digits {
+        v = with_digit(v, c)?;
     }
-    Value::Byte(v)
+    Some(v)
 }
 
 // ---- Words.
 
-// A word that is no number: two numbers joined by a dash?
-fn edge_of(word: &[u8]) -> Word
-    ensures { result ≡ edge_of (value_of (until (parting Stop.Dash) word.now)) (value_of (past (parting Stop.Dash) word.now)) }
+/// Two numbers joined by a dash.
+fn edge_of(word: &[u8]) -> Option<(u8, u8)>
+    ensures { edge_held result ≡ edge_of (value_of (until (parting Stop.Dash) word.now)) (value_of (past (parting Stop.Dash) word.now)) }
 {
-    let p = piece_at(word, 0, Stop::Dash);
-    let end = p.end;
-    let next = p.next;
-    let Value::Byte(a) = value_of(&word[..end]) else {
-        return Word::Other;
-    };
-    let Value::Byte(b) = value_of(&word[next..]) else {
-        return Word::Other;
-    };
-    Word::Edge(a, b)
+    let (first, second) = split(word, Stop::Dash);
+    Some((value_of(first)?, value_of(second)?))
 }
 
-pub(crate) fn word_of(word: &[u8]) -> Word
-    ensures { result ≡ word_of word.now }
+/// None of these is no word of a text.
+pub(crate) fn word_of(word: &[u8]) -> Option<Word>
+    ensures { word_held result ≡ word_of word.now }
 {
-    let k = name_of(word);
-    if k < NAME_COUNT {
-        return Word::Name(k);
+    if let Some(name) = Name::of(word) {
+        return Some(Word::Name(name));
     }
-    match value_of(word) {
-        Value::Byte(x) => Word::Number(x),
-        Value::Nothing => edge_of(word),
+    if let Some(x) = value_of(word) {
+        return Some(Word::Number(x));
     }
+    let (a, b) = edge_of(word)?;
+    Some(Word::Edge(a, b))
 }

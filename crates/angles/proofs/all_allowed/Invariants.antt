@@ -1,13 +1,9 @@
 use mathlib.Core.Path.{◌≡◌}
 use mathlib.Core.Bool.{true}
-use Prim.Native.Nat.{◌-◌, ◌≤◌}
 use Rattle.nodes.specs.Row.{all_below}
 use Rattle.nodes.specs.NodeSet.{member}
 use Rattle.angles.proofs.AngleRecord.{allowed_at}
 use Rattle.angles.proofs.all_allowed.Given as goal
 
 abbrev pub invariant-loop-u : goal.invariant-loop-u
-invariant-loop-u l = (l.u ≤ l.n) × (all_below l.u (allowed_at (member l.outputs) l.angles) ≡ true)
-
-abbrev pub decreases-loop-u : goal.decreases-loop-u
-decreases-loop-u l = l.n - l.u
+invariant-loop-u l = all_below l.u (allowed_at (member l.outputs) l.angles) ≡ true

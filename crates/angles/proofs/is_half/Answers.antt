@@ -5,6 +5,6 @@ pub returns-then-x : goal.returns-then-x
 unfolding of_bits
 returns-then-x c = simp c.if-x.true
 
-pub returns : goal.returns
+pub returns-else-x : goal.returns-else-x
 unfolding of_bits
-returns c = simp c.if-x.false
+returns-else-x c = simp c.if-x.false

@@ -1,33 +1,24 @@
-use mathlib.Core.Bool.{not}
-use mathlib.Core.Path.{sym, ◌∙◌, ap}
-use Prim.Native.Nat.{◌≤◌}
-use native.Mathlib.Omega.{arith}
-use native.Mathlib.Nat.{not-suc-le-zero}
-use lib.ListN.{length}
-use borrow.Author.Tests.{not-true, not-false}
-use Rattle.nodes.proofs.Logic.{from_true}
-use Rattle.compare.specs.Buffers.{holds_at}
-use Rattle.compare.proofs.Buffers.{one_more, too_short, not_held, all_held}
+use mathlib.Core.Path.{◌∙◌, ap}
+use mathlib.Core.List.{List}
+use Rattle.std.proofs.Common.{ℕ, sym}
 use borrow.Author.Rules.{rules}
+use borrow.Author.Tests.{tests}
+use lib.Dec.{eqb}
+use Rattle.std.proofs.lemmas.Bool.Decides.{Decides-eqb}
+use Rattle.std.proofs.lemmas.Iterator.{YieldsList-from_slice}
+use Rattle.std.proofs.lemmas.Iterator.Search.{all_from_yields_List}
+use Rattle.std.proofs.lemmas.Slice.Eq.{strip_prefix_is}
+use Rattle.compare.specs.Buffers.{holds_only}
+use Rattle.compare.proofs.Buffers.{held, not_held}
 use Rattle.compare.proofs.holds.Goals as goal
 
-pub returns-then-buffer-res : goal.returns-then-buffer-res
-returns-then-buffer-res c = let a = c.args in too_short a.buffer.now a.res.now a.fill c.if-buffer-res.true
+pub returns-in-Some : goal.returns-in-Some
+returns-in-Some c = let a = c.args in
+    let is = rw c.in-Some.is at (strip_prefix_is Decides-eqb a.buffer.now a.res.now c.strip_prefix.result c.strip_prefix.ensures.cases) in
+    all_from_yields_List (λ (b : ℕ). eqb b a.fill) c.all.new.self _ _ c.all.ensures.ran (YieldsList-from_slice c.in-Some.behind.now cc) (λ x b q k. search (rules, tests))
+    ∙ held a.res.now c.in-Some.behind.now a.fill
+    ∙ ap (λ (s : List ℕ). holds_only s a.res.now a.fill) (sym is)
 
-pub loop-i-init : goal.loop-i-init
-loop-i-init c = (search rules, λ k l. absurd (not-suc-le-zero l))
-
-pub returns-then-not-matches : goal.returns-then-not-matches
-returns-then-not-matches c = let a = c.args in
-    not_held a.buffer.now a.res.now a.fill (omega arith) c.loop-i.i (omega arith) (sym c.matches.ensures ∙ not-true _ (ap not c.if-not-matches.true))
-
-pub loop-i-preserved : goal.loop-i-preserved
-loop-i-preserved c = let a = c.args in
-    let l = c.loop-i in
-    (search rules, one_more (holds_at a.buffer.now a.res.now a.fill) l.i l.invariant.1 (from_true _ (sym c.matches.ensures ∙ not-false _ (ap not c.if-not-matches.false))))
-
-pub returns : goal.returns
-returns c = let a = c.args in
-    let l = c.loop-i in
-    let e : length a.buffer.now ≤ l.i = omega arith in
-    all_held a.buffer.now a.res.now a.fill (omega arith) (λ k m. l.invariant.1 k (omega arith))
+pub returns-in-None : goal.returns-in-None
+returns-in-None c = let a = c.args in
+    not_held a.res.now a.buffer.now a.fill (rw c.in-None.is at (strip_prefix_is Decides-eqb a.buffer.now a.res.now c.strip_prefix.result c.strip_prefix.ensures.cases))

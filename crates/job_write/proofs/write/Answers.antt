@@ -6,7 +6,7 @@ use Rattle.texts.proofs.Made.{made_few}
 use Rattle.job_write.proofs.write.Goals as goal
 
 pub slice_bounds-file-end : goal.slice_bounds-file-end
-slice_bounds-file-end c = let few = made_few _ _ _ _ c.in-Wrote.ensures refl in omega (arith, few, length-replicate {A = ℕ} most_job 0)
+slice_bounds-file-end c = let few = made_few _ _ _ _ c.in-Ok.ensures refl in omega (arith, few, length-replicate {A = ℕ} most_job 0)
 
 pub slice_bounds-write_output-end : goal.slice_bounds-write_output-end
-slice_bounds-write_output-end c = let few = made_few _ _ _ _ c.in-Wrote.ensures refl in sym (length-take-le c.in-Wrote.k c.write_text.new.out (omega (arith, few, length-replicate {A = ℕ} most_job 0)))
+slice_bounds-write_output-end c = let few = made_few _ _ _ _ c.in-Ok.ensures refl in sym (length-take-le c.in-Ok.k c.write_text.new.out (omega (arith, few, length-replicate {A = ℕ} most_job 0)))

@@ -15,9 +15,9 @@ pub returns : goal.returns
 returns c = let a = c.args in
     let l = a.layers.now in
     let wrote = c.write_flow in
-    let all : a.n - 0 ≡ a.n = omega arith in
-    let nodes = c.difference-nodes.ensures ∙ ap {B = ℕ → Bool} (λ (g : ℕ → Bool) (u : ℕ). g u && not (member a.outputs u)) c.below.ensures in
+    let all : a.job.now.n - 0 ≡ a.job.now.n = omega arith in
+    let nodes = c.difference-nodes.ensures ∙ ap {B = ℕ → Bool} (λ (g : ℕ → Bool) (u : ℕ). g u && not (member a.job.now.outputs u)) c.below.ensures in
     let bytes = ap₂ (λ (k : ℕ) (g : ℕ → Bool). flow_records (take k l) capacity (set_at a.sets.now) (members capacity g)) all nodes in record {
-      result_value = c.answered.ensures ∙ wrote.ensures.result_value ∙ ap (λ (b : List ℕ). put_answer b a.out.now) bytes;
+      result_value = wrote.ensures.result_value ∙ ap (λ (b : List ℕ). put_answer b a.out.now) bytes;
       out_after = wrote.ensures.out_after ∙ ap (λ (b : List ℕ). put_front b a.out.now) bytes;
     }

@@ -1,28 +1,22 @@
 use mathlib.Core.Path.{refl}
 use native.Mathlib.Omega.{arith}
-use Rattle.records.specs.Views.{flow_at}
+use Rattle.records.specs.Views.{flow_held}
 use Rattle.calls.proofs.Loaded.{first_none, first_more, first_all}
 use borrow.Author.Rules.{rules}
 use Rattle.calls.proofs.load.load_layers.Goals as goal
 
-pub loop-i-init : goal.loop-i-init
-loop-i-init c = (search rules, refl, first_none (flow_at c.args.file.now c.args.flow).layers c.args.to.now c.requires.1)
+pub loop-u-init : goal.loop-u-init
+loop-u-init c = (refl, first_none (flow_held c.args.flow.now).layers c.args.to.now c.requires.1)
 
-pub bounds-to-i : goal.bounds-to-i
-bounds-to-i c = omega (arith, c.loop-i.invariant.1, c.requires.0, c.layer_count-n.ensures)
+pub bounds-to-u : goal.bounds-to-u
+bounds-to-u c = omega (arith, c.loop-u.invariant.0, c.requires.0, c.layer_count-u-end.ensures)
 
-pub loop-i-smaller : goal.loop-i-smaller
-loop-i-smaller c = omega (arith, c.layer_count-n.ensures)
-
-pub loop-i-preserved : goal.loop-i-preserved
-loop-i-preserved c = let l = c.loop-i in
-    let numbers = (flow_at c.args.file.now c.args.flow).layers in
-    let count = c.layer_count-n.ensures in (
-      omega (arith, count),
-      search rules,
-      rw c.layer_of.ensures (first_more numbers l.to l.i (omega (arith, l.invariant.1, c.requires.0, count)) l.invariant.2),
-    )
+pub loop-u-preserved : goal.loop-u-preserved
+loop-u-preserved c =
+    let l = c.loop-u in
+    (search rules, rw c.layer_of.ensures (first_more (flow_held c.args.flow.now).layers l.to l.u (omega (arith, l.invariant.0, c.requires.0, c.layer_count-u-end.ensures)) l.invariant.1))
 
 pub returns : goal.returns
-returns c = let l = c.loop-i in
-    first_all (flow_at c.args.file.now c.args.flow).layers l.to l.i (omega (arith, c.layer_count-n.ensures)) l.invariant.2
+returns c =
+    let l = c.loop-u in
+    first_all (flow_held c.args.flow.now).layers l.to l.u (omega (arith, c.layer_count-u-end.ensures)) l.invariant.1

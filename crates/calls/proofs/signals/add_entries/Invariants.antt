@@ -1,13 +1,10 @@
-use Prim.Native.Nat.{◌-◌}
 use mathlib.Core.Path.{◌≡◌}
 use mathlib.Core.Bool.{true, false}
-use lib.ListN.{length}
 use Rattle.nodes.specs.SetTable.{set_at}
+use Rattle.records.specs.FlowFile.{entries_of, listed}
 use Rattle.calls.proofs.BuildingSignals.{IsEntered, list_up_to}
 use Rattle.calls.proofs.signals.add_entries.Given as goal
 
-abbrev pub invariant-loop-at : goal.invariant-loop-at
-invariant-loop-at l = IsEntered l.n l.sets l.at × (l.rows ≡ list_up_to l.n (set_at l.graph) false l.sets l.at) × (l.odds ≡ list_up_to l.n (set_at l.graph) true l.sets l.at)
-
-abbrev pub decreases-loop-at : goal.decreases-loop-at
-decreases-loop-at l = length l.sets - l.at
+abbrev pub invariant-loop-e : goal.invariant-loop-e
+invariant-loop-e l = IsEntered l.n (listed (entries_of l.sets)) (listed (entries_of l.e-iterator.rest.now)) × (l.rows ≡ list_up_to l.n (set_at l.graph) false (listed (entries_of l.sets)) (listed (entries_of l.e-iterator.rest.now)))
+    × (l.odds ≡ list_up_to l.n (set_at l.graph) true (listed (entries_of l.sets)) (listed (entries_of l.e-iterator.rest.now)))

@@ -1,6 +1,6 @@
-use Prim.Native.Nat.{ℕ, ◌-◌, ◌≤◌}
+use Prim.Native.Nat.{ℕ}
 use mathlib.Core.Path.{◌≡◌}
-use lib.ListN.{length, drop}
+use lib.ListN.{drop}
 use Rattle.nodes.specs.Bit.{◌⊕◌}
 use Rattle.nodes.specs.NodeSet.{member}
 use Rattle.nodes.specs.SetTable.{set_at}
@@ -8,7 +8,4 @@ use Rattle.calls.specs.Loaded.{odd_among}
 use Rattle.calls.proofs.signals.odd_of_members.Given as goal
 
 abbrev pub invariant-loop-k : goal.invariant-loop-k
-invariant-loop-k l = (l.k ≤ length l.members) × ((v : ℕ) → odd_among (λ u. set_at l.graph u v) l.members ≡ member l.odd v ⊕ odd_among (λ u. set_at l.graph u v) (drop l.k l.members))
-
-abbrev pub decreases-loop-k : goal.decreases-loop-k
-decreases-loop-k l = length l.members - l.k
+invariant-loop-k l = (v : ℕ) → odd_among (λ u. set_at l.graph u v) l.members ≡ member l.odd v ⊕ odd_among (λ u. set_at l.graph u v) (drop l.k-index l.members)

@@ -1,16 +1,15 @@
 use mathlib.Core.Path.{◌≡◌}
 use mathlib.Core.Option.{Option}
-use mathlib.Core.List.{List, []}
 use Prim.Native.Nat.{ℕ, ◌-◌}
-use Rattle.nodes.specs.declared.utils.NodeSet.{NodeSet}
-use Rattle.finder.specs.Searches.{job_in}
 use Rattle.answers.specs.Answer.{Refusal}
 use Rattle.verdicts.specs.Verdict.{each, each_from, input_ask}
-use Rattle.calls.specs.Loaded.{flow_in, no_nodes}
+use Rattle.calls.specs.Loaded.{job_loaded, flow_loaded}
+use Rattle.calls.specs.declared.job.Job.{Job as JobLoaded}
+use Rattle.calls.specs.declared.job.Flow.{Flow as FlowLoaded}
 use Rattle.calls.proofs.validate.check_codomain.Given as goal
 
-abbrev pub asks : ℕ → NodeSet → List ℕ → ℕ → Option Refusal
-asks n inputs sets u = each n (input_ask (job_in n [] inputs no_nodes []) (flow_in [] no_nodes sets) u)
+abbrev pub asks : JobLoaded → FlowLoaded → ℕ → Option Refusal
+asks job flow u = each job.n (input_ask (job_loaded job) (flow_loaded flow) u)
 
 abbrev pub invariant-loop-u : goal.invariant-loop-u
-invariant-loop-u l = each l.n (asks l.n l.inputs l.sets) ≡ each_from l.u (l.n - l.u) (asks l.n l.inputs l.sets)
+invariant-loop-u l = each l.job.n (asks l.job l.flow) ≡ each_from l.u (l.job.n - l.u) (asks l.job l.flow)

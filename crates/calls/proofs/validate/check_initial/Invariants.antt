@@ -1,16 +1,16 @@
 use mathlib.Core.Path.{◌≡◌}
 use mathlib.Core.Option.{Option}
-use mathlib.Core.List.{List, []}
 use Prim.Native.Nat.{ℕ, ◌-◌}
-use Rattle.nodes.specs.declared.utils.NodeSet.{NodeSet}
-use Rattle.finder.specs.Searches.{job_in}
+use Rattle.flows.specs.Numbers.{mode_number}
 use Rattle.answers.specs.Answer.{Refusal}
 use Rattle.verdicts.specs.Verdict.{each, each_from, layer_ask}
-use Rattle.calls.specs.Loaded.{flow_in, no_nodes}
+use Rattle.calls.specs.Loaded.{job_loaded, flow_loaded}
+use Rattle.calls.specs.declared.job.Job.{Job as JobLoaded}
+use Rattle.calls.specs.declared.job.Flow.{Flow as FlowLoaded}
 use Rattle.calls.proofs.validate.check_initial.Given as goal
 
-abbrev pub asks : ℕ → ℕ → NodeSet → List ℕ → ℕ → Option Refusal
-asks n mode outputs layers = layer_ask (job_in n [] no_nodes outputs []) (flow_in layers no_nodes []) mode
+abbrev pub asks : JobLoaded → FlowLoaded → ℕ → Option Refusal
+asks job flow u = layer_ask (job_loaded job) (flow_loaded flow) (mode_number job.mode) u
 
 abbrev pub invariant-loop-u : goal.invariant-loop-u
-invariant-loop-u l = each l.n (asks l.n l.mode l.outputs l.layers) ≡ each_from l.u (l.n - l.u) (asks l.n l.mode l.outputs l.layers)
+invariant-loop-u l = each l.job.n (asks l.job l.flow) ≡ each_from l.u (l.job.n - l.u) (asks l.job l.flow)

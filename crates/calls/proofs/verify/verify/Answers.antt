@@ -1,9 +1,8 @@
-use Rattle.std.proofs.lemmas.Result.{err_from_is_err_and}
 use mathlib.Core.Path.{refl, ◌∙◌}
 use mathlib.Core.List.{[]}
 use Rattle.records.specs.Records.{written, kind_accepted}
 use Rattle.calls.proofs.Finding.{put_is}
-use Rattle.calls.proofs.LoadingFiles.{call_passed, call_stopped}
+use Rattle.calls.proofs.LoadingFiles.{call_passed}
 use Rattle.calls.proofs.verify.verify.Goals as goal
 
 pub returns : goal.returns

@@ -1,8 +1,6 @@
-use Prim.Native.Nat.{ℕ}
-use mathlib.Core.Path.{refl, sym, ap, ◌∙◌}
+use mathlib.Core.Path.{refl, sym}
 use mathlib.Core.Option.{some}
 use Rattle.records.specs.JobLists.{JobLists, given}
-use Rattle.demands.specs.Calls.{write_job_call}
 use Rattle.demands.proofs.Roles.{owners_only}
 use Rattle.calls.proofs.write.write_job_angles.Goals as goal
 use Rattle.calls.proofs.write.write_job_angles.Goals.{Start}
@@ -12,7 +10,3 @@ lists s = let a = s.args in given a.n a.mode a.edges.now a.inputs.now a.outputs.
 
 pub returns-then-role-ne-OWNER : goal.returns-then-role-ne-OWNER
 returns-then-role-ne-OWNER c = sym (owners_only.written c.args.role c.if-role-ne-OWNER.true (lists (goal.at.returns-then-role-ne-OWNER c).Start) refl c.args.out.now)
-
-pub returns : goal.returns
-returns c =
-    c.write_lists.ensures ∙ ap (λ (role : ℕ). write_job_call role (lists (goal.at.returns c).Start) c.args.out.now) (sym c.if-role-ne-OWNER.false)

@@ -13,9 +13,9 @@ use Rattle.finder.proofs.matrix.fill.Goals as goal
 pub returns : goal.returns
 returns c =
     let call-count = c.count-start in
-    let a = c.args in let u = member a.s.upper in let l = member a.s.lower in let f = row_bit a.transposed.now (member a.s.columns) false in let g = row_bit a.transposed.now (member a.s.columns) true in
+    let a = c.args in let u = member a.s.now.upper in let l = member a.s.now.lower in let f = row_bit a.transposed.now (member a.s.now.columns) false in let g = row_bit a.transposed.now (member a.s.now.columns) true in
     let e = ap (λ (x : ℕ). x * row_bytes) call-count.ensures in let p = c.put_rows in let q = c.put_rows-2 in
     let room : call-count.result * row_bytes ≤ length p.new.work = omega (arith, p.ensures.1, call-count.ensures, c.requires) in record {
-      laid_out = both_upper u l f g _ p.new.work q.new.work _ e room (member-lt a.s.upper) refl p.ensures.0;
-      laid_out_2 = (both_lower u l f g _ p.new.work q.new.work _ e room (member-lt a.s.upper) refl q.ensures.0, both_size u l f g _ p.new.work q.new.work _ e room (member-lt a.s.upper) refl q.ensures.1 ∙ p.ensures.1);
+      laid_out = both_upper u l f g _ p.new.work q.new.work _ e room (member-lt a.s.now.upper) refl p.ensures.0;
+      laid_out_2 = (both_lower u l f g _ p.new.work q.new.work _ e room (member-lt a.s.now.upper) refl q.ensures.0, both_size u l f g _ p.new.work q.new.work _ e room (member-lt a.s.now.upper) refl q.ensures.1 ∙ p.ensures.1);
     }

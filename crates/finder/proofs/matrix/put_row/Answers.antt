@@ -4,5 +4,5 @@ use Rattle.finder.proofs.matrix.put_row.Goals as goal
 
 pub returns : goal.returns
 returns c =
-    let call-put-word = c.put_word in
-    let a = c.args in row_put a.row _ _ a.s a.work.now call-put-word.new.work c.put_word-2.new.work refl refl call-put-word.ensures c.put_word-2.ensures
+    let a = c.args in
+    row_put a.row _ _ a.s a.work.now c.put_word.new.work c.put_word-2.new.work refl refl (rw c.words-words.ensures at c.put_word.ensures) (rw c.words-words.ensures at c.put_word-2.ensures)

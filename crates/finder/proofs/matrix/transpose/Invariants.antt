@@ -1,10 +1,13 @@
-use Rattle.nodes.specs.Row.{count}
-use Rattle.nodes.specs.NodeSet.{capacity, member}
+use mathlib.Core.Bool.{not, ◌&&◌}
+use Rattle.nodes.specs.Row.{members}
+use Rattle.nodes.specs.NodeSet.{capacity, member, left_of}
+use Rattle.nodes.proofs.Left.{listed}
 use Rattle.finder.proofs.WorkMatrix.{IsGrowing}
 use Rattle.finder.proofs.matrix.transpose.Given as goal
 
-abbrev pub invariant-loop-left : goal.invariant-loop-left
-invariant-loop-left l = IsGrowing l.graph (member l.known) (member l.initial.left) (member l.left) l.rows l.transposed
-
-abbrev pub decreases-loop-left : goal.decreases-loop-left
-decreases-loop-left l = count capacity (member l.left)
+abbrev pub invariant-loop-k : goal.invariant-loop-k
+invariant-loop-k l = record {
+  can : goal.iterator-loop-k.can_next l.k-iterator;
+  ends : goal.iterator-loop-k.is_finite l.k-iterator;
+  growing : IsGrowing l.graph (member l.known) (λ k. member l.fn.columns k && not (member l.known k)) (listed (members capacity (left_of l.k-iterator.set l.k-iterator.at l.k-iterator.left))) l.rows l.transposed;
+}

@@ -11,6 +11,6 @@ pub returns : goal.returns
 returns c =
     let a = c.args in record {
       sets_after = start_cut a.n c.requires.0 a.outputs c.intersection-solved.result _ _ (length a.layers.now) (length a.sets.now)
-          (c.intersection-solved.ensures ∙ ap {B = ℕ → Bool} (λ (f : ℕ → Bool) (u : ℕ). member a.outputs u && f u) c.below.ensures) c.clear_layers.ensures c.clear_table.ensures;
+          (c.intersection-solved.ensures ∙ ap {B = ℕ → Bool} (λ (f : ℕ → Bool) (u : ℕ). member a.outputs u && f u) c.below.ensures) (search rules) c.clear_table.ensures;
       columns_value = (c.empty-none.ensures, search rules, search rules);
     }

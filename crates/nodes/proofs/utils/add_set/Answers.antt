@@ -9,4 +9,4 @@ use Rattle.nodes.proofs.utils.add_set.Goals as goal
 
 pub returns : goal.returns
 unfolding add_words
-returns c = let a = c.args in let next : set_words * a.u + 1 ≡ suc (set_words * a.u) = omega arith in c.add_word-2.ensures ∙ ap₂ (λ (l : List ℕ) (i : ℕ). set l i (bit_xor (get_or l i 0) a.x.high)) c.add_word.ensures next
+returns c = let a = c.args in let next : set_words * a.u + 1 ≡ suc (set_words * a.u) = omega arith in rw (← c.x.view_is) (c.add_word-2.ensures ∙ ap₂ (λ (l : List ℕ) (i : ℕ). set l i (bit_xor (get_or l i 0) (get_or c.x.inside.words 1 0))) c.add_word.ensures next)

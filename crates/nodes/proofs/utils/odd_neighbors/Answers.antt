@@ -1,40 +1,28 @@
-use mathlib.Core.Path.{sym, ap, ◌∙◌, fun_ext}
-use mathlib.Core.Bool.{Bool, not}
-use native.Mathlib.Omega.{arith}
-use Prim.Native.Nat.{ℕ}
+use Rattle.std.proofs.Common.{◌≡◌, ℕ, Bool, List, ◌∷◌, sym, ap, ◌∙◌}
+use mathlib.Core.Path.{fun_ext}
 use Rattle.nodes.specs.Bit.{◌⊕◌}
-use Rattle.nodes.specs.Row.{any_below, count}
+use Rattle.nodes.specs.Row.{members}
 use Rattle.nodes.specs.NodeSet.{capacity, member}
 use Rattle.nodes.specs.SetTable.{set_at}
-use Rattle.nodes.proofs.Logic.{unless_in, unless_out, ⊕_none}
-use Rattle.nodes.proofs.Remove.{count-lowest}
-use Rattle.nodes.proofs.SetTable.{sum_of, sum_none, sum_step}
+use Rattle.nodes.proofs.Logic.{⊕_none, ⊕_assoc}
+use Rattle.nodes.proofs.Left.{odd_over, odd-members}
 use Rattle.nodes.proofs.utils.odd_neighbors.Goals as goal
 
-pub loop-s-init : goal.loop-s-init
-loop-s-init c =
-    let a = c.args in
-    λ v. ap (λ (f : ℕ → Bool). f v ⊕ sum_of a.g.now (member a.kset) v) c.empty-odd.ensures
+-- one set is added, and is the first of those that are left
+add_step : (t odd row both : List ℕ) (k v : ℕ) (items others : List ℕ) (all : Bool)
+    → member both ≡ (λ u. member odd u ⊕ member row u) → member row ≡ set_at t k → items ≡ k ∷ others
+    → member odd v ⊕ odd_over (λ j. set_at t j v) items ≡ all → member both v ⊕ odd_over (λ j. set_at t j v) others ≡ all
+add_step t odd row both k v items others all e f g h =
+    ap (λ (s : ℕ → Bool). s v ⊕ odd_over (λ j. set_at t j v) others) e
+    ∙ ap (λ (s : ℕ → Bool). (member odd v ⊕ s v) ⊕ odd_over (λ j. set_at t j v) others) f
+    ∙ ⊕_assoc (member odd v) (set_at t k v) (odd_over (λ j. set_at t j v) others)
+    ∙ ap (λ (l : List ℕ). member odd v ⊕ odd_over (λ j. set_at t j v) l) (sym g) ∙ h
 
-pub loop-s-smaller : goal.loop-s-smaller
-loop-s-smaller c =
-    let s = c.loop-s.s in
-    let left = unless_in c.is_empty.result (any_below capacity (member s)) c.is_empty.ensures (ap not c.loop-s-test.true) in
-    let fewer = ap (count capacity) c.without_lowest-s.ensures in
-    omega (arith, count-lowest capacity (member s) left, fewer)
-
-pub loop-s-preserved : goal.loop-s-preserved
-loop-s-preserved c =
-    let l = c.loop-s in
-    let g = c.args.g.now in
-    let left = unless_in c.is_empty.result (any_below capacity (member l.s)) c.is_empty.ensures (ap not c.loop-s-test.true) in
-    let row = c.set_at.ensures ∙ ap (set_at g) c.lowest-k.ensures in
-    let added = c.xor-odd.ensures ∙ ap {B = ℕ → Bool} (λ (f : ℕ → Bool) (u : ℕ). member l.odd u ⊕ f u) row in
-    λ v. sum_step g (member l.s) (member l.odd) (member c.without_lowest-s.result) (member c.xor-odd.result) left c.without_lowest-s.ensures added v ∙ l.invariant v
+pub loop-k-preserved : goal.loop-k-preserved
+loop-k-preserved c =
+    record { can = tt; ends = tt; so_far = λ v. add_step c.args.g.now c.loop-k.odd c.set_at.result c.xor-odd.result _ v _ _ _ c.xor-odd.ensures c.set_at.ensures c.in-Some.ensures.steps (c.loop-k.invariant.so_far v) }
 
 pub returns : goal.returns
 returns c =
-    let l = c.loop-s in
-    let g = c.args.g.now in
-    let none = unless_out c.is_empty.result (any_below capacity (member l.s)) c.is_empty.ensures (ap not c.loop-s-test.false) in
-    fun_ext (λ v. sym (⊕_none (member l.odd v)) ∙ ap (λ (b : Bool). member l.odd v ⊕ b) (sym (sum_none g (member l.s) none v)) ∙ l.invariant v)
+    fun_ext (λ v. sym (⊕_none (member c.loop-k.odd v)) ∙ ap (λ (l : List ℕ). member c.loop-k.odd v ⊕ odd_over (λ k. set_at c.args.g.now k v) l) (sym c.in-None.ensures.steps.0)
+    ∙ c.loop-k.invariant.so_far v ∙ odd-members _ _ _)

@@ -11,7 +11,7 @@ bounds-table-at-then-u-table c = simp length-set (omega arith)
 pub returns-then-u-table : goal.returns-then-u-table
 returns-then-u-table c =
     let a = c.args in
-    put_words a.table.now a.u a.s.low a.s.high (omega arith)
+    rw (← c.s.view_is) (put_words a.table.now a.u _ _ (omega arith))
 
 pub returns-else-u-table : goal.returns-else-u-table
 returns-else-u-table c =

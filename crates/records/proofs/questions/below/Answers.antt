@@ -8,33 +8,30 @@ use borrow.Author.Tests.{lt-ltb}
 use Rattle.nodes.proofs.Logic.{and_all, and_turn}
 use Rattle.nodes.specs.Lists.{all}
 use Rattle.records.proofs.ReadingLoops.{all_end, all_next, covers, none_below}
-use borrow.Author.Rules.{rules}
 use Rattle.records.proofs.questions.below.Goals as goal
 use Rattle.records.proofs.questions.below.Goals.{else-v-top, then-v-top}
 
 pub returns-then-n-eq0 : goal.returns-then-n-eq0
 returns-then-n-eq0 c = rw c.if-n-eq0.true (sym (none_below c.args.nodes.now))
 
-pub loop-i-init : goal.loop-i-init
-loop-i-init c = (search rules, rw (lt-ltb 0 c.args.n (omega arith)))
+pub loop-v-init : goal.loop-v-init
+loop-v-init c = rw (lt-ltb 0 c.args.n (omega arith))
 
-pub loop-i-preserved : goal.loop-i-preserved
-loop-i-preserved c =
-    let l = c.loop-i in
+pub loop-v-preserved : goal.loop-v-preserved
+loop-v-preserved c =
+    let l = c.loop-v in
     let a = c.args in
     let p = a.nodes.now in
-    let rest : Bool = all (λ v. ltb v a.n) (drop (l.i + 1) p) in
-    let v = get_or p l.i 0 in
-    let step : all (λ v. ltb v a.n) p ≡ ltb l.top a.n && (ltb v a.n && rest) = l.invariant.1 ∙ ap (λ (x : Bool). ltb l.top a.n && x) (all_next (λ v. ltb v a.n) p l.i (omega arith)) in (
-      search rules,
-      elim c.if-v-top.branch [
-        | then-v-top w ↦ rw w.top-is (step ∙ and_turn (ltb l.top a.n) (ltb v a.n) rest ∙ covers l.top v a.n rest (omega arith))
-        | else-v-top w ↦ rw w.top-is (step ∙ covers v l.top a.n rest (omega arith))
-      ],
-    )
+    let rest : Bool = all (λ v. ltb v a.n) (drop (l.v-index + 1) p) in
+    let v = get_or p l.v-index 0 in
+    let step : all (λ v. ltb v a.n) p ≡ ltb l.top a.n && (ltb v a.n && rest) = l.invariant ∙ ap (λ (x : Bool). ltb l.top a.n && x) (all_next (λ v. ltb v a.n) p l.v-index (omega arith)) in
+    elim c.if-v-top.branch [
+      | then-v-top w ↦ rw w.top-is (step ∙ and_turn (ltb l.top a.n) (ltb v a.n) rest ∙ covers l.top v a.n rest (omega arith))
+      | else-v-top w ↦ rw w.top-is (step ∙ covers v l.top a.n rest (omega arith))
+    ]
 
 pub returns : goal.returns
 returns c =
-    let l = c.loop-i in
+    let l = c.loop-v in
     let a = c.args in
-    rw c.number.ensures.0 (sym (l.invariant.1 ∙ ap (λ (x : Bool). ltb l.top a.n && x) (all_end (λ v. ltb v a.n) a.nodes.now l.i (omega arith)) ∙ and_all (ltb l.top a.n)))
+    rw c.from.ensures (sym (l.invariant ∙ ap (λ (x : Bool). ltb l.top a.n && x) (all_end (λ v. ltb v a.n) a.nodes.now l.v-index (omega arith)) ∙ and_all (ltb l.top a.n)))

@@ -1,12 +1,8 @@
 use mathlib.Core.Path.{◌≡◌}
-use Prim.Native.Nat.{◌-◌, ◌≤◌}
-use lib.ListN.{length, drop}
+use lib.ListN.{drop}
 use Rattle.nodes.specs.Lists.{all}
 use Rattle.records.proofs.ReadingMeasurements.{zero_at}
 use Rattle.records.proofs.questions.zero_at.Given as goal
 
-abbrev pub invariant-loop-i : goal.invariant-loop-i
-invariant-loop-i l = (l.i ≤ length l.nodes) × (all (zero_at l.bytes) l.nodes ≡ all (zero_at l.bytes) (drop l.i l.nodes))
-
-abbrev pub decreases-loop-i : goal.decreases-loop-i
-decreases-loop-i l = length l.nodes - l.i
+abbrev pub invariant-loop-u : goal.invariant-loop-u
+invariant-loop-u l = all (zero_at l.bytes) l.nodes ≡ all (zero_at l.bytes) (drop l.u-index l.nodes)

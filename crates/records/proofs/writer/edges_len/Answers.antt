@@ -1,57 +1,55 @@
-use mathlib.Core.Bool.{not}
-use Prim.Native.Nat.{◌+◌, ◌*◌}
-use mathlib.Core.Path.{◌≡◌, ap}
+use Prim.Native.Nat.{ℕ, ◌+◌, ◌*◌}
+use mathlib.Core.Path.{◌≡◌, refl, sym, ap, ◌∙◌}
+use mathlib.Core.Bool.{Bool}
 use native.Mathlib.Omega.{arith}
-use lib.Dec.{T}
+use borrow.Author.Rules.{rules}
 use lib.ListN.{length}
-use Rattle.nodes.specs.Row.{any_below, count, members}
-use Rattle.nodes.specs.NodeSet.{capacity, member}
+use Rattle.nodes.specs.Row.{count, members}
+use Rattle.nodes.specs.NodeSet.{capacity, member, left_of}
 use Rattle.nodes.specs.SetTable.{set_at}
-use Rattle.nodes.proofs.Logic.{unless_in, unless_out}
-use Rattle.nodes.proofs.Remove.{count-lowest}
+use Rattle.nodes.proofs.Left.{listed, all_members, taken}
+use Rattle.nodes.proofs.Remove.{removed}
 use Rattle.records.specs.JobLists.{pairs_among}
 use Rattle.records.proofs.WritingJobs.{among_most, edges_none, edges_length}
 use Rattle.records.proofs.writer.edges_len.Goals as goal
-use Rattle.records.proofs.writer.edges_len.Goals.{After-count, After-loop-left, In-loop-left}
+use Rattle.records.proofs.writer.edges_len.Goals.{After-count}
 
--- a node is left
+-- what is left behind node a: those that the iterator has then
+rest : (c : After-count) → let n = c.next.new.self in member c.without-left.result ≡ listed (members capacity (left_of n.set n.at n.left))
+rest c =
+    let l = c.loop-a in
+    let left = left_of l.a-iterator.set l.a-iterator.at l.a-iterator.left in
+    let t = taken capacity left _ _ c.in-Some.a refl c.in-Some.ensures.steps in
+    c.without-left.ensures ∙ ap (λ (s : ℕ → Bool). removed s c.in-Some.a) l.invariant.rest ∙ ap (removed (listed (members capacity left))) t.least ∙ sym t.rest
 
-some : (c : In-loop-left) → T (any_below capacity (member c.loop-left.left))
-some c = unless_in c.is_empty.result (any_below capacity (member c.loop-left.left)) c.is_empty.ensures (ap not c.loop-left-test.true)
-
--- none is left
-
-none : (c : After-loop-left) → T (any_below capacity (member c.loop-left.left)) → ⊥
-none c = unless_out c.is_empty.result (any_below capacity (member c.loop-left.left)) c.is_empty.ensures (ap not c.loop-left-test.false)
-
--- the bytes from here on: the edges of the lowest node, and those among the nodes that are left then
-
-some-at-After-count : (c : After-count) → T (any_below capacity (member c.loop-left.left))
-some-at-After-count c = unless_in c.is_empty.result (any_below capacity (member c.loop-left.left)) c.is_empty.ensures (ap not c.loop-left-test.true)
-
-size : (c : After-count) → let g = c.args.graph.now in length (pairs_among (set_at g) (members capacity (member c.loop-left.left))) ≡ 2 * c.count.result + length (pairs_among (set_at g) (members capacity (member c.without_lowest-left.result)))
+-- the bytes from here on: its edges, and those among the nodes that are left then
+size : (c : After-count) → let l = c.loop-a.a-iterator in let n = c.next.new.self in
+    length (pairs_among (set_at c.args.graph.now) (members capacity (left_of l.set l.at l.left)))
+    ≡ 2 * count capacity (member c.intersection.result) + length (pairs_among (set_at c.args.graph.now) (members capacity (left_of n.set n.at n.left)))
 size c =
-    omega (
-      arith,
-      c.count.ensures,
-      edges_length (member c.loop-left.left) (member c.without_lowest-left.result) (some-at-After-count c) c.without_lowest-left.ensures c.lowest-a.result c.lowest-a.ensures
-          (set_at c.args.graph.now) (member c.set_at.result) (member c.intersection.result) c.set_at.ensures c.intersection.ensures,
-    )
+    edges_length c.in-Some.a _ _ c.in-Some.ensures.steps (set_at c.args.graph.now) _ (member c.without-left.result) (member c.set_at.result) (member c.intersection.result) refl (rest c) c.set_at.ensures c.intersection.ensures
+
+pub loop-a-init : goal.loop-a-init
+loop-a-init c =
+    let a = c.args in
+    let it = c.into_iter-a-iterator.result in
+    let e : left_of it.set it.at it.left ≡ member a.nodes = search rules in
+    record { can = tt; ends = tt; rest = sym (all_members a.nodes _ e); sum = omega (arith, ap (λ (f : ℕ → Bool). length (pairs_among (set_at a.graph.now) (members capacity f))) e) }
 
 pub overflow_add-len : goal.overflow_add-len
-overflow_add-len c = omega (arith, size (goal.at.overflow_add-len c).After-count, among_most (set_at c.args.graph.now) (member c.args.nodes))
+overflow_add-len c =
+    let here = (goal.at.overflow_add-len c).After-count in
+    omega (arith, size here, c.count.ensures, c.loop-a.invariant.sum, among_most (set_at c.args.graph.now) (member c.args.nodes))
 
 pub overflow_mul-len : goal.overflow_mul-len
-overflow_mul-len c = omega (arith, size (goal.at.overflow_mul-len c).After-count, among_most (set_at c.args.graph.now) (member c.args.nodes))
+overflow_mul-len c =
+    let here = (goal.at.overflow_mul-len c).After-count in
+    omega (arith, size here, c.count.ensures, c.loop-a.invariant.sum, among_most (set_at c.args.graph.now) (member c.args.nodes))
 
-pub loop-left-smaller : goal.loop-left-smaller
-loop-left-smaller c = omega (arith, count-lowest capacity (member c.loop-left.left) (some (goal.at.loop-left-smaller c).In-loop-left), ap (count capacity) c.without_lowest-left.ensures)
-
-pub loop-left-preserved : goal.loop-left-preserved
-loop-left-preserved c = omega (arith, size (goal.at.loop-left-preserved c).After-count)
+pub loop-a-preserved : goal.loop-a-preserved
+loop-a-preserved c =
+    let here = (goal.at.loop-a-preserved c).After-count in
+    record { can = tt; ends = tt; rest = rest here; sum = omega (arith, size here, c.count.ensures, c.loop-a.invariant.sum) }
 
 pub returns : goal.returns
-returns c = omega (arith, ap length (edges_none (set_at c.args.graph.now) (member c.loop-left.left) (none (goal.at.returns c).After-loop-left)))
-
-pub loop-left-init : goal.loop-left-init
-loop-left-init c = omega arith
+returns c = omega (arith, ap length (edges_none (set_at c.args.graph.now) _ c.in-None.ensures.steps.0), c.loop-a.invariant.sum)

@@ -1,52 +1,43 @@
-use mathlib.Core.Bool.{not}
-use Prim.Native.Nat.{◌+◌, ◌*◌, ◌≤◌}
-use mathlib.Core.Path.{refl, ap, ◌∙◌}
+use Prim.Native.Nat.{ℕ, ◌+◌, ◌*◌, ◌≤◌}
+use mathlib.Core.Path.{◌≡◌, ap, ◌∙◌}
+use mathlib.Core.Bool.{Bool}
 use native.Mathlib.Omega.{arith}
+use borrow.Author.Rules.{rules}
 use lib.ListN.{length}
-use Rattle.nodes.specs.Row.{any_below, count, lowest}
-use Rattle.nodes.specs.NodeSet.{capacity, member}
-use Rattle.nodes.proofs.Logic.{unless_in, unless_out}
-use Rattle.nodes.proofs.Remove.{count-lowest}
+use Rattle.nodes.specs.Row.{count, members}
+use Rattle.nodes.specs.NodeSet.{capacity, member, left_of}
 use Rattle.nodes.specs.SetTable.{set_at}
-use Rattle.nodes.proofs.Remove.{removed}
+use Rattle.records.specs.Writing.{set_bytes}
 use Rattle.records.proofs.WritingLoops.{entry_length, entries_most, no_entries}
 use Rattle.records.proofs.writer.entries_len.Goals as goal
 use Rattle.records.proofs.writer.entries_len.Goals.{After-count}
 
--- no more than all entries of a table
+pub loop-u-init : goal.loop-u-init
+loop-u-init c =
+    let a = c.args in
+    let it = c.into_iter-u-iterator.result in
+    let e : left_of it.set it.at it.left ≡ member a.nodes = search rules in
+    record { can = tt; ends = tt; sum = omega (arith, ap (λ (f : ℕ → Bool). length (set_bytes capacity (set_at a.sets.now) (members capacity f))) e) }
 
-small : (c : After-count) → c.loop-left.len + (2 + c.count.result) ≤ capacity * (capacity + 2)
+-- no more than all entries of a table
+small : (c : After-count) → c.loop-u.len + (2 + c.count.result) ≤ capacity * (capacity + 2)
 small c =
-    let l = c.loop-left in
     let g = c.args.sets.now in
-    let left = unless_in c.is_empty.result (any_below capacity (member l.left)) c.is_empty.ensures (ap not c.loop-left-test.true) in
-    let size = entry_length (member l.left) (removed (member l.left) (lowest capacity (member l.left))) left refl (set_at g) c.lowest.result c.lowest.ensures in
+    let size = entry_length (set_at g) c.in-Some.u _ _ c.in-Some.ensures.steps in
     let same = c.count.ensures ∙ ap (count capacity) c.set_at.ensures in
-    omega (arith, size, same, entries_most (set_at g) (member c.args.nodes))
+    omega (arith, size, same, entries_most (set_at g) (member c.args.nodes), c.loop-u.invariant.sum)
 
 pub overflow_add-len : goal.overflow_add-len
 overflow_add-len c = omega (arith, small (goal.at.overflow_add-len c).After-count)
 
-pub overflow_add-len-in-loop-left : goal.overflow_add-len-in-loop-left
-overflow_add-len-in-loop-left c = omega (arith, small (goal.at.overflow_add-len-in-loop-left c).After-count)
+pub overflow_add-len-in-loop-u : goal.overflow_add-len-in-loop-u
+overflow_add-len-in-loop-u c = omega (arith, small (goal.at.overflow_add-len-in-loop-u c).After-count)
 
-pub loop-left-smaller : goal.loop-left-smaller
-loop-left-smaller c = let l = c.loop-left in
-    let fewer = ap (count capacity) c.without_lowest-left.ensures in
-    omega (arith, count-lowest capacity (member l.left) (unless_in c.is_empty.result (any_below capacity (member l.left)) c.is_empty.ensures (ap not c.loop-left-test.true)), fewer)
-
-pub loop-left-preserved : goal.loop-left-preserved
-loop-left-preserved c = let l = c.loop-left in
-    let g = c.args.sets.now in
-    let left = unless_in c.is_empty.result (any_below capacity (member l.left)) c.is_empty.ensures (ap not c.loop-left-test.true) in
-    let size = entry_length (member l.left) (member c.without_lowest-left.result) left c.without_lowest-left.ensures (set_at (g)) c.lowest.result c.lowest.ensures in
+pub loop-u-preserved : goal.loop-u-preserved
+loop-u-preserved c =
+    let size = entry_length (set_at c.args.sets.now) c.in-Some.u _ _ c.in-Some.ensures.steps in
     let same = c.count.ensures ∙ ap (count capacity) c.set_at.ensures in
-    omega (arith, size, same)
+    record { can = tt; ends = tt; sum = omega (arith, size, same, c.loop-u.invariant.sum) }
 
 pub returns : goal.returns
-returns c = let l = c.loop-left in
-    let g = c.args.sets.now in
-    omega (arith, ap length (no_entries (set_at g) (member l.left) (unless_out c.is_empty.result (any_below capacity (member l.left)) c.is_empty.ensures (ap not c.loop-left-test.false))))
-
-pub loop-left-init : goal.loop-left-init
-loop-left-init c = omega arith
+returns c = omega (arith, ap length (no_entries (set_at c.args.sets.now) _ c.in-None.ensures.steps.0), c.loop-u.invariant.sum)

@@ -1,68 +1,75 @@
-use mathlib.Core.Bool.{not}
 use Prim.Native.Nat.{ℕ, ◌+◌, ◌*◌}
 use mathlib.Core.Path.{◌≡◌, refl, sym, ap, ◌∙◌}
+use mathlib.Core.Bool.{Bool}
 use mathlib.Core.List.{List}
 use native.Mathlib.Omega.{arith}
 use borrow.Author.Rules.{rules}
-use lib.Dec.{T}
 use lib.ListN.{length}
-use Rattle.nodes.specs.Row.{any_below, count, members}
-use Rattle.nodes.specs.NodeSet.{capacity, member}
+use Rattle.nodes.specs.Row.{count, members}
+use Rattle.nodes.specs.NodeSet.{capacity, member, left_of}
 use Rattle.nodes.specs.SetTable.{set_at}
-use Rattle.nodes.proofs.Logic.{unless_in, unless_out}
-use Rattle.nodes.proofs.Members.{lowest_some}
-use Rattle.nodes.proofs.Remove.{count-lowest}
+use Rattle.nodes.proofs.Left.{listed, all_members, taken}
+use Rattle.nodes.proofs.Remove.{removed}
 use Rattle.records.specs.JobLists.{pairs_among}
 use Rattle.records.specs.Splice.{splice}
 use Rattle.records.proofs.Splice.{splice_none}
 use Rattle.records.proofs.WritingJobs.{edges_none, edges_length, edges_step}
 use Rattle.records.proofs.writer.put_edges.Goals as goal
-use Rattle.records.proofs.writer.put_edges.Goals.{After-intersection, After-loop-left, In-loop-left}
+use Rattle.records.proofs.writer.put_edges.Goals.{After-intersection}
 
--- a node is left
-
-some : (c : In-loop-left) → T (any_below capacity (member c.loop-left.left))
-some c = unless_in c.is_empty.result (any_below capacity (member c.loop-left.left)) c.is_empty.ensures (ap not c.loop-left-test.true)
-
--- none is left
-
-none : (c : After-loop-left) → T (any_below capacity (member c.loop-left.left)) → ⊥
-none c = unless_out c.is_empty.result (any_below capacity (member c.loop-left.left)) c.is_empty.ensures (ap not c.loop-left-test.false)
+-- what is left behind node a: those that the iterator has then
+rest : (c : After-intersection) → let n = c.next.new.self in member c.without-left.result ≡ listed (members capacity (left_of n.set n.at n.left))
+rest c =
+    let l = c.loop-a in
+    let left = left_of l.a-iterator.set l.a-iterator.at l.a-iterator.left in
+    let t = taken capacity left _ _ c.in-Some.a refl c.in-Some.ensures.steps in
+    c.without-left.ensures ∙ ap (λ (s : ℕ → Bool). removed s c.in-Some.a) l.invariant.rest ∙ ap (removed (listed (members capacity left))) t.least ∙ sym t.rest
 
 -- the bytes from here on: its edges, and those among the nodes that are left then
-
-some-at-After-intersection : (c : After-intersection) → T (any_below capacity (member c.loop-left.left))
-some-at-After-intersection c = unless_in c.is_empty.result (any_below capacity (member c.loop-left.left)) c.is_empty.ensures (ap not c.loop-left-test.true)
-
-size : (c : After-intersection) → let g = c.args.graph.now in let rest = c.without_lowest-left.result in length (pairs_among (set_at g) (members capacity (member c.loop-left.left))) ≡ 2 * count capacity (member c.intersection.result) + length (pairs_among (set_at g) (members capacity (member rest)))
+size : (c : After-intersection) → let l = c.loop-a.a-iterator in let n = c.next.new.self in
+    length (pairs_among (set_at c.args.graph.now) (members capacity (left_of l.set l.at l.left)))
+    ≡ 2 * count capacity (member c.intersection.result) + length (pairs_among (set_at c.args.graph.now) (members capacity (left_of n.set n.at n.left)))
 size c =
-    edges_length (member c.loop-left.left) (member c.without_lowest-left.result) (some-at-After-intersection c) c.without_lowest-left.ensures c.lowest-a.result c.lowest-a.ensures
-    (set_at c.args.graph.now) (member c.set_at.result) (member c.intersection.result) c.set_at.ensures c.intersection.ensures
+    edges_length c.in-Some.a _ _ c.in-Some.ensures.steps (set_at c.args.graph.now) _ (member c.without-left.result) (member c.set_at.result) (member c.intersection.result) refl (rest c) c.set_at.ensures c.intersection.ensures
 
-pub loop-left-init : goal.loop-left-init
-loop-left-init c = (refl, refl, refl)
+pub loop-a-init : goal.loop-a-init
+loop-a-init c =
+    let a = c.args in
+    let it = c.into_iter-a-iterator.result in
+    let e : left_of it.set it.at it.left ≡ member a.nodes = search rules in
+    record {
+      can = tt;
+      ends = tt;
+      rest = sym (all_members a.nodes _ e);
+      size = refl;
+      place = ap (λ (f : ℕ → Bool). a.at + length (pairs_among (set_at a.graph.now) (members capacity f))) e;
+      bytes = ap (λ (f : ℕ → Bool). splice a.at (pairs_among (set_at a.graph.now) (members capacity f)) a.out.now) e;
+    }
 
 pub put_pairs-p-requires : goal.put_pairs-p-requires
-put_pairs-p-requires c = (omega (arith, c.lowest-a.ensures, lowest_some capacity (member c.loop-left.left) (some (goal.at.put_pairs-p-requires c).In-loop-left)), omega (arith, size (goal.at.put_pairs-p-requires c).After-intersection))
+put_pairs-p-requires c =
+    let l = c.loop-a in
+    let left = left_of l.a-iterator.set l.a-iterator.at l.a-iterator.left in
+    let t = taken capacity left _ _ c.in-Some.a refl c.in-Some.ensures.steps in
+    (t.small, omega (arith, size (goal.at.put_pairs-p-requires c).After-intersection, l.invariant.size, l.invariant.place))
 
-pub loop-left-smaller : goal.loop-left-smaller
-loop-left-smaller c = omega (arith, count-lowest capacity (member c.loop-left.left) (some (goal.at.loop-left-smaller c).In-loop-left), ap (count capacity) c.without_lowest-left.ensures)
-
-pub loop-left-preserved : goal.loop-left-preserved
-loop-left-preserved c =
-    let l = c.loop-left in
-    let g = c.args.graph.now in
+pub loop-a-preserved : goal.loop-a-preserved
+loop-a-preserved c =
+    let l = c.loop-a in
     let put = c.put_pairs-p in
-    let low = c.lowest-a in
-    let rest = c.without_lowest-left in (
-      search rules,
-      omega (arith, size (goal.at.loop-left-preserved c).After-intersection, put.ensures.value),
-      edges_step (member l.left) (member rest.result) (some (goal.at.loop-left-preserved c).In-loop-left) rest.ensures low.result low.ensures (set_at g) (member c.set_at.result) (member c.intersection.result) c.set_at.ensures c.intersection.ensures
-          l.p put.result l.out put.new.out put.ensures.value (omega (arith, l.invariant.0, l.invariant.1, c.requires)) put.ensures.out_after ∙ l.invariant.2,
-    )
+    let here = (goal.at.loop-a-preserved c).After-intersection in
+    record {
+      can = tt;
+      ends = tt;
+      rest = rest here;
+      size = search rules;
+      place = omega (arith, size here, put.ensures.value, l.invariant.place);
+      bytes =
+          edges_step c.in-Some.a _ _ c.in-Some.ensures.steps (set_at c.args.graph.now) _ (member c.without-left.result) (member c.set_at.result) (member c.intersection.result) refl (rest here) c.set_at.ensures c.intersection.ensures
+          l.p put.result l.out put.new.out put.ensures.value (omega (arith, l.invariant.size, l.invariant.place)) put.ensures.out_after ∙ l.invariant.bytes;
+    }
 
 pub returns : goal.returns
 returns c =
-    let l = c.loop-left in
-    let g = c.args.graph.now in
-    sym (splice_none l.p l.out) ∙ ap (λ (b : List ℕ). splice l.p b l.out) (sym (edges_none (set_at g) (member l.left) (none (goal.at.returns c).After-loop-left))) ∙ l.invariant.2
+    let l = c.loop-a in
+    sym (splice_none l.p l.out) ∙ ap (λ (b : List ℕ). splice l.p b l.out) (sym (edges_none (set_at c.args.graph.now) _ c.in-None.ensures.steps.0)) ∙ l.invariant.bytes

@@ -1,53 +1,68 @@
-use native.Mathlib.Omega.{arith}
-use mathlib.Core.Path.{◌≡◌, ap, ◌∙◌}
-use mathlib.Core.Bool.{◌&&◌, not}
-use lib.Dec.{T, ltb}
-use lib.ListN.{length}
-use Rattle.nodes.specs.Row.{any_below, count, lowest}
-use Rattle.nodes.specs.NodeSet.{capacity, member}
-use Rattle.nodes.specs.SetTable.{table_words}
-use Rattle.nodes.proofs.Logic.{unless_out}
+use Rattle.std.proofs.Common.{◌≡◌, ℕ, Bool, ◌&&◌, List, refl, sym, ap, ◌∙◌, subst, arith, rules, eqb, ltb}
+use Rattle.nodes.specs.Lists.{has}
+use Rattle.nodes.specs.Row.{count, lowest, members}
+use Rattle.nodes.specs.NodeSet.{capacity, member, left_of}
 use Rattle.nodes.proofs.Count.{count-le}
 use Rattle.nodes.proofs.Members.{lowest_member}
-use Rattle.nodes.proofs.NodeSet.{none_left}
-use Rattle.nodes.proofs.Remove.{count-lowest}
-use Rattle.nodes.proofs.Walk.{walk_start, walk_rank, walk_room, walk_step, some_left}
+use Rattle.nodes.proofs.Left.{listed, all_members, taken}
+use Rattle.nodes.proofs.Walk.{IsWalk, walk_start, walk_rank, walk_room, walk_step}
 use Rattle.solver.specs.WorkMatrix.{entry_of}
 use Rattle.solver.specs.Solver.{row_bytes, most_columns}
-use Rattle.solver.proofs.BasisTables.{plus_none, plus_then, plus_as, plus_sets, loaded, loaded_none, loaded_all, loaded_step}
+use Rattle.solver.proofs.BasisTables.{plus_none, plus_then, plus_as, plus_sets, only_in, loaded, loaded_none, loaded_all, loaded_step}
 use Rattle.solver.proofs.column_basis.load.Goals as goal
-use Rattle.solver.proofs.column_basis.load.Goals.{In-loop-left}
 
-some-here : (c : In-loop-left) → T (any_below capacity (member c.loop-left.left))
-some-here c = some_left c.loop-left.left c.is_empty.result c.is_empty.ensures (ap not c.loop-left-test.true)
-
-pub loop-left-init : goal.loop-left-init
-loop-left-init c = let a = c.args in (walk_start (member a.rows), plus_none (loaded (member a.rows) (member a.rows) (entry_of row_bytes a.matrix.now)) a.table.now (loaded_none (member a.rows) (entry_of row_bytes a.matrix.now)))
+pub loop-v-init : goal.loop-v-init
+loop-v-init c =
+    let r = member c.args.rows in
+    let it = c.into_iter-v-iterator.result in
+    let e : left_of it.set it.at it.left ≡ r = search rules in
+    let all : listed (members capacity (left_of it.set it.at it.left)) ≡ r = all_members c.args.rows _ e in
+    record {
+      can = tt;
+      ends = tt;
+      walk = subst (λ (s : ℕ → Bool). IsWalk r s 0) (sym all) (walk_start r);
+      plus = plus_none (loaded r (listed (members capacity (left_of it.set it.at it.left))) (entry_of row_bytes c.args.matrix.now)) c.args.table.now
+          (λ k v. ap (λ (s : ℕ → Bool). loaded r s (entry_of row_bytes c.args.matrix.now) k v) all ∙ loaded_none r (entry_of row_bytes c.args.matrix.now) k v);
+    }
 
 pub row_at-requires : goal.row_at-requires
-row_at-requires c = let l = c.loop-left in let room = walk_room capacity (member c.args.rows) (member l.left) l.i l.invariant.0 (some-here (goal.at.row_at-requires c).In-loop-left) in omega (arith, room, c.requires.0)
+row_at-requires c =
+    let t = taken capacity (left_of c.loop-v.v-iterator.set c.loop-v.v-iterator.at c.loop-v.v-iterator.left) _ _ c.in-Some.v refl c.in-Some.ensures.steps in
+    let room = walk_room capacity (member c.args.rows) _ c.loop-v.i c.loop-v.invariant.walk t.some in
+    omega (arith, room, c.requires.0)
 
 pub overflow_add-i : goal.overflow_add-i
-overflow_add-i c = let l = c.loop-left in let room = walk_room capacity (member c.args.rows) (member l.left) l.i l.invariant.0 (some-here (goal.at.overflow_add-i c).In-loop-left) in omega (arith, room, count-le capacity (member c.args.rows))
+overflow_add-i c =
+    let t = taken capacity (left_of c.loop-v.v-iterator.set c.loop-v.v-iterator.at c.loop-v.v-iterator.left) _ _ c.in-Some.v refl c.in-Some.ensures.steps in
+    let room = walk_room capacity (member c.args.rows) _ c.loop-v.i c.loop-v.invariant.walk t.some in
+    omega (arith, room, count-le capacity (member c.args.rows))
 
-pub loop-left-smaller : goal.loop-left-smaller
-loop-left-smaller c = let some = some-here (goal.at.loop-left-smaller c).In-loop-left in omega (arith, count-lowest capacity (member c.loop-left.left) some, ap (count capacity) c.without_lowest-left.ensures)
-
-pub loop-left-preserved : goal.loop-left-preserved
-loop-left-preserved c =
-    let call-add-to = c.add_to in
-    let call-first = c.first in
-    let call-row-at = c.row_at in
-    let a = c.args in let l = c.loop-left in let some = some-here (goal.at.loop-left-preserved c).In-loop-left in let rows = member a.rows in let left = member l.left in let p = lowest capacity left in let size : length l.table ≡ table_words = l.invariant.1.size ∙ c.requires.1 in let e = entry_of row_bytes a.matrix.now in let here = lowest_member capacity left some in (
-      walk_step capacity rows left l.i l.invariant.0 some (member c.without_lowest-left.result) c.without_lowest-left.ensures,
-      plus_then (loaded rows left e) (λ k v. member call-row-at.result k && member call-first.result v) (loaded rows (member c.without_lowest-left.result) e) a.table.now l.table call-add-to.new.table l.invariant.1
-          (plus_sets l.table call-add-to.new.table call-row-at.result call-first.result size call-add-to.ensures)
-          (loaded_step rows left (member c.without_lowest-left.result) e (member call-row-at.result) (member call-first.result) l.i p (l.invariant.0.within p here) here (walk_rank capacity rows left l.i l.invariant.0 some) call-row-at.ensures call-first.ensures c.without_lowest-left.ensures),
-    )
-
-pub shape_of-table : goal.shape_of-table
-shape_of-table c = c.loop-left.invariant.1.size
+pub loop-v-preserved : goal.loop-v-preserved
+loop-v-preserved c =
+    let l = c.loop-v in
+    let r = member c.args.rows in
+    let e = entry_of row_bytes c.args.matrix.now in
+    let t = taken capacity (left_of l.v-iterator.set l.v-iterator.at l.v-iterator.left) _ _ c.in-Some.v refl c.in-Some.ensures.steps in
+    let left = listed (members capacity (left_of l.v-iterator.set l.v-iterator.at l.v-iterator.left)) in
+    let next = listed (members capacity (left_of c.next.new.self.set c.next.new.self.at c.next.new.self.left)) in
+    let p = lowest capacity left in
+    let here = lowest_member capacity left t.some in
+    record {
+      can = tt;
+      ends = tt;
+      walk = walk_step capacity r left l.i l.invariant.walk t.some next t.rest;
+      plus = plus_then (loaded r left e) (λ k v. member c.row_at.result k && member c.with.result v) (loaded r next e) c.args.table.now l.table c.add_to.new.table l.invariant.plus
+          (plus_sets l.table c.add_to.new.table c.row_at.result c.with.result (l.invariant.plus.size ∙ c.requires.1) c.add_to.ensures)
+          (loaded_step r left next e (member c.row_at.result) (member c.with.result) l.i p (l.invariant.walk.within p here) here (walk_rank capacity r left l.i l.invariant.walk t.some) c.row_at.ensures
+          (only_in (member c.empty.result) (member c.with.result) c.in-Some.v t.small c.empty.ensures c.with.ensures ∙ ap {B = ℕ → Bool} (λ (x u : ℕ). eqb u x) t.least) t.rest);
+    }
 
 pub returns : goal.returns
-returns c = let a = c.args in let l = c.loop-left in let none = unless_out c.is_empty.result (any_below capacity (member l.left)) c.is_empty.ensures (ap not c.loop-left-test.false) in let e = entry_of row_bytes a.matrix.now in
-    plus_as (loaded (member a.rows) (member l.left) e) (λ k v. ltb k most_columns && (member a.rows v && e (count v (member a.rows)) k)) a.table.now l.table l.invariant.1 (loaded_all (member a.rows) (member l.left) e (none_left l.left none))
+unfolding has
+returns c =
+    let l = c.loop-v in
+    let r = member c.args.rows in
+    let e = entry_of row_bytes c.args.matrix.now in
+    let left = listed (members capacity (left_of l.v-iterator.set l.v-iterator.at l.v-iterator.left)) in
+    plus_as (loaded r left e) (λ k v. ltb k most_columns && (r v && e (count v r) k)) c.args.table.now l.table l.invariant.plus
+    (loaded_all r left e (λ v. ap (λ (x : List ℕ). listed x v) c.in-None.ensures.steps.0))

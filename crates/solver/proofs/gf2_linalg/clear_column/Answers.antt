@@ -8,16 +8,16 @@ use borrow.Author.Rules.{rules}
 use Rattle.solver.proofs.gf2_linalg.clear_column.Goals as goal
 
 pub loop-i-init : goal.loop-i-init
-loop-i-init c = (search rules, refl, turns_none _ _)
+loop-i-init c = (refl, turns_none _ _)
 
 pub loop-i-preserved : goal.loop-i-preserved
 loop-i-preserved c = let l = c.loop-i in
     let a = c.args in
-    (search rules, search rules, c.clear_one.ensures ∙ turns_more (clear_one row_bytes a.pivot a.col) l.i a.matrix.now l.matrix l.invariant.2)
+    (search rules, c.clear_one.ensures ∙ turns_more (clear_one row_bytes a.pivot a.col) l.i a.matrix.now l.matrix l.invariant.1)
 
 pub returns : goal.returns
 unfolding clear_column
 returns c = let l = c.loop-i in
     let a = c.args in
     let e : l.i ≡ a.rows = omega arith in
-    l.invariant.2 ∙ ap (λ (k : ℕ). turns (clear_one row_bytes a.pivot a.col) k a.matrix.now) e
+    l.invariant.1 ∙ ap (λ (k : ℕ). turns (clear_one row_bytes a.pivot a.col) k a.matrix.now) e

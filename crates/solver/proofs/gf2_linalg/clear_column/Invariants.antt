@@ -6,7 +6,4 @@ use Rattle.solver.specs.Solver.{row_bytes}
 use Rattle.solver.proofs.gf2_linalg.clear_column.Given as goal
 
 abbrev pub invariant-loop-i : goal.invariant-loop-i
-invariant-loop-i l = (l.i ≤ l.rows) × (length l.matrix ≡ length l.initial.matrix) × (l.matrix ≡ turns (clear_one row_bytes l.pivot l.col) l.i l.initial.matrix)
-
-abbrev pub decreases-loop-i : goal.decreases-loop-i
-decreases-loop-i l = l.rows - l.i
+invariant-loop-i l = (length l.matrix ≡ length l.initial.matrix) × (l.matrix ≡ turns (clear_one row_bytes l.pivot l.col) l.i l.initial.matrix)

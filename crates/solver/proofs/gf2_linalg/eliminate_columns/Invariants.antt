@@ -6,7 +6,4 @@ use Rattle.solver.specs.Solver.{row_bytes}
 use Rattle.solver.proofs.gf2_linalg.eliminate_columns.Given as goal
 
 abbrev pub invariant-loop-col : goal.invariant-loop-col
-invariant-loop-col l = (l.col ≤ l.cols) × (l.rank ≤ l.rows) × (length l.matrix ≡ length l.initial.matrix) × (record { rank = l.rank; rows = l.matrix } ≡ turns (eliminate_column row_bytes l.rows) l.col (record { rank = 0; rows = l.initial.matrix }))
-
-abbrev pub decreases-loop-col : goal.decreases-loop-col
-decreases-loop-col l = l.cols - l.col
+invariant-loop-col l = (l.rank ≤ l.rows) × (length l.matrix ≡ length l.initial.matrix) × (record { rank = l.rank; rows = l.matrix } ≡ turns (eliminate_column row_bytes l.rows) l.col (record { rank = 0; rows = l.initial.matrix }))

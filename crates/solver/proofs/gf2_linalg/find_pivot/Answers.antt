@@ -8,21 +8,22 @@ use borrow.Author.Rules.{rules}
 use Rattle.solver.proofs.gf2_linalg.find_pivot.Goals as goal
 
 pub loop-i-init : goal.loop-i-init
-loop-i-init c = (search rules, search rules, refl)
+loop-i-init c = refl
 
 pub returns-then-has : goal.returns-then-has
 returns-then-has c = let l = c.loop-i in
     let a = c.args in
     let has : entry_of row_bytes a.matrix.now l.i a.col ≡ true = sym c.has.ensures ∙ c.if-has.true in
-    sym (l.invariant.2 ∙ first_here (λ k. entry_of row_bytes a.matrix.now k a.col) l.i a.rows (omega arith) has)
+    sym (l.invariant ∙ first_here (λ k. entry_of row_bytes a.matrix.now k a.col) l.i a.rows (omega arith) has)
 
 pub loop-i-preserved : goal.loop-i-preserved
 loop-i-preserved c = let l = c.loop-i in
     let a = c.args in
     let no : entry_of row_bytes a.matrix.now l.i a.col ≡ false = sym c.has.ensures ∙ c.if-has.false in
-    (search rules, search rules, l.invariant.2 ∙ first_next (λ k. entry_of row_bytes a.matrix.now k a.col) l.i a.rows (omega arith) no)
+    l.invariant ∙ first_next (λ k. entry_of row_bytes a.matrix.now k a.col) l.i a.rows (omega arith) no
 
 pub returns : goal.returns
 returns c = let l = c.loop-i in
     let a = c.args in
-    sym (l.invariant.2 ∙ first_none (λ k. entry_of row_bytes a.matrix.now k a.col) l.i a.rows (omega arith))
+    let e : a.rows ≡ l.i = omega arith in
+    e ∙ sym (l.invariant ∙ first_none (λ k. entry_of row_bytes a.matrix.now k a.col) l.i a.rows (omega arith))

@@ -6,7 +6,4 @@ use Rattle.solver.specs.Solver.{row_bytes}
 use Rattle.solver.proofs.gf2_linalg.find_pivot.Given as goal
 
 abbrev pub invariant-loop-i : goal.invariant-loop-i
-invariant-loop-i l = (l.from ≤ l.i) × (l.i ≤ l.rows) × (lowest_from l.from (l.rows - l.from) (λ k. entry_of row_bytes l.matrix k l.col) ≡ lowest_from l.i (l.rows - l.i) (λ k. entry_of row_bytes l.matrix k l.col))
-
-abbrev pub decreases-loop-i : goal.decreases-loop-i
-decreases-loop-i l = l.rows - l.i
+invariant-loop-i l = lowest_from l.from (l.rows - l.from) (λ k. entry_of row_bytes l.matrix k l.col) ≡ lowest_from l.i (l.rows - l.i) (λ k. entry_of row_bytes l.matrix k l.col)

@@ -9,7 +9,7 @@ use borrow.Author.Rules.{rules}
 use Rattle.solver.proofs.gf2_linalg.lead.Goals as goal
 
 pub loop-q-init : goal.loop-q-init
-loop-q-init c = (search rules, none_start row_bytes c.args.matrix.now c.args.row)
+loop-q-init c = none_start row_bytes c.args.matrix.now c.args.row
 
 pub overflow_cast-k : goal.overflow_cast-k
 overflow_cast-k c =
@@ -28,24 +28,24 @@ returns-then-k-cols c =
     let a = c.args in
     let l = c.loop-q in
     let byte : get_or a.matrix.now (a.row * row_bytes + l.q) 0 < 2 ^ 8 = omega (arith, c.shared_slice_known-1.given (a.row * row_bytes + l.q)) in
-    lead_inside row_bytes a.matrix.now a.row l.q (get_or a.matrix.now (a.row * row_bytes + l.q) 0) refl l.invariant.1 byte c.if-byte-ne0.true a.cols c.if-k-cols.true
+    lead_inside row_bytes a.matrix.now a.row l.q (get_or a.matrix.now (a.row * row_bytes + l.q) 0) refl l.invariant byte c.if-byte-ne0.true a.cols c.if-k-cols.true
 
 pub returns-then-byte-ne0 : goal.returns-then-byte-ne0
 returns-then-byte-ne0 c =
     let a = c.args in
     let l = c.loop-q in
     let byte : get_or a.matrix.now (a.row * row_bytes + l.q) 0 < 2 ^ 8 = omega (arith, c.shared_slice_known-1.given (a.row * row_bytes + l.q)) in
-    lead_outside row_bytes a.matrix.now a.row l.q (get_or a.matrix.now (a.row * row_bytes + l.q) 0) refl l.invariant.1 byte c.if-byte-ne0.true a.cols c.if-k-cols.false
+    lead_outside row_bytes a.matrix.now a.row l.q (get_or a.matrix.now (a.row * row_bytes + l.q) 0) refl l.invariant byte c.if-byte-ne0.true a.cols c.if-k-cols.false
 
 pub loop-q-preserved : goal.loop-q-preserved
 loop-q-preserved c =
     let a = c.args in
     let l = c.loop-q in
-    (search rules, none_more row_bytes a.matrix.now a.row l.q l.invariant.1 c.if-byte-ne0.false)
+    none_more row_bytes a.matrix.now a.row l.q l.invariant c.if-byte-ne0.false
 
 pub returns : goal.returns
 returns c =
     let a = c.args in
     let l = c.loop-q in
     let e : l.q ≡ row_bytes = omega arith in
-    lead_none row_bytes a.matrix.now a.row a.cols (rw e at l.invariant.1) c.requires.1
+    lead_none row_bytes a.matrix.now a.row a.cols (rw e at l.invariant) c.requires.1

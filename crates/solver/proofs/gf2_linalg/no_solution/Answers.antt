@@ -8,7 +8,7 @@ use Rattle.solver.proofs.gf2_linalg.no_solution.Goals as goal
 
 pub loop-i-init : goal.loop-i-init
 loop-i-init c =
-    let a = c.args in (search rules, any_start (inconsistent_row row_bytes a.matrix.now a.cols a.asked))
+    let a = c.args in any_start (inconsistent_row row_bytes a.matrix.now a.cols a.asked)
 
 pub returns-then-inconsistent_row : goal.returns-then-inconsistent_row
 returns-then-inconsistent_row c =
@@ -20,11 +20,11 @@ pub loop-i-preserved : goal.loop-i-preserved
 loop-i-preserved c =
     let a = c.args in
     let l = c.loop-i in
-    (search rules, any_more (inconsistent_row row_bytes a.matrix.now a.cols a.asked) l.i l.invariant.1 (sym c.inconsistent_row.ensures ∙ c.if-inconsistent_row.false))
+    any_more (inconsistent_row row_bytes a.matrix.now a.cols a.asked) l.i l.invariant (sym c.inconsistent_row.ensures ∙ c.if-inconsistent_row.false)
 
 pub returns : goal.returns
 returns c =
     let a = c.args in
     let l = c.loop-i in
     let e : l.i ≡ a.rows = omega arith in
-    sym (rw e at l.invariant.1)
+    sym (rw e at l.invariant)

@@ -6,7 +6,4 @@ use Rattle.solver.specs.Solver.{row_bytes}
 use Rattle.solver.proofs.gf2_linalg.no_solution.Given as goal
 
 abbrev pub invariant-loop-i : goal.invariant-loop-i
-invariant-loop-i l = (l.i ≤ l.rows) × (no_solution row_bytes l.matrix l.i l.cols l.asked ≡ false)
-
-abbrev pub decreases-loop-i : goal.decreases-loop-i
-decreases-loop-i l = l.rows - l.i
+invariant-loop-i l = no_solution row_bytes l.matrix l.i l.cols l.asked ≡ false

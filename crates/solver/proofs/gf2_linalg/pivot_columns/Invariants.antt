@@ -8,7 +8,4 @@ use Rattle.solver.specs.Solver.{row_bytes}
 use Rattle.solver.proofs.gf2_linalg.pivot_columns.Given as goal
 
 abbrev pub invariant-loop-i : goal.invariant-loop-i
-invariant-loop-i l = (l.i ≤ l.rows) × (member l.pivots ≡ (λ k. leads l.i l.cols (entry_of row_bytes l.matrix) (λ q. true) k))
-
-abbrev pub decreases-loop-i : goal.decreases-loop-i
-decreases-loop-i l = l.rows - l.i
+invariant-loop-i l = member l.pivots ≡ (λ k. leads l.i l.cols (entry_of row_bytes l.matrix) (λ q. true) k)

@@ -6,7 +6,4 @@ use Rattle.solver.specs.Solver.{row_bytes}
 use Rattle.solver.proofs.gf2_linalg.put_leads.Given as goal
 
 abbrev pub invariant-loop-i : goal.invariant-loop-i
-invariant-loop-i l = (l.i ≤ l.rows) × (length l.out ≡ length l.initial.out) × (l.out ≡ lead_bytes row_bytes l.matrix l.cols l.asked l.i)
-
-abbrev pub decreases-loop-i : goal.decreases-loop-i
-decreases-loop-i l = l.rows - l.i
+invariant-loop-i l = (length l.out ≡ length l.initial.out) × (l.out ≡ lead_bytes row_bytes l.matrix l.cols l.asked l.i)

@@ -5,7 +5,4 @@ use Rattle.solver.proofs.WorkMatrix.{EndsBefore}
 use Rattle.solver.proofs.gf2_linalg.row_within_width.Given as goal
 
 abbrev pub invariant-loop-q : goal.invariant-loop-q
-invariant-loop-q l = (l.q ≤ row_bytes) × (l.width / 8 ≤ l.q) × (l.inside ≡ l.width - 8 * l.q) × EndsBefore row_bytes l.matrix l.row l.width (8 * l.q)
-
-abbrev pub decreases-loop-q : goal.decreases-loop-q
-decreases-loop-q l = row_bytes - l.q
+invariant-loop-q l = (l.width / 8 ≤ l.q) × (l.inside ≡ l.width - 8 * l.q) × EndsBefore row_bytes l.matrix l.row l.width (8 * l.q)

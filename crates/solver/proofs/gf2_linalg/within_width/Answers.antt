@@ -10,7 +10,7 @@ use Rattle.solver.proofs.gf2_linalg.within_width.Goals as goal
 
 pub loop-i-init : goal.loop-i-init
 loop-i-init c =
-    let a = c.args in (search rules, all_start (row_within_width row_bytes a.matrix.now a.width))
+    let a = c.args in all_start (row_within_width row_bytes a.matrix.now a.width)
 
 pub returns-then-not-row_within_width : goal.returns-then-not-row_within_width
 returns-then-not-row_within_width c =
@@ -22,11 +22,11 @@ pub loop-i-preserved : goal.loop-i-preserved
 loop-i-preserved c =
     let a = c.args in
     let l = c.loop-i in
-    (search rules, all_more (row_within_width row_bytes a.matrix.now a.width) l.i l.invariant.1 (sym c.row_within_width.ensures ∙ not-false _ (ap not c.if-not-row_within_width.false)))
+    all_more (row_within_width row_bytes a.matrix.now a.width) l.i l.invariant (sym c.row_within_width.ensures ∙ not-false _ (ap not c.if-not-row_within_width.false))
 
 pub returns : goal.returns
 returns c =
     let a = c.args in
     let l = c.loop-i in
     let e : l.i ≡ a.rows = omega arith in
-    sym (rw e at l.invariant.1)
+    sym (rw e at l.invariant)

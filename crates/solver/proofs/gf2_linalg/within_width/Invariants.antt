@@ -6,7 +6,4 @@ use Rattle.solver.specs.Solver.{row_bytes}
 use Rattle.solver.proofs.gf2_linalg.within_width.Given as goal
 
 abbrev pub invariant-loop-i : goal.invariant-loop-i
-invariant-loop-i l = (l.i ≤ l.rows) × (within_width row_bytes l.matrix l.i l.width ≡ true)
-
-abbrev pub decreases-loop-i : goal.decreases-loop-i
-decreases-loop-i l = l.rows - l.i
+invariant-loop-i l = within_width row_bytes l.matrix l.i l.width ≡ true

@@ -7,7 +7,4 @@ use Rattle.solver.proofs.Bytes.{xor_byte}
 use Rattle.solver.proofs.gf2_linalg.xor_row.Given as goal
 
 abbrev pub invariant-loop-j : goal.invariant-loop-j
-invariant-loop-j l = (l.j ≤ row_bytes) × (length l.matrix ≡ length l.initial.matrix) × (l.matrix ≡ turns (xor_byte l.d l.s) l.j l.initial.matrix)
-
-abbrev pub decreases-loop-j : goal.decreases-loop-j
-decreases-loop-j l = row_bytes - l.j
+invariant-loop-j l = (length l.matrix ≡ length l.initial.matrix) × (l.matrix ≡ turns (xor_byte l.d l.s) l.j l.initial.matrix)

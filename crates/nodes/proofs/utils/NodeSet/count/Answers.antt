@@ -1,25 +1,25 @@
-use mathlib.Core.Path.{sym, ap, ◌∙◌}
-use native.Mathlib.Omega.{arith}
-use Prim.Native.Nat.{ℕ, ◌+◌}
-use native.Mathlib.Nat.{add-zero}
-use lib.Count.{ones, ones-le}
-use Rattle.nodes.specs.NodeSet.{word_bits, words_of}
-use Rattle.nodes.proofs.NodeSet.{words_of_lem}
-use Rattle.nodes.proofs.NodeSetCount.{member_count}
-use borrow.Author.Rules.{rules}
+use Rattle.std.proofs.Common.{◌≡◌, ◌+◌, ◌^◌, ◌<◌, length, get_or, refl, sym, ap, ◌∙◌, arith, rules}
+use Rattle.nodes.specs.Row.{count}
+use Rattle.nodes.specs.NodeSet.{places, member_of}
+use Rattle.nodes.proofs.Count.{count-le}
+use Rattle.nodes.proofs.NodeSet.{member_whole}
+use Rattle.nodes.proofs.NodeSetCount.{count_more}
 use Rattle.nodes.proofs.utils.NodeSet.count.Goals as goal
 
-pub overflow_cast-result : goal.overflow_cast-result
-overflow_cast-result c = omega (arith, ones-le word_bits c.args.self.low (search rules))
+pub loop-i-init : goal.loop-i-init
+unfolding count
+loop-i-init g c = record { so_far = refl; few = omega arith }
 
-pub overflow_cast-result-2 : goal.overflow_cast-result-2
-overflow_cast-result-2 c = omega (arith, ones-le word_bits c.args.self.high (search rules))
-
-pub overflow_add-result : goal.overflow_add-result
-overflow_add-result c =
-    let s = c.args.self in omega (arith, ones-le word_bits s.low (search rules), ones-le word_bits s.high (search rules))
+pub loop-i-preserved : goal.loop-i-preserved
+loop-i-preserved g c =
+    let small : get_or c.self.inside.words c.loop-i.i 0 < 2 ^ 64 = search (rules, arith) in
+    let more = count_more c.self.inside.words c.loop-i.i small in
+    let most = count-le (places (c.loop-i.i + 1)) (member_of c.self.inside.words) in
+    record { so_far = omega (arith, more, c.loop-i.invariant.so_far); few = omega (arith, more, most, c.loop-i.invariant.so_far) }
 
 pub returns : goal.returns
-returns c =
-    let s = c.args.self in
-    ap (λ (x : ℕ). ones s.low + x) (sym (add-zero (ones s.high))) ∙ member_count (words_of s) (words_of_lem s (search rules) (search rules))
+returns g c =
+    let ws = c.self.inside.words in
+    let l : length ws ≡ g.row.WORDS = search rules in
+    let e : c.loop-i.i ≡ g.row.WORDS = omega arith in
+    rw (← c.self.view_is) (c.loop-i.invariant.so_far ∙ ap (λ n. count (places n) (member_of ws)) e ∙ ap (count (places g.row.WORDS)) (sym (member_whole g.row.WORDS ws l)))

@@ -1,22 +1,12 @@
-use mathlib.Core.Path.{sym, ap, ◌∙◌}
-use mathlib.Core.Bool.{not}
-use native.Mathlib.Omega.{arith}
-use Prim.Native.Nat.{ℕ}
-use lib.Bits.{bit_and}
-use lib.Dec.{eqb}
-use Rattle.nodes.specs.NodeSet.{words_of}
-use Rattle.nodes.proofs.NodeSet.{member_test, member_past}
+use Rattle.std.proofs.Common.{◌≡◌, ℕ, refl, sym, ap, ◌∙◌, arith, rules, length}
+use mathlib.Core.Bool.{Bool}
+use Rattle.nodes.proofs.NodeSet.{member_test, member_in_past, member_whole}
 use Rattle.nodes.proofs.utils.NodeSet.has.Goals as goal
 
-pub returns-then-v-lt-WORD_BITS : goal.returns-then-v-lt-WORD_BITS
-returns-then-v-lt-WORD_BITS c =
-    let a = c.args in
-    ap (λ (m : ℕ). not (eqb (bit_and a.self.low m) 0)) c.mask.ensures ∙ member_test (words_of a.self) a.v 0 (omega arith)
-
-pub returns-then-v-le-HIGHEST : goal.returns-then-v-le-HIGHEST
-returns-then-v-le-HIGHEST c =
-    let a = c.args in
-    ap (λ (m : ℕ). not (eqb (bit_and a.self.high m) 0)) c.mask-then-v-le-HIGHEST.ensures ∙ member_test (words_of a.self) a.v 1 (omega arith)
+pub returns-then-v : goal.returns-then-v
+returns-then-v g c =
+    let l : length c.self.inside.words ≡ g.row.WORDS = search rules in
+    rw (c.mask.ensures, ← c.self.view_is) (member_test _ _ _ refl ∙ ap (λ (f : ℕ → Bool). f c.args.v) (sym (member_whole g.row.WORDS c.self.inside.words l)))
 
 pub returns : goal.returns
-returns c = sym (member_past (words_of c.args.self) c.args.v (omega arith))
+returns g c = sym (member_in_past g.row.WORDS c.args.self c.args.v (omega arith))

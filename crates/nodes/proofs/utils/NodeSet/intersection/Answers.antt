@@ -1,9 +1,5 @@
-use mathlib.Core.Path.{refl, fun_ext}
-use Rattle.nodes.specs.NodeSet.{words_of}
 use Rattle.nodes.proofs.NodeSet.{member_and}
 use Rattle.nodes.proofs.utils.NodeSet.intersection.Goals as goal
 
 pub returns : goal.returns
-returns c =
-    let a = c.args in
-    fun_ext (member_and (words_of a.self) (words_of a.o) refl)
+returns g c = member_and g.row.WORDS _ _ _ c.merged.ensures.words

@@ -1,29 +1,25 @@
-use mathlib.Core.Path.{sym, ap, ◌∙◌}
-use mathlib.Core.List.{[], ◌∷◌}
-use native.Mathlib.Omega.{arith}
-use Prim.Native.Nat.{ℕ, ◌+◌}
-use lib.Count.{trailing_le}
-use Rattle.nodes.specs.NodeSet.{word_bits}
+use Rattle.std.proofs.Common.{◌≡◌, ◌*◌, ◌+◌, ◌^◌, ◌<◌, length, get_or, sym, ap, ◌∙◌, arith, rules}
+use lib.Count.{count_trailing_zeros}
+use Rattle.nodes.specs.Row.{lowest}
+use Rattle.nodes.specs.NodeSet.{word_bits, places, member_of}
 use Rattle.nodes.proofs.Digits.{trailing_lowest}
-use Rattle.nodes.proofs.NodeSetCount.{lowest_word, lowest_in_head, lowest_in_tail}
-use borrow.Author.Rules.{rules}
+use Rattle.nodes.proofs.NodeSet.{member_whole}
+use Rattle.nodes.proofs.NodeSetCount.{lowest_in_word, lowest_in_none}
 use Rattle.nodes.proofs.utils.NodeSet.lowest.Goals as goal
 
-pub overflow_cast-result : goal.overflow_cast-result
-overflow_cast-result c = omega (arith, trailing_le word_bits c.args.self.low)
-
-pub returns-then-self-ne0 : goal.returns-then-self-ne0
-returns-then-self-ne0 c =
-    let s = c.args.self in
-    trailing_lowest word_bits s.low ∙ sym (lowest_in_head s.low (s.high ∷ []) (search rules) c.if-self-ne0.true)
-
-pub overflow_cast-result-2 : goal.overflow_cast-result-2
-overflow_cast-result-2 c = omega (arith, trailing_le word_bits c.args.self.high)
-
-pub overflow_add-result : goal.overflow_add-result
-overflow_add-result c = omega (arith, trailing_le word_bits c.args.self.high)
+pub returns-then-words-i-ne0 : goal.returns-then-words-i-ne0
+returns-then-words-i-ne0 g c =
+    let ws = c.self.inside.words in
+    let l : length ws ≡ g.row.WORDS = search rules in
+    let small : get_or ws c.loop-i.i 0 < 2 ^ 64 = search (rules, arith) in
+    let e = lowest_in_word g.row.WORDS ws c.loop-i.i (omega arith) c.if-words-i-ne0.true small c.loop-i.invariant in
+    let r : word_bits * c.loop-i.i + count_trailing_zeros 64 (get_or ws c.loop-i.i 0) ≡ lowest (places g.row.WORDS) (member_of ws) = omega (arith, e, trailing_lowest 64 (get_or ws c.loop-i.i 0)) in
+    rw (← c.self.view_is) (r ∙ ap (lowest (places g.row.WORDS)) (sym (member_whole g.row.WORDS ws l)))
 
 pub returns : goal.returns
-returns c =
-    let s = c.args.self in
-    ap (λ (x : ℕ). word_bits + x) (trailing_lowest word_bits s.high ∙ sym (lowest_word s.high [])) ∙ sym (lowest_in_tail s.low (s.high ∷ []) c.if-self-ne0.false)
+returns g c =
+    let ws = c.self.inside.words in
+    let l : length ws ≡ g.row.WORDS = search rules in
+    let e = lowest_in_none g.row.WORDS ws (λ j h. c.loop-i.invariant j (omega arith)) in
+    let r : word_bits * g.row.WORDS ≡ lowest (places g.row.WORDS) (member_of ws) = omega (arith, e) in
+    rw (← c.self.view_is) (r ∙ ap (lowest (places g.row.WORDS)) (sym (member_whole g.row.WORDS ws l)))

@@ -1,25 +1,19 @@
-use mathlib.Core.Path.{refl, sym, ap, ◌∙◌}
-use mathlib.Core.Bool.{Bool, true, ◌&&◌}
-use lib.Dec.{eqb}
-use borrow.Author.Tests.{eq-eqb, ne_eqb}
-use Rattle.nodes.specs.NodeSet.{words_of}
-use Rattle.nodes.proofs.Logic.{and_all}
-use Rattle.nodes.proofs.NodeSet.{words_of_lem}
+use Rattle.std.proofs.Common.{◌≡◌, ◌↔◌, ℕ, length, sym, ap₂, ◌∙◌, arith, rules}
+use mathlib.Core.Bool.{Bool, not}
+use lib.Dec.{T}
+use Rattle.nodes.specs.Bit.{◌⊕◌}
+use Rattle.nodes.specs.Row.{all_below}
+use Rattle.nodes.specs.NodeSet.{places}
+use Rattle.nodes.proofs.NodeSet.{member_whole}
 use Rattle.nodes.proofs.NodeSetCount.{member_same}
-use borrow.Author.Rules.{rules}
 use Rattle.nodes.proofs.utils.NodeSet.same.Goals as goal
 
-pub returns-then-self-o : goal.returns-then-self-o
-returns-then-self-o c =
-    let s = c.args.self in
-    let o = c.args.o in
-    sym (ap (λ (b : Bool). b && (eqb s.high o.high && true)) (ne_eqb s.low o.low c.if-self-o.true))
-    ∙ member_same (words_of s) (words_of o) refl (words_of_lem s (search rules) (search rules)) (words_of_lem o (search rules) (search rules))
-
 pub returns : goal.returns
-returns c =
-    let s = c.args.self in
-    let o = c.args.o in
-    sym (and_all (eqb s.high o.high))
-    ∙ sym (ap (λ (b : Bool). b && (eqb s.high o.high && true)) (eq-eqb s.low o.low c.if-self-o.false))
-    ∙ member_same (words_of s) (words_of o) refl (words_of_lem s (search rules) (search rules)) (words_of_lem o (search rules) (search rules))
+returns g c =
+    let us = c.self.inside.words in
+    let vs = c.o.inside.words in
+    let d : length us ≡ g.row.WORDS = search rules in
+    let e : length vs ≡ g.row.WORDS = search rules in
+    let same : T c.eq.result ↔ (c.args.self ≡ c.args.o) = search rules in
+    rw (← c.self.view_is, ← c.o.view_is) (member_same g.row.WORDS us vs d e (λ q. search (rules, arith)) (λ q. search (rules, arith)) _ (rw (← c.self.view_is, ← c.o.view_is) at same).0 (rw (← c.self.view_is, ← c.o.view_is) at same).1
+    ∙ ap₂ (λ (s t : ℕ → Bool). all_below (places g.row.WORDS) (λ u. not (s u ⊕ t u))) (sym (member_whole g.row.WORDS us d)) (sym (member_whole g.row.WORDS vs e)))

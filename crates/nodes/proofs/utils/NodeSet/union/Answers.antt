@@ -1,9 +1,6 @@
-use mathlib.Core.Path.{refl, fun_ext}
-use Rattle.nodes.specs.NodeSet.{words_of}
+use Rattle.std.proofs.Common.{arith}
 use Rattle.nodes.proofs.NodeSet.{member_or}
 use Rattle.nodes.proofs.utils.NodeSet.union.Goals as goal
 
 pub returns : goal.returns
-returns c =
-    let a = c.args in
-    fun_ext (member_or (words_of a.self) (words_of a.o) refl)
+returns g c = rw (← c.self.view_is, ← c.o.view_is) (member_or _ _ _ _ (λ i h. c.loop-i.invariant.done i (omega arith)))

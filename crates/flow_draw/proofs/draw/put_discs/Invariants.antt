@@ -1,5 +1,0 @@
-use Rattle.std.proofs.Common.{◌-◌}
-use Rattle.flow_draw.proofs.draw.put_discs.Given as goal
-
-abbrev pub decreases-loop-v : goal.decreases-loop-v
-decreases-loop-v l = 128 - l.v

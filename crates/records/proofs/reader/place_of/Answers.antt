@@ -1,5 +1,0 @@
-use mathlib.Core.Path.{refl}
-use Rattle.records.proofs.reader.place_of.Goals as goal
-
-pub returns-in-Refused : goal.returns-in-Refused
-returns-in-Refused c = rw c.in-Refused.is refl
