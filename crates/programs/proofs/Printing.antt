@@ -31,14 +31,14 @@ refuse_inj : {A : Type 0} {r s : Refusal} → ◌≡◌ {A = Answer A} (refuses 
 refuse_inj e = cc
 
 -- the bytes that are judged
-pub first_bytes : (k n : ℕ) (l : List ℕ) → n ≡ min k (length l) → take (n - 0) (drop 0 l) ≡ take k l
+pub first_bytes : (k n : ℕ) (l : List ℕ) → n ≡ min k (length l) → take n l ≡ take k l
 first_bytes k n l q = by (le_or_lt k (length l))
   where
-    by : (k ≤ length l) ⊎ (length l < k) → take (n - 0) l ≡ take k l
-    by (inl h) = let e : n - 0 ≡ k = omega (arith, q, min-eq_left h) in ap (λ (i : ℕ). take i l) e
+    by : (k ≤ length l) ⊎ (length l < k) → take n l ≡ take k l
+    by (inl h) = let e : n ≡ k = omega (arith, q, min-eq_left h) in ap (λ (i : ℕ). take i l) e
     by (inr h) =
         let g : length l ≤ k = omega arith in
-        let e : n - 0 ≡ length l = omega (arith, q, min-eq_right g) in
+        let e : n ≡ length l = omega (arith, q, min-eq_right g) in
         ap (λ (i : ℕ). take i l) e ∙ take-length l ∙ sym (take_all k l g)
 
 -- what was written lies in the buffer

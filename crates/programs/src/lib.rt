@@ -9,23 +9,23 @@ ghost use Rattle.demands.specs.Programs.{error_of};
 ghost use Rattle.demands.specs.Roles.{operator, finder_program, verifier_program, called};
 ghost use Rattle.programs.specs.Printing.{refused_of};
 
-use answers::message;
-use output::{Told, find_bytes, verify_bytes};
+use answers::{RefusalRecord, message};
+use output::{find_bytes, verify_bytes};
 
 // How many bytes of each buffer a program writes.
-#[derive(Clone, Copy)]
+#[derive(Clone, Copy, Debug, PartialEq, Eq)]
 pub struct Counts {
     pub output: usize,
     pub error: usize,
 }
 
 // The line of a refusal, where it fits; nothing of a result.
-fn report(told: Told, error: &mut [u8]) -> usize
-    ensures { record { count = result; out = error.new } ≡ put_whole (error_of (refused_of told)) error.old }
+fn report(refused: Option<RefusalRecord>, error: &mut [u8]) -> usize
+    ensures { record { count = result; out = error.new } ≡ put_whole (error_of (refused_of refused)) error.old }
 {
-    match told {
-        Told::Result => 0,
-        Told::Refused(q) => message(q, error),
+    match refused {
+        None => 0,
+        Some(q) => message(q, error),
     }
 }
 
@@ -34,12 +34,9 @@ pub fn find_program(input: &[u8], output: &mut [u8], error: &mut [u8]) -> Counts
     ensures { record { output = record { count = result.output; out = output.exit.now }; error = record { count = result.error; out = error.new } } ≡ called operator (finder_program output.entry.now error.old) input.now }
 {
     let answer = find_bytes(input, output);
-    let count = answer.count;
-    let told = answer.told;
-    let k = report(told, error);
     Counts {
-        output: count,
-        error: k,
+        output: answer.count,
+        error: report(answer.refused, error),
     }
 }
 
@@ -48,11 +45,8 @@ pub fn verify_program(input: &[u8], output: &mut [u8], error: &mut [u8]) -> Coun
     ensures { record { output = record { count = result.output; out = output.exit.now }; error = record { count = result.error; out = error.new } } ≡ called operator (verifier_program output.entry.now error.old) input.now }
 {
     let answer = verify_bytes(input, output);
-    let count = answer.count;
-    let told = answer.told;
-    let k = report(told, error);
     Counts {
-        output: count,
-        error: k,
+        output: answer.count,
+        error: report(answer.refused, error),
     }
 }

@@ -1,8 +1,8 @@
 // The two programs on lent bytes: all that each writes for the bytes of its standard input. Both call as operator.
-ghost use Rattle.std.specs.Prelude.{◌≡◌, min};
+ghost use Rattle.std.specs.Prelude.{◌≡◌, None, Some};
 ghost use Rattle.std.proofs.Math.Option.{some};
 ghost use Rattle.answers.specs.Refusals.{refusal_of};
-ghost use Rattle.demands.specs.Programs.{judged_bytes, refusal_bytes, printed, find_printed, verify_printed};
+ghost use Rattle.demands.specs.Programs.{refusal_bytes, printed, find_printed, verify_printed};
 ghost use Rattle.programs.specs.Printing.{output_of};
 
 use answers::RefusalRecord;
@@ -22,40 +22,34 @@ pub const MOST_OUTPUT: usize = 2 * HEAD_BYTES
     + WIDE_LAYER_BYTES * MOST_NODES
     + MOST_NODES * (MOST_NODES + 2);
 
-// The writer's question.
+// The writer's question, by its number: what the definitions ask is the number that 001F would carry (`find_printed`).
 const TOO_LONG: u8 = 20;
 
-// What a call ends with: a result, or a refusal with document 01's number, a and b.
-#[derive(Clone, Copy)]
-pub enum Told {
-    Result,
-    Refused(RefusalRecord),
-}
-
-// How many bytes were written at the front of the buffer: of a result, or of 001F. With 20 nothing is written.
-#[derive(Clone, Copy)]
+// How many bytes were written at the front of the buffer: of a result, or of 001F and then the refusal that it tells. With 20 nothing
+// is written.
+#[derive(Clone, Copy, Debug, PartialEq, Eq)]
 pub struct Output {
     pub count: usize,
-    pub told: Told,
+    pub refused: Option<RefusalRecord>,
 }
 
 // A result of so many bytes.
 fn wrote(count: usize) -> Output
-    ensures { result ≡ record { count = count; told = Told.Result } }
+    ensures { result ≡ record { count = count; refused = None } }
 {
     Output {
         count,
-        told: Told::Result,
+        refused: None,
     }
 }
 
 // A refusal, of which so many bytes were written.
 fn refused(count: usize, q: RefusalRecord) -> Output
-    ensures { result ≡ record { count = count; told = Told.Refused q } }
+    ensures { result ≡ record { count = count; refused = Some q } }
 {
     Output {
         count,
-        told: Told::Refused(q),
+        refused: Some(q),
     }
 }
 
@@ -70,23 +64,13 @@ fn write_refusal(out: &mut [u8], q: RefusalRecord) -> Output
     }
 }
 
-// How many of so many bytes are judged.
-fn judged(len: usize) -> usize
-    ensures { result ≡ min judged_bytes len }
-{
-    if len > JUDGED_BYTES {
-        return JUDGED_BYTES;
-    }
-    len
-}
-
 // All that the finder's program writes. Where the result does not fit (20), neither is 001F written.
 pub fn find_bytes(input: &[u8], out: &mut [u8]) -> Output
     ensures { output_of result out.new ≡ find_printed input.now out.old }
 {
-    let n = judged(input.len());
+    let n = JUDGED_BYTES.min(input.len());
     let mut work = [0u8; WORK_BYTES];
-    match find(OPERATOR, &input[0..n], &mut work, out) {
+    match find(OPERATOR, &input[..n], &mut work, out) {
         Ok(k) => wrote(k),
         Err(q) => {
             let record = RefusalRecord::from(q);
@@ -102,8 +86,8 @@ pub fn find_bytes(input: &[u8], out: &mut [u8]) -> Output
 pub fn verify_bytes(input: &[u8], out: &mut [u8]) -> Output
     ensures { output_of result out.new ≡ verify_printed input.now out.old }
 {
-    let n = judged(input.len());
-    match verify(OPERATOR, &input[0..n], out) {
+    let n = JUDGED_BYTES.min(input.len());
+    match verify(OPERATOR, &input[..n], out) {
         Ok(k) => wrote(k),
         Err(q) => write_refusal(out, RefusalRecord::from(q)),
     }

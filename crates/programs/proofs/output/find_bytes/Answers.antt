@@ -18,7 +18,7 @@ use Rattle.programs.proofs.output.find_bytes.Goals as goal
 pub returns-then-record-eq-TOO_LONG : goal.returns-then-record-eq-TOO_LONG
 returns-then-record-eq-TOO_LONG c = let a = c.args in
     let r = c.find in
-    let j = c.judged-n in
+    let j = c.min-n in
     let o = r.new.out in
     let here = ap {B = Outcome} (λ (x : Result ℕ Code.Refusal). record { answer = reply_of x; work = r.new.work; out = o }) (sym c.in-Err.is) in
     let told = ap {B = Outcome} (λ (z : Refusal). record { answer = refuses z; work = r.new.work; out = o }) c.from-record.ensures in
@@ -28,7 +28,7 @@ returns-then-record-eq-TOO_LONG c = let a = c.args in
 pub returns-in-Ok : goal.returns-in-Ok
 returns-in-Ok c = let a = c.args in
     let r = c.find in
-    let j = c.judged-n in
+    let j = c.min-n in
     let o = r.new.out in
     let here = ap {B = Outcome} (λ (x : Result ℕ Code.Refusal). record { answer = reply_of x; work = r.new.work; out = o }) (sym c.in-Ok.is) in
     let call = here ∙ r.ensures ∙ ap (λ (s : List ℕ). find_call s (zeros work_bytes) a.out.now) (first_bytes judged_bytes j.result a.input.now j.ensures) in
@@ -37,7 +37,7 @@ returns-in-Ok c = let a = c.args in
 pub returns-else-record-eq-TOO_LONG : goal.returns-else-record-eq-TOO_LONG
 returns-else-record-eq-TOO_LONG c = let a = c.args in
     let r = c.find in
-    let j = c.judged-n in
+    let j = c.min-n in
     let o = r.new.out in
     let here = ap {B = Outcome} (λ (x : Result ℕ Code.Refusal). record { answer = reply_of x; work = r.new.work; out = o }) (sym c.in-Err.is) in
     let told = ap {B = Outcome} (λ (z : Refusal). record { answer = refuses z; work = r.new.work; out = o }) c.from-record.ensures in

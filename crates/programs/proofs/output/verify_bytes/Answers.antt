@@ -16,7 +16,7 @@ use Rattle.programs.proofs.output.verify_bytes.Goals as goal
 pub returns-in-Ok : goal.returns-in-Ok
 returns-in-Ok c = let a = c.args in
     let r = c.verify in
-    let j = c.judged-n in
+    let j = c.min-n in
     let o = r.new.out in
     let here = ap {B = Outcome} (λ (x : Result ℕ Code.Refusal). record { answer = reply_of x; work = []; out = o }) (sym c.in-Ok.is) in
     let call = here ∙ r.ensures ∙ ap (λ (s : List ℕ). verify_call s a.out.now) (first_bytes judged_bytes j.result a.input.now j.ensures) in
@@ -25,7 +25,7 @@ returns-in-Ok c = let a = c.args in
 pub returns-in-Err : goal.returns-in-Err
 returns-in-Err c = let a = c.args in
     let r = c.verify in
-    let j = c.judged-n in
+    let j = c.min-n in
     let o = r.new.out in
     let here = ap {B = Outcome} (λ (x : Result ℕ Code.Refusal). record { answer = reply_of x; work = []; out = o }) (sym c.in-Err.is) in
     let told = ap {B = Outcome} (λ (z : Refusal). record { answer = refuses z; work = []; out = o }) c.from.ensures in
