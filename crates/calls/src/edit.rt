@@ -88,6 +88,7 @@ fn edit_listed(
     ensures { record { answer = reply_of result; work = []; out = out.new } ≡ put [] (flow_file_bytes (edited (job_of (job_held job.now)) (entry_of entry.now) (flow_held flow.now))) out.old }
 {
     let n = job.n;
+    // Fixed arrays: what C calls takes no heap.
     let mut graph = [0u64; TABLE_WORDS];
     load_graph(job.edges, &mut graph);
     let size = row_width(n) * n;

@@ -59,6 +59,7 @@ fn find_loaded(job: &Job<'_>, work: &mut [u8], out: &mut [u8]) -> Result<usize, 
     requires measured_value { (not (eqb (mode_number job.now.mode) mode_planes) || planes_given (job_loaded job.now)) ≡ true }
     ensures { record { answer = reply_of result; work = work.new; out = out.new } ≡ put (zeros work_bytes) (flow_bytes (job_loaded job.now) (progress_by_mode (mode_number job.now.mode) (job_loaded job.now))) out.old }
 {
+    // Fixed arrays: what C calls takes no heap.
     let mut layers = [0u16; CAPACITY];
     let mut sets = [0u64; TABLE_WORDS];
     // No job is refused here: the questions before the search see to the arguments.
@@ -83,6 +84,7 @@ fn find_job(job: &JobFile<'_>, work: &mut [u8], out: &mut [u8]) -> Result<usize,
     requires { IsValidJob (job_held job.now) × (length work.old ≡ work_bytes) }
     ensures { record { answer = reply_of result; work = work.new; out = out.new } ≡ put (zeros work_bytes) (found_bytes (job_held job.now)) out.old }
 {
+    // Fixed arrays: what C calls takes no heap.
     let mut graph = [0u64; TABLE_WORDS];
     let mut measured = [0u8; CAPACITY];
     load_graph(job.edges, &mut graph);

@@ -22,6 +22,8 @@ use records::entries::Entries;
 use records::flow_file::FlowFile;
 use records::job_file::JobFile;
 
+// Tables of sets stay words: `set_at` and `find` take them so, and answer for any length (docs/DECISIONS.md).
+
 // The nodes of more join set u, where the table has it.
 fn add_set(table: &mut [u64], u: usize, more: NodeSet<SET_WORDS>)
     ensures { (v w : ℕ) → set_at table.new v w ≡ set_at table.old v w || ((eqb v u && member more w) && has_set table.old u) }

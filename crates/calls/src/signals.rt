@@ -95,7 +95,7 @@ fn add_members(list: &mut [u8], n: usize, i: usize, members: &[u8])
     }
 }
 
-// The nodes with an odd number of neighbours in the list.
+// The nodes with an odd number of neighbours in the list. The graph is a table of words here and below, as `set_at` takes it.
 fn odd_of_members(graph: &[u64], members: &[u8]) -> NodeSet<SET_WORDS>
     ensures { member result ≡ (λ v. odd_among (λ k. set_at graph.now k v) members.now) }
 {
@@ -150,6 +150,7 @@ pub(crate) fn lists_match(flow: &FlowFile<'_>, job: &Job<'_>) -> bool
     };
     let n = job.n;
     let size = row_width(n) * n;
+    // Fixed arrays: what C calls takes no heap.
     let mut rows = [0u8; MOST_LIST];
     let mut odds = [0u8; MOST_LIST];
     add_entries(
@@ -169,6 +170,7 @@ fn add_read(job: &JobFile<'_>, flow: &FlowFile<'_>, out: &mut [u8]) -> Result<us
     ensures { record { answer = reply_of result; work = []; out = out.new } ≡ put [] (flow_file_bytes (with_signals (job_of (job_held job.now)) (flow_held flow.now))) out.old }
 {
     let n = job.n;
+    // Fixed arrays: what C calls takes no heap.
     let mut graph = [0u64; TABLE_WORDS];
     load_graph(job.edges, &mut graph);
     let size = row_width(n) * n;

@@ -49,6 +49,7 @@ fn verify_held(job: &JobFile<'_>, flow: &FlowFile<'_>) -> Result<(), Refusal>
     requires { IsRead job.now flow.now }
     ensures { verdict (asked_of result) ≡ judge (job_held job.now) (flow_held flow.now) }
 {
+    // Fixed arrays: what C calls takes no heap.
     let mut graph = [0u64; TABLE_WORDS];
     let mut measured = [0u8; CAPACITY];
     load_graph(job.edges, &mut graph);

@@ -24,6 +24,7 @@ fn write_asked(job: &JobLists<'_>, out: &mut [u8]) -> Result<usize, Refusal>
     ensures { record { answer = reply_of result; work = []; out = out.new } ≡ write_job_call owner (given_held job.now) out.old }
 {
     let nodes = NodeSet::below(job.n);
+    // Fixed arrays: what C calls takes no heap.
     let mut graph = [0u64; TABLE_WORDS];
     load_graph(job.edges, &mut graph);
     if edges_len(&graph, nodes) != job.edges.len() {
