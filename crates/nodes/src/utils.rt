@@ -34,7 +34,8 @@ pub fn mask(v: usize) -> u64
 /// A set of nodes, of one to four words.
 #[derive(Clone, Copy, Debug, PartialEq, Eq)]
 pub struct NodeSet<const WORDS: usize> {
-    words: [u64; WORDS],
+    // Public, so that a set can be a constant: no function is called in a constant's value.
+    pub words: [u64; WORDS],
 }
 
 impl<const WORDS: usize> Model for NodeSet<WORDS> {
@@ -80,7 +81,8 @@ impl NodeSet<SET_WORDS> {
 
     /// The set with these words, that of the lowest nodes first.
     pub fn from_words(low_first: [u64; SET_WORDS]) -> Self
-        ensures { member result ≡ member_of low_first }
+        ensures nodes { member result ≡ member_of low_first }
+        ensures words { words_of result ≡ low_first }
     {
         NodeSet { words: low_first }
     }

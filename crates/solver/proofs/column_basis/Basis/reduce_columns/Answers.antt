@@ -1,17 +1,15 @@
-use Rattle.std.proofs.Common.{◌≡◌, ℕ, Bool, not, ◌&&◌, ◌||◌, List, refl, sym, ap, ap₂, ◌∙◌, subst, arith, rules, eqb}
-use mathlib.Core.Bool.{false}
+use Rattle.std.proofs.Common.{◌≡◌, ℕ, Bool, not, ◌&&◌, ◌||◌, List, refl, sym, ap, ap₂, ◌∙◌, subst, rules, eqb}
 use mathlib.Core.Logic.{◌⊎◌, inl, inr}
 use mathlib.Core.Path.{fun_ext}
-use lib.Dec.{T, eqb→eq}
+use lib.Dec.{T}
 use Rattle.nodes.specs.Lists.{has}
 use Rattle.nodes.specs.Row.{lowest, members}
 use Rattle.nodes.specs.NodeSet.{capacity, member, left_of}
 use Rattle.nodes.specs.SetTable.{set_at}
-use Rattle.nodes.proofs.Logic.{and_l, and_r, not_out, or_out, or_false, from_false, eqb_yes}
+use Rattle.nodes.proofs.Logic.{and_l, and_r, not_out, or_out, or_false, from_false}
 use Rattle.nodes.proofs.Members.{lowest_member}
 use Rattle.nodes.proofs.Remove.{removed}
 use Rattle.nodes.proofs.Left.{listed, all_members, none_listed, taken}
-use Rattle.solver.specs.Basis.{Form}
 use Rattle.solver.specs.BasisCalls.{form_with}
 use Rattle.solver.proofs.BasisTables.{with_in}
 use Rattle.solver.proofs.BasisForms.{IsLeft, unbound, unbound_start, unbound_next, unbound_end, left_start, left_step, left_done, left_units}
@@ -50,6 +48,7 @@ loop-c-init c =
     record {
       can = tt;
       ends = tt;
+      same = (refl, refl, refl);
       sized = c.requires.sized;
       across = λ i v. c.requires.across i v ∙ sym (ap (λ (s : ℕ → Bool). s v && set_at b.reduced.now v i) c.requires.pivots);
       done = λ k t l. from_false (bound k) (ap (λ (s : ℕ → Bool). s k) c.empty-bound.ensures) t;
@@ -87,6 +86,7 @@ loop-c-preserved-then-reduce_column c =
     record {
       can = tt;
       ends = tt;
+      same = (c.reduce_column.ensures.same_tables.0 ∙ c.loop-c.invariant.same.0, c.reduce_column.ensures.same_tables.1 ∙ c.loop-c.invariant.same.1, c.reduce_column.ensures.same_tables.2 ∙ c.loop-c.invariant.same.2);
       sized = c.reduce_column.ensures.sized;
       across = c.reduce_column.ensures.across;
       done = λ k x y. bound_done bound left next c.in-Some.c l.invariant.done t.least t.rest k (subst (λ (s : ℕ → Bool). T (s k)) more x) y;
@@ -111,6 +111,7 @@ loop-c-preserved c =
     record {
       can = tt;
       ends = tt;
+      same = (c.reduce_column.ensures.same_tables.0 ∙ c.loop-c.invariant.same.0, c.reduce_column.ensures.same_tables.1 ∙ c.loop-c.invariant.same.1, c.reduce_column.ensures.same_tables.2 ∙ c.loop-c.invariant.same.2);
       sized = c.reduce_column.ensures.sized;
       across = c.reduce_column.ensures.across;
       done = λ k x y. l.invariant.done k x (and_l (left k) (not (eqb k (lowest capacity left))) (subst (λ (s : ℕ → Bool). T (s k)) t.rest y));

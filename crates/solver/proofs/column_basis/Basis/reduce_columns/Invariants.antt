@@ -1,4 +1,4 @@
-use Rattle.std.proofs.Common.{ℕ, Bool}
+use Rattle.std.proofs.Common.{◌≡◌, ℕ, Bool}
 use lib.Dec.{T}
 use Rattle.nodes.specs.Row.{members}
 use Rattle.nodes.specs.NodeSet.{capacity, member, left_of}
@@ -13,6 +13,7 @@ invariant-loop-c l =
     let left : ℕ → Bool = listed (members capacity (left_of l.c-iterator.set l.c-iterator.at l.c-iterator.left)) in record {
       can : goal.iterator-loop-c.can_next l.c-iterator;
       ends : goal.iterator-loop-c.is_finite l.c-iterator;
+      same : (l.self.kernel.ghost_name ≡ l.fn.self.kernel.ghost_name) × (l.self.reduced.ghost_name ≡ l.fn.self.reduced.ghost_name) × (l.self.preimage.ghost_name ≡ l.fn.self.preimage.ghost_name);
       sized : IsSized l.self.kernel.now l.self.reduced.now l.self.preimage.now l.across;
       across : IsAcross (member l.self.pivots) l.self.reduced.now l.across;
       done : (k : ℕ) → T (member l.bound k) → T (left k) → ⊥;
