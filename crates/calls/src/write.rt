@@ -3,7 +3,7 @@ ghost use Rattle.std.specs.Prelude.{◌≡◌, true, []};
 ghost use Rattle.std.proofs.Math.Option.{none, some};
 ghost use Rattle.answers.specs.Answer.{gives};
 ghost use Rattle.records.specs.JobLists.{given, lists_ask};
-ghost use Rattle.records.specs.Views.{given_held};
+ghost use Rattle.records.specs.Views.{given_held, option_of};
 ghost use Rattle.demands.specs.Calls.{owner, write_job_call};
 ghost use Rattle.demands.specs.Roles.{writing, called};
 ghost use Rattle.calls.specs.Replies.{reply_of};
@@ -61,18 +61,18 @@ fn write_lists(job: &JobLists<'_>, out: &mut [u8]) -> Result<usize, Refusal>
     write_asked(job, out)
 }
 
-// Without angles it is open to every role.
-pub fn write_job<'a>(
-    role: u64,
+// The lists as they are handed over. They share a lifetime here, and in no public signature, so that the two calls can be handed on as closures.
+fn write_given<'a>(
     n: usize,
     mode: usize,
     edges: &'a [u8],
     inputs: &'a [u8],
     outputs: &'a [u8],
     measurements: &'a [u8],
+    angles: Option<&'a [u8]>,
     out: &mut [u8],
 ) -> Result<usize, Refusal>
-    ensures { record { answer = reply_of result; work = []; out = out.new } ≡ called role (writing out.old) (given n mode edges.now inputs.now outputs.now measurements.now none) }
+    ensures { record { answer = reply_of result; work = []; out = out.new } ≡ write_job_call owner (given n mode edges.now inputs.now outputs.now measurements.now (option_of angles.entry)) out.old }
 {
     let job = JobLists {
         n,
@@ -81,21 +81,37 @@ pub fn write_job<'a>(
         inputs,
         outputs,
         measurements,
-        angles: None,
+        angles,
     };
     write_lists(&job, out)
 }
 
-// With an angle for each node, 8 bytes each; in mode 2 only. Is it the owner who writes them (24)?
-pub fn write_job_angles<'a>(
+// Without angles it is open to every role.
+pub fn write_job(
     role: u64,
     n: usize,
     mode: usize,
-    edges: &'a [u8],
-    inputs: &'a [u8],
-    outputs: &'a [u8],
-    measurements: &'a [u8],
-    angles: &'a [u8],
+    edges: &[u8],
+    inputs: &[u8],
+    outputs: &[u8],
+    measurements: &[u8],
+    out: &mut [u8],
+) -> Result<usize, Refusal>
+    ensures { record { answer = reply_of result; work = []; out = out.new } ≡ called role (writing out.old) (given n mode edges.now inputs.now outputs.now measurements.now none) }
+{
+    write_given(n, mode, edges, inputs, outputs, measurements, None, out)
+}
+
+// With an angle for each node, 8 bytes each; in mode 2 only. Is it the owner who writes them (24)?
+pub fn write_job_angles(
+    role: u64,
+    n: usize,
+    mode: usize,
+    edges: &[u8],
+    inputs: &[u8],
+    outputs: &[u8],
+    measurements: &[u8],
+    angles: &[u8],
     out: &mut [u8],
 ) -> Result<usize, Refusal>
     ensures { record { answer = reply_of result; work = []; out = out.new } ≡ called role (writing out.old) (given n mode edges.now inputs.now outputs.now measurements.now (some angles.now)) }
@@ -103,14 +119,14 @@ pub fn write_job_angles<'a>(
     if role != OWNER {
         return Err(Refusal::NotTheOwner);
     }
-    let job = JobLists {
+    write_given(
         n,
         mode,
         edges,
         inputs,
         outputs,
         measurements,
-        angles: Some(angles),
-    };
-    write_lists(&job, out)
+        Some(angles),
+        out,
+    )
 }

@@ -82,14 +82,14 @@ pub fn bolz_edit_set(role: u64, file: &[u8], entry: &[u8], out: &mut [u8]) -> u6
 }
 
 // The job writer: the count of bytes written, or the refusal.
-pub fn bolz_write_job<'a>(
+pub fn bolz_write_job(
     role: u64,
     n: usize,
     mode: usize,
-    edges: &'a [u8],
-    inputs: &'a [u8],
-    outputs: &'a [u8],
-    measurements: &'a [u8],
+    edges: &[u8],
+    inputs: &[u8],
+    outputs: &[u8],
+    measurements: &[u8],
     out: &mut [u8],
 ) -> u64
     ensures { record { code = result; work = []; out = out.new }
@@ -99,15 +99,15 @@ pub fn bolz_write_job<'a>(
 }
 
 // The job writer with angles: the count of bytes written, or the refusal.
-pub fn bolz_write_job_angles<'a>(
+pub fn bolz_write_job_angles(
     role: u64,
     n: usize,
     mode: usize,
-    edges: &'a [u8],
-    inputs: &'a [u8],
-    outputs: &'a [u8],
-    measurements: &'a [u8],
-    angles: &'a [u8],
+    edges: &[u8],
+    inputs: &[u8],
+    outputs: &[u8],
+    measurements: &[u8],
+    angles: &[u8],
     out: &mut [u8],
 ) -> u64
     ensures { record { code = result; work = []; out = out.new }

@@ -9,4 +9,4 @@ use Rattle.calls.proofs.write.write_job.Goals as goal
 pub returns : goal.returns
 returns c =
     let a = c.args in
-    c.write_lists.ensures ∙ open_to_both (writing a.out.now) (given a.n a.mode a.edges.now a.inputs.now a.outputs.now a.measurements.now none) refl owner a.role
+    c.write_given.ensures ∙ open_to_both (writing a.out.now) (given a.n a.mode a.edges.now a.inputs.now a.outputs.now a.measurements.now none) refl owner a.role
