@@ -10,6 +10,7 @@ pub mod Layers
 pub mod NodeLists
 pub mod PairKeys
 pub mod PairLists
+pub mod Places
 pub mod ReadingEntries
 pub mod ReadingLoops
 pub mod ReadingMeasurements

@@ -4,6 +4,7 @@ pub mod FlowFile
 pub mod Format
 pub mod JobFile
 pub mod JobLists
+pub mod Places
 pub mod Records
 pub mod SignalLists
 pub mod Splice

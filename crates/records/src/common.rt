@@ -1,7 +1,8 @@
-// The records of job and flow files: their kinds, sizes and modes; bytes and nodes of a payload.
+// The records of job and flow files: their kinds, sizes and modes; bytes and nodes of a payload, and bytes at a place.
 ghost use Rattle.std.specs.Prelude.{◌≡◌, ◌&&◌, ◌<◌, leb, get_or};
 ghost use Rattle.nodes.specs.NodeSet.{member, highest};
 ghost use Rattle.nodes.specs.Lists.{has};
+ghost use Rattle.records.specs.Places.{bytes_at};
 
 use flows::mode::Mode;
 use nodes::utils::{CAPACITY, NodeSet, SET_WORDS};
@@ -54,6 +55,13 @@ pub(crate) const MODE_CAUSAL: u8 = Mode::Causal as u8;
 
 pub(crate) const MODE_PAULI: u8 = Mode::Pauli as u8;
 
+/// Where bytes lie in a file.
+#[derive(Clone, Copy, Debug, PartialEq, Eq)]
+pub struct Place {
+    pub start: usize,
+    pub end: usize,
+}
+
 // A byte as a number.
 pub fn number(x: u8) -> usize
     ensures { (result ≡ x) × (result < 256) }
@@ -66,6 +74,16 @@ pub fn byte_at(bytes: &[u8], i: usize) -> u8
     ensures { result ≡ get_or bytes.now i 0 }
 {
     bytes.get(i).copied().unwrap_or(0)
+}
+
+/// The bytes of the file at a place; of a place past its end there are none.
+#[tactic(auto, using(crate::proofs::Places::clipped))]
+pub fn payload(file: &[u8], place: Place) -> &[u8]
+    ensures { result.now ≡ bytes_at place file.now }
+{
+    let end = place.end.min(file.len());
+    let start = place.start.min(end);
+    &file[start..end]
 }
 
 // The nodes of a payload as a set; a set has no room for those past its highest.

@@ -6,6 +6,7 @@ ghost use Rattle.records.specs.FlowFile.{layer_width, sets_asks, read_flow, sign
 ghost use Rattle.records.specs.Encoding.{IsBytes};
 ghost use Rattle.answers.specs.Refusals.{given};
 ghost use Rattle.records.specs.Views.{flow_held, signals_of, lists_written, IsLaidOut};
+ghost use Rattle.records.specs.Places.{IsFlowPlaced};
 
 use crate::common::{
     KIND_LAYERS, KIND_ODD_SIGNALS, KIND_SET_SIGNALS, KIND_SETS, KIND_WIDE_LAYERS, WIDE_LAYER_BYTES,
@@ -63,13 +64,14 @@ fn pair_at(bytes: &[u8], i: usize) -> u16
 }
 
 impl<'a> FlowFile<'a> {
-    // The flow for n nodes at the front of the bytes.
+    // The flow for n nodes at the front of the bytes; each payload lies where the heads of the records say.
     #[tactic(auto, using(crate::proofs::Layers::layers_asked), unfolding(crate::specs::FlowFile::read_flow, crate::specs::Format::decode_then))]
     pub fn read(file: &'a [u8], n: usize) -> Result<FlowFile<'a>, Refusal>
         ensures value { given flow_held result ≡ read_flow n file.now }
         ensures payloads { IfOk result (λ f. (all_yes (each_asks (layer_width f.wide) n f.layers.now) ≡ true) × (all_yes (sets_asks n f.sets.now) ≡ true)) }
         ensures bytes { IfOk result (λ f. IsBytes f.layers.now) }
         ensures laid_out { IfOk result (λ f. IsLaidOut file.now f) }
+        ensures placed { IfOk result (λ f. IsFlowPlaced file.now 0 f) }
     {
         let narrow = Layers { wide: false, n };
         let broad = Layers { wide: true, n };
@@ -114,6 +116,7 @@ pub fn read_flow(file: &[u8], at: usize, n: usize) -> Result<FlowFile<'_>, Refus
     ensures payloads { IfOk result (λ f. (all_yes (each_asks (layer_width f.wide) n f.layers.now) ≡ true) × (all_yes (sets_asks n f.sets.now) ≡ true)) }
     ensures bytes { IfOk result (λ f. IsBytes f.layers.now) }
     ensures laid_out { IfOk result (λ f. IsLaidOut (drop at file.now) f) }
+    ensures placed { IfOk result (λ f. IsFlowPlaced file.now at f) }
 {
     if at > file.len() {
         return FlowFile::read(&file[..0], n);

@@ -4,6 +4,7 @@ ghost use Rattle.records.specs.JobFile.{read_job};
 ghost use Rattle.records.specs.Encoding.{job_bytes};
 ghost use Rattle.answers.specs.Refusals.{given};
 ghost use Rattle.records.specs.Views.{job_held};
+ghost use Rattle.records.specs.Places.{IsJobPlaced};
 
 use crate::common::{
     KIND_ANGLES, KIND_EDGES, KIND_INPUTS, KIND_MEASUREMENTS, KIND_OPENING, KIND_OUTPUTS, byte_at,
@@ -65,10 +66,12 @@ fn read_records(file: &[u8]) -> Result<JobFile<'_>, Refusal>
     })
 }
 
-/// The job at the front of the bytes: questions 1 to 7 and 23. Its records, one behind the other, and `after` are the bytes again.
+/// The job at the front of the bytes: questions 1 to 7 and 23. Its records, one behind the other, and `after` are the bytes again. Each payload
+/// lies where the heads of the records say.
 pub fn read_job(file: &[u8]) -> Result<JobFile<'_>, Refusal>
     ensures value { given job_held result ≡ read_job file.now }
     ensures laid_out { IfOk result (λ f. file.now ≡ job_bytes (job_held f) ++ f.after.now) }
+    ensures placed { IfOk result (λ f. IsJobPlaced file.now f) }
 {
     read_records(file)
 }
