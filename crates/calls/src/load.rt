@@ -18,6 +18,7 @@ use nodes::utils::{
     NodeSet, SET_WORDS, WORD_BITS, clear_table, mask, odd_neighbors, put_set, set_at,
 };
 use records::common::{byte_at, set_of};
+use records::encode::{Plain, write};
 use records::entries::Entries;
 use records::flow_file::FlowFile;
 use records::job_file::JobFile;
@@ -77,7 +78,8 @@ pub(crate) fn load_bytes(bytes: &[u8], to: &mut [u8])
     requires { (length bytes.now ≤ length to.old) × (to.old ≡ zeros (length to.old)) }
     ensures { (u : ℕ) → get_or to.new u 0 ≡ get_or bytes.now u 0 }
 {
-    to[..bytes.len()].copy_from_slice(bytes);
+    // The writer's copy, which is no call of memmove; that the bytes fit is known.
+    let _fits = write(&Plain { bytes }, to);
 }
 
 // The layers, whichever kind holds them.

@@ -1,5 +1,5 @@
 // What is written, as values that know their bytes: one function writes them all.
-ghost use Rattle.std.specs.Prelude.{◌≡◌, ◌≤◌, ◌++◌, ℕ, List, length};
+ghost use Rattle.std.specs.Prelude.{◌≡◌, ◌≤◌, ◌++◌, ℕ, List, drop, length};
 ghost use Rattle.records.specs.Records.{head_of, written, in_two_bytes};
 ghost use Rattle.records.specs.Splice.{left_of, Puts, option_bytes, put_front, put_answer};
 ghost use Rattle.answers.specs.Refusals.{given};
@@ -21,6 +21,17 @@ pub trait Encode {
         ensures { Puts (bytes self.now) out.old out.new result };
 }
 
+// The bytes at the front of a buffer that has room. One by one, where `copy_from_slice` would do: that is a call of memmove, which the library
+// for C would then want of the firmware that it is linked into.
+fn put_bytes(out: &mut [u8], bytes: &[u8])
+    requires { length bytes.now ≤ length out.old }
+    ensures { out.new ≡ bytes.now ++ drop (length bytes.now) out.old }
+{
+    for i in 0..bytes.len() {
+        out[i] = bytes[i];
+    }
+}
+
 // Bytes as they stand.
 #[derive(Clone, Copy, Debug, PartialEq, Eq)]
 pub struct Plain<'a> {
@@ -35,9 +46,8 @@ impl Encode for Plain<'_> {
     }
 
     fn put(&self, out: &mut [u8]) -> usize {
-        let len = self.bytes.len();
-        out[..len].copy_from_slice(self.bytes);
-        len
+        put_bytes(out, self.bytes);
+        self.bytes.len()
     }
 }
 

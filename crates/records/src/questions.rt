@@ -296,20 +296,29 @@ impl Questions for Measurements<'_> {
     }
 }
 
-// The entry of an output is asked for otherwise than that of a measured node.
+// Is there an angle for each of n nodes (3), and is each allowed (23)? The angle of an output is asked for otherwise than that of a measured node.
 #[tactic(auto, unfolding(crate::specs::JobFile::angles_asks, crate::specs::Records::each_asks))]
+pub(crate) fn ask_angles(
+    n: usize,
+    outputs: NodeSet<SET_WORDS>,
+    angles: &[u8],
+) -> Result<(), Refusal>
+    ensures { passed result ≡ angles_asks n (member outputs) angles.now }
+{
+    if !length_is(angles.len(), ANGLE_BYTES, n) {
+        return Err(Refusal::WrongLength);
+    }
+    if !angles_allowed(n, outputs, angles) {
+        return Err(Refusal::WrongAngle);
+    }
+    Ok(())
+}
+
 impl Questions for Angles<'_> {
     ghost asks = { λ a. angles_asks a.outputs.n (has a.outputs.nodes.now) };
 
     fn ask(&self, payload: &[u8]) -> Result<(), Refusal> {
-        let n = self.outputs.n;
-        if !length_is(payload.len(), ANGLE_BYTES, n) {
-            return Err(Refusal::WrongLength);
-        }
-        if !angles_allowed(n, self.outputs.set(), payload) {
-            return Err(Refusal::WrongAngle);
-        }
-        Ok(())
+        ask_angles(self.outputs.n, self.outputs.set(), payload)
     }
 }
 

@@ -68,14 +68,17 @@ fn put_entry(out: &mut [u8], at: usize, u: usize, s: NodeSet<SET_WORDS>) -> usiz
     put_members(out, at + ENTRY_HEAD_BYTES, s)
 }
 
-fn put_entries(out: &mut [u8], at: usize, sets: &[u64], nodes: NodeSet<SET_WORDS>)
+// The place behind them.
+fn put_entries(out: &mut [u8], at: usize, sets: &[u64], nodes: NodeSet<SET_WORDS>) -> usize
     requires { at + length (set_bytes capacity (set_at sets.now) (members capacity (member nodes))) ≤ length out.old }
-    ensures { out.new ≡ splice at (set_bytes capacity (set_at sets.now) (members capacity (member nodes))) out.old }
+    ensures out_after { out.new ≡ splice at (set_bytes capacity (set_at sets.now) (members capacity (member nodes))) out.old }
+    ensures value { result ≡ at + length (set_bytes capacity (set_at sets.now) (members capacity (member nodes))) }
 {
     let mut p = at;
     for u in nodes.iter() {
         p = put_entry(out, p, u, set_at(sets, u));
     }
+    p
 }
 
 // The bytes that the entries take.
@@ -106,9 +109,11 @@ fn put_pairs(out: &mut [u8], at: usize, a: usize, s: NodeSet<SET_WORDS>) -> usiz
     p
 }
 
-fn put_edges(out: &mut [u8], at: usize, graph: &[u64], nodes: NodeSet<SET_WORDS>)
+// The place behind them.
+fn put_edges(out: &mut [u8], at: usize, graph: &[u64], nodes: NodeSet<SET_WORDS>) -> usize
     requires { at + length (pairs_among (set_at graph.now) (members capacity (member nodes))) ≤ length out.old }
-    ensures { out.new ≡ splice at (pairs_among (set_at graph.now) (members capacity (member nodes))) out.old }
+    ensures out_after { out.new ≡ splice at (pairs_among (set_at graph.now) (members capacity (member nodes))) out.old }
+    ensures value { result ≡ at + length (pairs_among (set_at graph.now) (members capacity (member nodes))) }
 {
     let mut left = nodes;
     let mut p = at;
@@ -116,6 +121,7 @@ fn put_edges(out: &mut [u8], at: usize, graph: &[u64], nodes: NodeSet<SET_WORDS>
         left = left.without(a);
         p = put_pairs(out, p, a, set_at(graph, a).intersection(left));
     }
+    p
 }
 
 // The bytes that the edges among these nodes take.
@@ -190,8 +196,7 @@ impl Encode for SetEntries<'_> {
 
     #[tactic(auto, using(crate::proofs::Splice::splice_front))]
     fn put(&self, out: &mut [u8]) -> usize {
-        put_entries(out, 0, self.sets, self.nodes);
-        entries_len(self.sets, self.nodes)
+        put_entries(out, 0, self.sets, self.nodes)
     }
 }
 
@@ -211,8 +216,7 @@ impl Encode for EdgePairs<'_> {
 
     #[tactic(auto, using(crate::proofs::Splice::splice_front))]
     fn put(&self, out: &mut [u8]) -> usize {
-        put_edges(out, 0, self.graph, self.nodes);
-        edges_len(self.graph, self.nodes)
+        put_edges(out, 0, self.graph, self.nodes)
     }
 }
 

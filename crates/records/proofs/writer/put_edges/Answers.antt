@@ -69,7 +69,10 @@ loop-a-preserved c =
           l.p put.result l.out put.new.out put.ensures.value (omega (arith, l.invariant.size, l.invariant.place)) put.ensures.out_after ∙ l.invariant.bytes;
     }
 
-pub returns : goal.returns
-returns c =
+pub returns-clause-value : goal.returns-clause-value
+returns-clause-value c = omega (arith, ap length (edges_none (set_at c.args.graph.now) _ c.in-None.ensures.steps.0), c.loop-a.invariant.place)
+
+pub returns-clause-out_after : goal.returns-clause-out_after
+returns-clause-out_after c =
     let l = c.loop-a in
     sym (splice_none l.p l.out) ∙ ap (λ (b : List ℕ). splice l.p b l.out) (sym (edges_none (set_at c.args.graph.now) _ c.in-None.ensures.steps.0)) ∙ l.invariant.bytes

@@ -53,7 +53,10 @@ loop-u-preserved c =
           (put.ensures.out_after ∙ ap (λ (f : ℕ → Bool). splice l.p (c.in-Some.u ∷ count capacity f ∷ members capacity f) l.out) c.set_at.ensures) ∙ l.invariant.bytes;
     }
 
-pub returns : goal.returns
-returns c =
+pub returns-clause-value : goal.returns-clause-value
+returns-clause-value c = omega (arith, ap length (no_entries (set_at c.args.sets.now) _ c.in-None.ensures.steps.0), c.loop-u.invariant.place)
+
+pub returns-clause-out_after : goal.returns-clause-out_after
+returns-clause-out_after c =
     let l = c.loop-u in
     sym (splice_none l.p l.out) ∙ ap (λ (b : List ℕ). splice l.p b l.out) (sym (no_entries (set_at c.args.sets.now) _ c.in-None.ensures.steps.0)) ∙ l.invariant.bytes
