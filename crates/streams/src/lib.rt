@@ -3,7 +3,7 @@
 
 ghost use Rattle.std.specs.Prelude.{◌≤◌, length, IfOk, IfSome};
 
-use answers::RefusalRecord;
+use answers::{LINE_ROOM, RefusalRecord, message};
 use std::env::FillError;
 use std::io;
 use std::io::{Cursor, Read, Stderr, Stdin, Stdout, Write};
@@ -96,9 +96,11 @@ pub fn error_number(err: Stderr, x: usize) {
     let _ = err.print(x);
 }
 
-/// The line of a refusal on standard error.
+/// The line of a refusal on standard error: the bytes of `message`, in one piece.
 pub fn tell(err: Stderr, q: RefusalRecord) {
-    let _ = err.print(q);
+    let mut line = [0u8; LINE_ROOM];
+    let k = message(q, &mut line);
+    write_error(err, &line[..k]);
 }
 
 /// A program takes no arguments: with any it writes the text, which says what it reads and writes, and ends. `first` is what std's `arg` answers
