@@ -11,4 +11,4 @@ invariant-loop-i l =
     (goal.iterator-loop-i).can_next it
     × (goal.iterator-loop-i).is_finite it
     × (chunks_exact_size (enumerate_source it) ≡ 2)
-    × Leads l.text.bytes (shown_edges (enumerate_count it) (chunks_exact_rest (enumerate_source it))) l.initial.text.bytes (shown_edges 0 l.edges)
+    × Leads l.text.items (shown_edges (enumerate_count it) (chunks_exact_rest (enumerate_source it))) l.initial.text.items (shown_edges 0 l.edges)

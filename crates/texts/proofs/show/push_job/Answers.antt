@@ -47,48 +47,48 @@ module _ (text : List ℕ) (f : JobFile) where
           sixth : (measured : List ℕ) → Puts (shown_measurements f.measurements) outputs measured → Leads measured (codes "\n") text (shown_text f)
           sixth measured g = leads_on fifth (shown_measurements f.measurements) (codes "\n") measured refl g
 
-opened : (c : After-push_opening) → Puts (shown_opening (job_held c.args.job.now)) c.args.text.now.bytes c.push_opening.new.text.bytes
-opened c = rw (c.from-2.ensures, c.from.ensures) at c.push_opening.ensures
+opened : (c : After-push_opening) → Puts (shown_opening (job_held c.args.job.now)) c.args.text.now.items c.push_opening.new.text.items
+opened c = rw c.from.ensures at c.push_opening.ensures
 
 pub push_opening-requires : goal.push_opening-requires
-push_opening-requires c = let f = job_held c.args.job.now in rw (c.from-2.ensures, c.from.ensures) (room_here (first c.args.text.now.bytes f) (shown_opening f) (edges_on f) refl c.requires)
+push_opening-requires c = let f = job_held c.args.job.now in rw c.from.ensures (room_here (first c.args.text.now.items f) (shown_opening f) (edges_on f) refl c.requires.room)
 
 pub push_edges-requires : goal.push_edges-requires
 push_edges-requires c =
     let f = job_held c.args.job.now in
     let o = opened (goal.at.push_edges-requires c).After-push_opening in
-    room_here (second c.args.text.now.bytes f _ o) (shown_edges 0 f.edges) (inputs_on f) refl c.requires
+    room_here (second c.args.text.now.items f _ o) (shown_edges 0 f.edges) (inputs_on f) refl c.requires.room
 
 pub push_list-requires : goal.push_list-requires
 push_list-requires c =
     let f = job_held c.args.job.now in
     let o = opened (goal.at.push_list-requires c).After-push_opening in
-    room_here (third c.args.text.now.bytes f _ o _ c.push_edges.ensures) (named_list inputs_name f.inputs) (outputs_on f) refl c.requires
+    room_here (third c.args.text.now.items f _ o _ c.push_edges.ensures) (named_list inputs_name f.inputs) (outputs_on f) refl c.requires.room
 
 pub push_list-requires-2 : goal.push_list-requires-2
 push_list-requires-2 c =
     let f = job_held c.args.job.now in
     let o = opened (goal.at.push_list-requires-2 c).After-push_opening in
-    room_here (fourth c.args.text.now.bytes f _ o _ c.push_edges.ensures _ c.push_list.ensures) (named_list outputs_name f.outputs) (measurements_on f) refl c.requires
+    room_here (fourth c.args.text.now.items f _ o _ c.push_edges.ensures _ c.push_list.ensures) (named_list outputs_name f.outputs) (measurements_on f) refl c.requires.room
 
-pub push_measurements-requires : goal.push_measurements-requires
-push_measurements-requires c =
+pub push_measurements-requires-clause-room : goal.push_measurements-requires-clause-room
+push_measurements-requires-clause-room c =
     let f = job_held c.args.job.now in
-    let o = opened (goal.at.push_measurements-requires c).After-push_opening in
-    room_here (fifth c.args.text.now.bytes f _ o _ c.push_edges.ensures _ c.push_list.ensures _ c.push_list-2.ensures) (shown_measurements f.measurements) (codes "\n") refl c.requires
+    let o = opened (goal.at.push_measurements-requires-clause-room c).After-push_opening in
+    room_here (fifth c.args.text.now.items f _ o _ c.push_edges.ensures _ c.push_list.ensures _ c.push_list-2.ensures) (shown_measurements f.measurements) (codes "\n") refl c.requires.room
 
-pub push_str-requires : goal.push_str-requires
+pub push-requires : goal.push-requires
 unfolding codes
-push_str-requires c =
+push-requires c =
     let f = job_held c.args.job.now in
-    let o = opened (goal.at.push_str-requires c).After-push_opening in
-    let l = sixth c.args.text.now.bytes f _ o _ c.push_edges.ensures _ c.push_list.ensures _ c.push_list-2.ensures _ c.push_measurements.ensures in
-    (omega arith, room_here l (codes "\n") [] (sym (append-nil (codes "\n"))) c.requires)
+    let o = opened (goal.at.push-requires c).After-push_opening in
+    let l = sixth c.args.text.now.items f _ o _ c.push_edges.ensures _ c.push_list.ensures _ c.push_list-2.ensures _ c.push_measurements.ensures in
+    omega (arith, room_here l (codes "\n") [] (sym (append-nil (codes "\n"))) c.requires.room)
 
 pub returns : goal.returns
 unfolding codes
 returns c =
     let f = job_held c.args.job.now in
     let o = opened (goal.at.returns c).After-push_opening in
-    let l = sixth c.args.text.now.bytes f _ o _ c.push_edges.ensures _ c.push_list.ensures _ c.push_list-2.ensures _ c.push_measurements.ensures in
-    leads_done (leads_on l (codes "\n") [] _ (sym (append-nil (codes "\n"))) c.push_str.ensures.bytes) refl
+    let l = sixth c.args.text.now.items f _ o _ c.push_edges.ensures _ c.push_list.ensures _ c.push_list-2.ensures _ c.push_measurements.ensures in
+    leads_done (leads_on l (codes "\n") [] _ (sym (append-nil (codes "\n"))) c.push.ensures.items) refl

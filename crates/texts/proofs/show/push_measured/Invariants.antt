@@ -4,4 +4,4 @@ use Rattle.texts.proofs.Placed.{Leads}
 use Rattle.texts.proofs.show.push_measured.Given as goal
 
 abbrev pub invariant-loop-v : goal.invariant-loop-v
-invariant-loop-v l = Leads l.text.bytes (shown_measured l.m l.v (drop l.v l.measurements)) l.initial.text.bytes (shown_measured l.m 0 l.measurements)
+invariant-loop-v l = Leads l.text.items (shown_measured l.m l.v (drop l.v l.measurements)) l.initial.text.items (shown_measured l.m 0 l.measurements)

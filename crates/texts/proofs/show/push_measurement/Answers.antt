@@ -22,11 +22,11 @@ line c =
     let same : outputs_name + (p - outputs_name) ≡ p = omega (arith, high) in
     rw (le-ltb p first_measurement high, e, same) refl
 
-pub push_line-requires : goal.push_line-requires
+pub push_line-requires-clause-room : goal.push_line-requires-clause-room
 unfolding codes
-push_line-requires c =
-    let a = (goal.at.push_line-requires c).After-contains in
-    rw (line a, sym (among a) ∙ c.if-contains.true) at c.requires
+push_line-requires-clause-room c =
+    let a = (goal.at.push_line-requires-clause-room c).After-contains in
+    rw (line a, sym (among a) ∙ c.if-contains.true) at c.requires.room
 
 pub returns-then-contains : goal.returns-then-contains
 unfolding codes
@@ -37,7 +37,7 @@ returns-then-contains c =
 pub returns-else-contains : goal.returns-else-contains
 returns-else-contains c =
     let a = (goal.at.returns-else-contains c).After-contains in
-    rw (line a, sym (among a) ∙ c.if-contains.false) (sym (append-nil c.args.text.now.bytes))
+    rw (line a, sym (among a) ∙ c.if-contains.false) (sym (append-nil c.args.text.now.items))
 
 pub returns-in_default : goal.returns-in_default
-returns-in_default c = rw (lt-ltb (place_of c.args.name) first_measurement c.in_default.ensures) (sym (append-nil c.args.text.now.bytes))
+returns-in_default c = rw (lt-ltb (place_of c.args.name) first_measurement c.in_default.ensures) (sym (append-nil c.args.text.now.items))

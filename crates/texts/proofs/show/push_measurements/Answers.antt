@@ -7,13 +7,13 @@ use Rattle.texts.proofs.Showing.{lines_for, lines_all, lines_step, lines_end}
 use Rattle.texts.proofs.show.push_measurements.Goals as goal
 
 pub loop-name-init : goal.loop-name-init
-loop-name-init c = record { same = ap (λ t. c.args.text.now.bytes ++ t) (lines_all c.args.measurements.now) }
+loop-name-init c = record { same = ap (λ t. c.args.text.now.items ++ t) (lines_all c.args.measurements.now) }
 
-pub push_measurement-requires : goal.push_measurement-requires
-push_measurement-requires c =
+pub push_measurement-requires-clause-room : goal.push_measurement-requires-clause-room
+push_measurement-requires-clause-room c =
     let i = c.loop-name.name-index in
     let ms = c.args.measurements.now in
-    room_here c.loop-name.invariant (line_for (get_or all_names i Nodes) ms) (lines_for (drop (i + 1) all_names) ms) (lines_step all_names i Nodes ms c.loop-name-test.true) c.requires
+    room_here c.loop-name.invariant (line_for (get_or all_names i Nodes) ms) (lines_for (drop (i + 1) all_names) ms) (lines_step all_names i Nodes ms c.loop-name-test.true) c.requires.room
 
 pub loop-name-preserved : goal.loop-name-preserved
 loop-name-preserved c =

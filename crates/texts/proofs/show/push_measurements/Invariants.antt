@@ -6,4 +6,4 @@ use Rattle.texts.proofs.Showing.{lines_for}
 use Rattle.texts.proofs.show.push_measurements.Given as goal
 
 abbrev pub invariant-loop-name : goal.invariant-loop-name
-invariant-loop-name l = Leads l.text.bytes (lines_for (drop l.name-index all_names) l.measurements) l.initial.text.bytes (shown_measurements l.measurements)
+invariant-loop-name l = Leads l.text.items (lines_for (drop l.name-index all_names) l.measurements) l.initial.text.items (shown_measurements l.measurements)

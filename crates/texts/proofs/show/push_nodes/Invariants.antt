@@ -4,4 +4,4 @@ use Rattle.texts.proofs.Placed.{Leads}
 use Rattle.texts.proofs.show.push_nodes.Given as goal
 
 abbrev pub invariant-loop-v : goal.invariant-loop-v
-invariant-loop-v l = Leads l.text.bytes (shown_nodes (drop l.v-index l.nodes)) l.initial.text.bytes (shown_nodes l.nodes)
+invariant-loop-v l = Leads l.text.items (shown_nodes (drop l.v-index l.nodes)) l.initial.text.items (shown_nodes l.nodes)
